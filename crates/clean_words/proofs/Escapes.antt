@@ -3,7 +3,7 @@ use Rattle.std.proofs.Common.{◌≡◌, ℕ, ◌+◌, List, [], ◌∷◌, refl
 use Rattle.std.specs.Prelude.{ℤ, pos}
 use Rattle.std.proofs.lemmas.Int.{ints}
 use Rattle.rwsp_terms.specs.declared.data.Symbol.{Symbol}
-use Rattle.refutation_terms.specs.Leaf.{IsDead}
+use Rattle.refutation_terms.specs.WordsLeaf.{IsDead}
 use Rattle.refutation_terms.specs.Escape.{ComesFirst, IsLeastClean}
 use Rattle.domain_store.specs.Store.{Store, has_domain}
 use Rattle.clean_words.specs.Automata.{RuleAutomaton}

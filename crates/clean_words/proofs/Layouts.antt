@@ -1,6 +1,5 @@
 -- What the laid out rules of a list are.
-use Rattle.std.proofs.Common.{◌≡◌, ◌⊎◌, ℕ, zero, suc, ◌+◌, ◌*◌, ◌<◌, ◌≤◌, List, length, get_or, Option, Some, Bool, false, ◌&&◌, refl, ap, sym, ◌∙◌, subst, inl, inr, ⊎_elim, arith, ltb, replicate}
-use Rattle.std.proofs.Common.{◌≢◌, set, below_more, get_or-set_other, get_or-set_same}
+use Rattle.std.proofs.Common.{◌≡◌, ◌⊎◌, ℕ, zero, suc, ◌+◌, ◌*◌, ◌<◌, ◌≤◌, List, length, get_or, Option, Some, Bool, false, ◌&&◌, refl, ap, sym, ◌∙◌, subst, inl, inr, ⊎_elim, arith, ltb, replicate, ◌≢◌, set, below_more, get_or-set_other, get_or-set_same}
 use Rattle.std.proofs.lemmas.List.{get_or_past}
 use Rattle.clean_words.specs.declared.tables.TheConstants.{PAIRS, TRIPLES}
 use Rattle.clean_words.specs.declared.tables.Lengths.{Lengths}

@@ -1,22 +1,19 @@
 -- The tests of each kind of rule, by what the tail of a word and the tables give.
-use Rattle.std.proofs.Common.{◌≡◌, ℕ, zero, suc, ◌+◌, ◌<◌, ◌≤◌, List, [], ◌∷◌, ◌++◌, Option, Some, None, Bool, true, false, cond, refl, ap, sym, ◌∙◌, subst, arith, eqb, eqb-true, eq-eqb}
+use Rattle.std.proofs.Common.{◌≡◌, ℕ, zero, suc, ◌+◌, ◌<◌, ◌≤◌, List, [], ◌∷◌, ◌++◌, Option, Some, None, Bool, true, false, cond, refl, ap, sym, ◌∙◌, subst, arith, eqb, eqb-true, eq-eqb, ltb}
 use Rattle.std.specs.Prelude.{◌↔◌, IsTrue, MatchOption, slice_index_or}
 use Rattle.std.specs.List.{suffix_len, list_all}
 use Rattle.rwsp_terms.specs.declared.data.Symbol.{Symbol}
 use Rattle.rwsp_terms.specs.declared.data.Class.{Class}
 use Rattle.rwsp_terms.specs.declared.data.Class.TheVariants.{Work}
 use Rattle.rwsp_terms.specs.Instance.{Instance, bounds}
-use Rattle.clean_words.specs.Tails.{last_of, before_last_of, capped, run_of, work_of}
+use Rattle.clean_words.specs.Tails.{last_of, before_last_of, capped, run_of, work_of, tail_of, all_work_in}
 use Rattle.clean_words.specs.Ends.{max_rule, min_rule, class_numbered, Breaks, BreaksRunMax, BreaksWorkMax, BreaksRunMin, BreaksWorkMin, BreaksPair, BreaksTriple}
-use Rattle.clean_words.specs.TailTables.{IsGreatestLength, IsLeastLength, AreTables, no_lengths}
-use Rattle.std.proofs.Common.{ltb}
+use Rattle.clean_words.specs.TailTables.{IsGreatestLength, IsLeastLength, AreTables, no_lengths, pair_in, triple_in}
 use Rattle.std.proofs.lemmas.Bool.{lt-ltb}
 use Rattle.clean_words.specs.declared.tables.Lengths.{Lengths}
 use Rattle.clean_words.specs.declared.tables.RuleTables.{RuleTables}
 use Rattle.clean_words.proofs.TailLists.{suffix_len_longer}
 use Rattle.clean_words.specs.declared.tail.Tail.{Tail}
-use Rattle.clean_words.specs.Tails.{tail_of, all_work_in}
-use Rattle.clean_words.specs.TailTables.{pair_in, triple_in}
 use Rattle.clean_words.proofs.TailFacts.{last_is, run_last, all_last}
 use Rattle.clean_words.proofs.Parts.{in_class, last_split, max_ends, ends_max, min_ends, ends_min, pair_ends, ends_pair, triple_ends, ends_triple}
 

@@ -2,7 +2,7 @@
 ghost use Rattle.std.specs.Prelude.{◌≡◌, ◌<◌, ◌≤◌, length, slice_index_or, false, IfOk};
 ghost use Rattle.rwsp_terms.specs.Rules.{NamesShortOnly, NamesShortRules};
 ghost use Rattle.rwsp_terms.specs.declared.limits.TheConstants.{MOST_SYMBOLS};
-ghost use Rattle.refutation_terms.specs.Log.{AreRules};
+ghost use Rattle.refutation_terms.specs.Ranges.{AreRules};
 ghost use Rattle.clean_words.specs.Tables.{IsReader};
 
 use crate::classes::classes_of;

@@ -1,6 +1,6 @@
 // The least clean words.
 ghost use Rattle.std.specs.Prelude.{IfOk, MatchOption, pos};
-ghost use Rattle.refutation_terms.specs.Leaf.{IsDead};
+ghost use Rattle.refutation_terms.specs.WordsLeaf.{IsDead};
 ghost use Rattle.refutation_terms.specs.Escape.{IsLeastClean};
 ghost use Rattle.domain_store.specs.Store.{has_domain};
 

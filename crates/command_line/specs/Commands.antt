@@ -2,17 +2,17 @@
 use Rattle.std.specs.Prelude.{◌≡◌, ℕ, ◌+◌, ◌<◌, ◌≤◌, List, [], ◌∷◌, ◌++◌, map, Option, Some, None, MatchOption, String, codes}
 use Rattle.std.specs.String.{string_bytes}
 use Rattle.std.specs.declared.alloc.Global.{Global}
-use Rattle.rwsp_terms.specs.declared.limits.TheConstants.{MOST_WEEKS, USUAL_BUDGET, GREATEST_BUDGET, LONGEST_CALENDAR, USUAL_WORKERS, MOST_WORKERS, MOST_SIZES, USUAL_STAFF_BUDGET, GREATEST_STAFF_BUDGET, USUAL_BEST_BUDGET, DAYS_OF_WEEK}
+use Rattle.rwsp_terms.specs.declared.limits.TheConstants.{MOST_WEEKS, USUAL_BUDGET, GREATEST_BUDGET, LONGEST_CALENDAR, USUAL_WORKERS, MOST_WORKERS, MOST_SIZES, USUAL_STAFF_BUDGET, GREATEST_STAFF_BUDGET, USUAL_BEST_BUDGET, DAYS_OF_WEEK, LONGEST_REST}
 use Rattle.rwsp_terms.specs.Instance.{Instance}
-use Rattle.crew_calendar.specs.Calendar.{FitsDates}
+use Rattle.crew_calendar.specs.Calendar.{FitsDates, IsNotBefore}
 use Rattle.command_line.specs.Forms.{Field, File, Number, Day, Range, Setting, Perhaps, Form, said_by, forms_text}
 use Rattle.command_line.specs.declared.command.TheConstants.{GREATEST_NUMBER}
 use Rattle.command_line.specs.declared.command.Command.{Command}
 use Rattle.command_line.specs.declared.command.Command.TheVariants.{Trial, OnProblem, OnFiles}
 use Rattle.command_line.specs.declared.command.ProblemTask.{ProblemTask}
-use Rattle.command_line.specs.declared.command.ProblemTask.TheVariants.{Plan, Show, Best, Staff}
+use Rattle.command_line.specs.declared.command.ProblemTask.TheVariants.{Plan, Show, Best, Staff, Rest}
 use Rattle.command_line.specs.declared.command.FilesTask.{FilesTask}
-use Rattle.command_line.specs.declared.command.FilesTask.TheVariants.{Check, Verify, Reduce, CheckFree, CheckStaff, Crew}
+use Rattle.command_line.specs.declared.command.FilesTask.TheVariants.{Check, Verify, Reduce, CheckFree, CheckStaff, Crew, Page, Ics, On, Roster}
 
 -- the words behind the program's name
 abbrev pub CommandWords : Type 0
@@ -80,13 +80,38 @@ crew_form = record {
   make = λ v. OnFiles v.0 v.1.0 (Crew v.1.1.0 v.1.1.1.0 v.1.1.1.1.0);
 }
 
+abbrev pub rest_form : Form Command
+rest_form = record {
+  word = codes "rest";
+  fields = problem_file ∷ Number (codes "MINUTES") 0 LONGEST_REST ∷ [];
+  make = λ v. OnProblem v.0 (Rest v.1.0);
+}
+
+abbrev pub ics_form : Form Command
+ics_form = record {
+  word = codes "ics";
+  fields =
+      problem_file ∷ File (codes "ROSTER") ∷ Day (codes "DATE") ∷ Number (codes "DAYS") 1 LONGEST_CALENDAR
+      ∷ Number (codes "EMPLOYEE") 1 MOST_WEEKS ∷ [];
+  make = λ v. OnFiles v.0 v.1.0 (Ics v.1.1.0 v.1.1.1.0 v.1.1.1.1.0);
+}
+
+abbrev pub on_form : Form Command
+on_form = record {
+  word = codes "on";
+  fields = problem_file ∷ File (codes "ROSTER") ∷ Day (codes "START") ∷ Day (codes "DATE") ∷ [];
+  make = λ v. OnFiles v.0 v.1.0 (On v.1.1.0 v.1.1.1.0);
+}
+
 -- the table, in the order of the line of usage
 abbrev pub forms : List (Form Command)
 forms =
     plan_form ∷ check_form ∷ files_form (codes "verify") (codes "ROSTER") Verify
     ∷ files_form (codes "reduce") (codes "LOG") Reduce ∷ show_form ∷ trial_form ∷ best_form
     ∷ files_form (codes "check-free") (codes "LOG") CheckFree ∷ staff_form
-    ∷ files_form (codes "check-staff") (codes "TEXT") CheckStaff ∷ crew_form ∷ []
+    ∷ files_form (codes "check-staff") (codes "TEXT") CheckStaff ∷ crew_form
+    ∷ rest_form ∷ files_form (codes "page") (codes "ROSTER") Page
+    ∷ ics_form ∷ on_form ∷ files_form (codes "roster") (codes "ANSWER") Roster ∷ []
 
 -- the words are a form of the command
 abbrev pub IsForm : CommandWords → Command → Type 0
@@ -134,6 +159,7 @@ abbrev pub IsProblemTaskInRange : ProblemTask → Type 0
 IsProblemTaskInRange Show = Unit {0}
 IsProblemTaskInRange (Plan budget) = IsUpTo GREATEST_BUDGET budget
 IsProblemTaskInRange (Best budget) = IsUpTo GREATEST_BUDGET budget
+IsProblemTaskInRange (Rest minutes) = minutes ≤ LONGEST_REST
 IsProblemTaskInRange (Staff low high budget) =
     (1 ≤ low) × (low ≤ high) × (high ≤ MOST_WEEKS) × (high < low + MOST_SIZES) × IsUpTo GREATEST_STAFF_BUDGET budget
 
@@ -146,6 +172,7 @@ IsEmployeeNumber (Some e) = 1 ≤ e
 abbrev pub IsFilesTaskInRange : FilesTask → Type 0
 IsFilesTaskInRange (Check workers) = IsUpTo MOST_WORKERS workers
 IsFilesTaskInRange (Crew date days employee) = IsUpTo LONGEST_CALENDAR days × IsEmployeeNumber employee
+IsFilesTaskInRange (Ics date days employee) = IsUpTo LONGEST_CALENDAR days × (1 ≤ employee)
 IsFilesTaskInRange task = Unit {0}
 
 -- the numbers of a command are in their ranges
@@ -154,9 +181,11 @@ IsInRange (Trial number weeks) = IsUpTo MOST_WEEKS weeks
 IsInRange (OnProblem file task) = IsProblemTaskInRange task
 IsInRange (OnFiles file second task) = IsFilesTaskInRange task
 
--- a calendar that the task asks for ends by 9999-12-31, with all duties
+-- a calendar that the task asks for ends by 9999-12-31, with all duties, and a date isn't before the roster's first day
 abbrev pub EndsInTime : FilesTask → Type 0
 EndsInTime (Crew date days employee) = FitsDates date days
+EndsInTime (Ics date days employee) = FitsDates date days
+EndsInTime (On start date) = IsNotBefore start date
 EndsInTime task = Unit {0}
 
 abbrev pub IsWithinHorizon : Command → Type 0

@@ -3,7 +3,7 @@ ghost use Rattle.std.specs.Prelude.{IsTrue, ◌↔◌};
 ghost use Rattle.command_line.specs.Commands.{IsInRange, IsWithinHorizon};
 
 use crate::words::FileName;
-use crew_calendar::{CivilDate, fits};
+use crew_calendar::{CivilDate, fits, is_not_before};
 
 /// The greatest number that nine digits spell.
 pub const GREATEST_NUMBER: u32 = 999_999_999;
@@ -41,6 +41,8 @@ pub enum ProblemTask {
     /// The least number of weeks, from the first to the last, for which the problem has a roster; for each lesser
     /// one a log of at most this many lines.
     Staff { low: u32, high: u32, budget: u32 },
+    /// The problem with at least this many minutes between shifts.
+    Rest { minutes: u32 },
 }
 
 /// A task on a problem and a second file.
@@ -64,18 +66,38 @@ pub enum FilesTask {
         days: u32,
         employee: Option<u32>,
     },
+    /// A page in HTML that shows a roster.
+    Page,
+    /// The duties of an employee from a date on, for some days, as an iCalendar.
+    Ics {
+        date: CivilDate,
+        days: u32,
+        employee: u32,
+    },
+    /// Who works on a date, where the first day of the roster was `start`.
+    On {
+        start: CivilDate,
+        date: CivilDate,
+    },
+    /// The roster that stands in an answer.
+    Roster,
 }
 
-/// Whether a calendar that the command asks for ends by 9999-12-31, with all duties.
+/// Whether a calendar that the command asks for ends by 9999-12-31, with all duties, and a date doesn't come before the
+/// first day of the roster.
 pub fn is_within_horizon(command: &Command) -> bool
     requires { IsInRange command.now }
     ensures { IsTrue result ↔ IsWithinHorizon command.now }
 {
     match command {
         Command::OnFiles {
-            task: FilesTask::Crew { date, days, .. },
+            task: FilesTask::Crew { date, days, .. } | FilesTask::Ics { date, days, .. },
             ..
         } => fits(*date, *days),
+        Command::OnFiles {
+            task: FilesTask::On { start, date },
+            ..
+        } => is_not_before(*date, *start),
         _ => true,
     }
 }

@@ -2,17 +2,17 @@
 ghost use Rattle.std.specs.Prelude.{◌≡◌, [], IfSome};
 ghost use Rattle.rwsp_text.specs.Reads.{Reads};
 ghost use Rattle.command_line.specs.Forms.{form_at, named_at};
-ghost use Rattle.command_line.specs.Commands.{IsCommandOf, IsInRange, IsFilesTaskInRange, usage_text, forms, plan_form, check_form, files_form, show_form, trial_form, best_form, staff_form, crew_form};
+ghost use Rattle.command_line.specs.Commands.{IsCommandOf, IsInRange, IsFilesTaskInRange, usage_text, forms, plan_form, check_form, files_form, show_form, trial_form, best_form, staff_form, crew_form, rest_form, ics_form, on_form};
 
 use crate::command::{Command, FilesTask, GREATEST_NUMBER, ProblemTask};
 use crate::words::Words;
 use rwsp_terms::limits::{
-    GREATEST_BUDGET, GREATEST_STAFF_BUDGET, LONGEST_CALENDAR, MOST_SIZES, MOST_WEEKS, MOST_WORKERS,
-    USUAL_BEST_BUDGET, USUAL_BUDGET, USUAL_STAFF_BUDGET, USUAL_WORKERS,
+    GREATEST_BUDGET, GREATEST_STAFF_BUDGET, LONGEST_CALENDAR, LONGEST_REST, MOST_SIZES, MOST_WEEKS,
+    MOST_WORKERS, USUAL_BEST_BUDGET, USUAL_BUDGET, USUAL_STAFF_BUDGET, USUAL_WORKERS,
 };
 
 const USAGE: &str =
-    "usage: rwsp plan FILE [--budget B] | check FILE LOG [--workers N] | verify FILE ROSTER | reduce FILE LOG | show FILE | trial NUMBER WEEKS | best FILE [--budget B] | check-free FILE LOG | staff FILE LOW HIGH [--budget B] | check-staff FILE TEXT | crew FILE ROSTER DATE DAYS [EMPLOYEE]";
+    "usage: rwsp plan FILE [--budget B] | check FILE LOG [--workers N] | verify FILE ROSTER | reduce FILE LOG | show FILE | trial NUMBER WEEKS | best FILE [--budget B] | check-free FILE LOG | staff FILE LOW HIGH [--budget B] | check-staff FILE TEXT | crew FILE ROSTER DATE DAYS [EMPLOYEE] | rest FILE MINUTES | page FILE ROSTER | ics FILE ROSTER DATE DAYS EMPLOYEE | on FILE ROSTER START DATE | roster FILE ANSWER";
 
 /// The line that lists all forms, without its LF.
 #[tactic(auto, unfolding(crate::specs::Commands::usage_text))]
@@ -55,6 +55,11 @@ fn form_of<'a>(word: &str, words: &mut Words<'a>) -> Option<Command<'a>>
         "staff" => staff(words),
         "check-staff" => on_files(words, FilesTask::CheckStaff),
         "crew" => crew(words),
+        "rest" => rest(words),
+        "page" => on_files(words, FilesTask::Page),
+        "ics" => ics(words),
+        "on" => on(words),
+        "roster" => on_files(words, FilesTask::Roster),
         _ => None,
     }
 }
@@ -148,5 +153,44 @@ fn crew<'a>(words: &mut Words<'a>) -> Option<Command<'a>>
         days,
         employee,
     };
+    Some(Command::OnFiles { file, second, task })
+}
+
+fn rest<'a>(words: &mut Words<'a>) -> Option<Command<'a>>
+    ensures form { Reads (form_at rest_form words.old) result words.new }
+    ensures range { IfSome result IsInRange }
+{
+    let file = words.file()?;
+    let minutes = words.number(0, LONGEST_REST)?;
+    let task = ProblemTask::Rest { minutes };
+    Some(Command::OnProblem { file, task })
+}
+
+fn ics<'a>(words: &mut Words<'a>) -> Option<Command<'a>>
+    ensures form { Reads (form_at ics_form words.old) result words.new }
+    ensures range { IfSome result IsInRange }
+{
+    let file = words.file()?;
+    let second = words.file()?;
+    let date = words.date()?;
+    let days = words.number(1, LONGEST_CALENDAR)?;
+    let employee = words.number(1, MOST_WEEKS)?;
+    let task = FilesTask::Ics {
+        date,
+        days,
+        employee,
+    };
+    Some(Command::OnFiles { file, second, task })
+}
+
+fn on<'a>(words: &mut Words<'a>) -> Option<Command<'a>>
+    ensures form { Reads (form_at on_form words.old) result words.new }
+    ensures range { IfSome result IsInRange }
+{
+    let file = words.file()?;
+    let second = words.file()?;
+    let start = words.date()?;
+    let date = words.date()?;
+    let task = FilesTask::On { start, date };
     Some(Command::OnFiles { file, second, task })
 }

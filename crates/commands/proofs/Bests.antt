@@ -1,23 +1,25 @@
 -- What is said of the most free weekends.
-use Rattle.std.proofs.Common.{◌≡◌, ℕ, ◌+◌, ◌<◌, ◌≤◌, List, Option, Some, None, arith, subst, refl}
+use Rattle.std.proofs.Common.{◌≡◌, ℕ, ◌+◌, ◌<◌, ◌≤◌, List, Option, Some, None, arith, subst, refl, sym}
 use Rattle.rwsp_terms.specs.Instance.{Instance}
 use Rattle.rwsp_terms.specs.Roster.{MeetsAll}
 use Rattle.rwsp_terms.specs.declared.data.Symbol.{Symbol}
 use Rattle.rwsp_model.specs.declared.roster.Roster.{Roster}
-use Rattle.refutation_terms.specs.Log.{Log, FreePasses}
+use Rattle.refutation_terms.specs.Log.{Log, Passes}
 use Rattle.refutation_terms.specs.FreeWeekends.{free_weekends}
-use Rattle.refutation_terms.proofs.Sound.{passing_leaves_none_for}
-use Rattle.refutation_terms.proofs.Named.{named-IsRule}
+use Rattle.refutation_terms.specs.Laws.{HasGoal}
+use Rattle.refutation_terms.proofs.Sound.{passing_leaves_none}
 use Rattle.refutation_log.specs.declared.best_found.BestFound.{BestFound}
 use Rattle.refutation_log.specs.declared.best_found.BestFound.TheVariants.{Best, NoRoster, Undecided}
 use Rattle.commands.specs.Best.{IsBestAnswer, best_roster, StaysBelow, Bounds, BestsAgree}
+use Rattle.commands.proofs.Logs.{meets_named}
 
 below : (goal n : ℕ) → (goal ≤ n → ⊥) → n < goal
 below goal n h = omega (arith, h)
 
 -- a roster that meets every rule has fewer free weekends than the goal of a free log that passes
-pub below_goal : (P : Instance) (goal : ℕ) (g : Log) (t : List Symbol) → FreePasses P goal g → MeetsAll P t → free_weekends t < goal
-below_goal P goal g t passes meets = below goal (free_weekends t) (λ many. passing_leaves_none_for P (Some goal) g t passes (record { is_roster = meets.is_roster; rules = λ r n. meets.rules r (named-IsRule P g.named r n) }) many)
+pub below_goal : (P : Instance) (goal : ℕ) (g : Log) (t : List Symbol) → Passes P g → g.goal ≡ Some goal → MeetsAll P t → free_weekends t < goal
+below_goal P goal g t passes is meets =
+    below goal (free_weekends t) (λ many. passing_leaves_none P g t passes (meets_named P g.named t meets) (subst (λ (o : Option ℕ). HasGoal o t) (sym is) many))
 
 -- which rosters such a search has meets every rule
 
@@ -27,13 +29,13 @@ best_meets P budget (NoRoster g) t h e = absurd (cc)
 best_meets P budget (Undecided None g) t h e = absurd (cc)
 best_meets P budget (Undecided (Some s) g) t h e = let same : s ≡ t = cc in subst (λ (u : Roster). MeetsAll P u.cells) same h.0.0.1
 
-stays_below : (P : Instance) (goal : ℕ) (g : Log) (found : Option Roster) → FreePasses P goal g → ((t : Roster) → found ≡ Some t → MeetsAll P t.cells) → StaysBelow found goal
-stays_below P goal g None passes meets = tt
-stays_below P goal g (Some s) passes meets = below_goal P goal g s.cells passes (meets s refl)
+stays_below : (P : Instance) (goal : ℕ) (g : Log) (found : Option Roster) → Passes P g → g.goal ≡ Some goal → ((t : Roster) → found ≡ Some t → MeetsAll P t.cells) → StaysBelow found goal
+stays_below P goal g None passes is meets = tt
+stays_below P goal g (Some s) passes is meets = below_goal P goal g s.cells passes is (meets s refl)
 
 bounds : (P : Instance) (budget : ℕ) (a b : BestFound) → IsBestAnswer P budget a → IsBestAnswer P budget b → Bounds a b
-bounds P budget (Best s g) b h k = stays_below P (free_weekends s.cells + 1) g (best_roster b) h.0.1.0 (λ t e. best_meets P budget b t k e)
-bounds P budget (NoRoster g) b h k = stays_below P 0 g (best_roster b) h.0.0 (λ t e. best_meets P budget b t k e)
+bounds P budget (Best s g) b h k = stays_below P (free_weekends s.cells + 1) g (best_roster b) h.0.1.0 h.0.1.1 (λ t e. best_meets P budget b t k e)
+bounds P budget (NoRoster g) b h k = stays_below P 0 g (best_roster b) h.0.0 h.0.1 (λ t e. best_meets P budget b t k e)
 bounds P budget (Undecided s g) b h k = tt
 
 same_count : (m n : ℕ) → m < n + 1 → n < m + 1 → m ≡ n

@@ -1,9 +1,8 @@
 -- The bytes of a roster have one calendar.
-use Rattle.std.proofs.Common.{◌≡◌, ℕ, ◌<◌, ◌≤◌, List, Some, None, Option, arith, ap, sym, ◌∙◌, subst}
+use Rattle.std.proofs.Common.{refl, ◌≡◌, ℕ, ◌<◌, ◌≤◌, List, Some, None, Option, arith, ap, sym, ◌∙◌, subst}
 use Rattle.rwsp_terms.specs.Instance.{Instance}
 use Rattle.rwsp_terms.specs.declared.data.Symbol.{Symbol}
 use Rattle.rwsp_model.specs.Validity.{KeepsLimits}
-use Rattle.roster_print.specs.RosterText.{SpellsRoster}
 use Rattle.roster_print.proofs.Spelling.{one_roster}
 use Rattle.crew_calendar.specs.Calendar.{Date}
 use Rattle.crew_calendar.proofs.OneText.{one_table, one_duties}
@@ -12,6 +11,16 @@ use Rattle.commands.specs.Crew.{IsCalendarFor, IsCalendarOf, HasEmployee, IsCrew
 use Rattle.commands.specs.declared.crew.Answer.{Answer}
 use Rattle.commands.specs.declared.crew.Answer.TheVariants.{Shown, NoEmployee, Fails}
 use Rattle.commands.proofs.Rosters.{one_fault, right_or_fault}
+use Rattle.crew_calendar.specs.OnDate.{IsOn}
+use Rattle.crew_calendar.specs.Events.{HasNoDuty}
+use Rattle.crew_calendar.proofs.OneDate.{one_on}
+use Rattle.crew_calendar.proofs.OneEvents.{one_events, duty_or_none}
+use Rattle.commands.specs.Ics.{SpellsRightWith, HasEvents, IsIcsAnswer}
+use Rattle.commands.specs.On.{IsOnAnswer}
+use Rattle.commands.specs.declared.ics.Answer.{Answer as Ics}
+use Rattle.commands.specs.declared.ics.Answer.TheVariants as Icss
+use Rattle.commands.specs.declared.on.Answer.{Answer as On}
+use Rattle.commands.specs.declared.on.Answer.TheVariants as Ons
 
 same_calendar : (employee : Option ℕ) (P : Instance) (s : List Symbol) (date : Date) (days : ℕ) (text other : List ℕ) → KeepsLimits P → IsCalendarFor employee P s date days text → IsCalendarFor employee P s date days other → text ≡ other
 same_calendar None P s date days text other limits h k = one_table P s date days text other h k
@@ -43,3 +52,51 @@ one_crew P bytes date days employee (NoEmployee e) (Fails fault) limits h k = ab
 one_crew P bytes date days employee (Fails fault) (Shown text) limits h k = absurd (right_or_fault P bytes fault (right employee P bytes date days text k.1) h)
 one_crew P bytes date days employee (Fails fault) (NoEmployee e) limits h k = absurd (right_or_fault P bytes fault k.0 h)
 one_crew P bytes date days employee (Fails fault) (Fails other) limits h k = ap Fails (one_fault P bytes fault other h k)
+
+-- what holds of the rosters that the same bytes spell
+same_roster : (P : Instance) (bytes : List ℕ) (Q R : List Symbol → Type 0) → SpellsRightWith P bytes Q → SpellsRightWith P bytes R → (s : List Symbol) × Q s × R s
+same_roster P bytes Q R h k =
+    let same : k.0 ≡ h.0 = one_roster P bytes k.0 h.0 k.1 h.1 in
+    (h.0, h.3, subst R same k.3)
+
+right_with : (P : Instance) (bytes : List ℕ) (Q : List Symbol → Type 0) → SpellsRightWith P bytes Q → SpellsRight P bytes
+right_with P bytes Q h = (h.0, h.1, h.2)
+
+same_events : (P : Instance) (bytes : List ℕ) (date : Date) (days e : ℕ) (text other : List ℕ) → KeepsLimits P → SpellsRightWith P bytes (HasEvents P date days e text) → SpellsRightWith P bytes (HasEvents P date days e other) → text ≡ other
+same_events P bytes date days e text other limits h k =
+    let both = same_roster P bytes (HasEvents P date days e text) (HasEvents P date days e other) h k in
+    one_events P both.0 date days e text other limits both.1.1 both.2.1
+
+duty_and_none : (P : Instance) (bytes : List ℕ) (date : Date) (days e : ℕ) (text : List ℕ) → SpellsRightWith P bytes (HasEvents P date days e text) → SpellsRightWith P bytes (λ s. HasNoDuty P s days e) → ⊥
+duty_and_none P bytes date days e text h k =
+    let both = same_roster P bytes (HasEvents P date days e text) (λ s. HasNoDuty P s days e) h k in
+    duty_or_none P both.0 days e both.1.0 both.2
+
+pub one_ics : (P : Instance) (bytes : List ℕ) (date : Date) (days e : ℕ) (a b : Ics) → KeepsLimits P → IsIcsAnswer P bytes date days e a → IsIcsAnswer P bytes date days e b → a ≡ b
+one_ics P bytes date days e (Icss.Shown text) (Icss.Shown other) limits h k = ap Icss.Shown (same_events P bytes date days e text other limits h.1 k.1)
+one_ics P bytes date days e (Icss.Shown text) Icss.NoDuty limits h k = absurd (duty_and_none P bytes date days e text h.1 k.1)
+one_ics P bytes date days e (Icss.Shown text) (Icss.NoEmployee n) limits h k = absurd (omega (arith, h.0, k.2))
+one_ics P bytes date days e (Icss.Shown text) (Icss.Fails fault) limits h k = absurd (right_or_fault P bytes fault (right_with P bytes (HasEvents P date days e text) h.1) k)
+one_ics P bytes date days e Icss.NoDuty (Icss.Shown text) limits h k = absurd (duty_and_none P bytes date days e text k.1 h.1)
+one_ics P bytes date days e Icss.NoDuty Icss.NoDuty limits h k = refl
+one_ics P bytes date days e Icss.NoDuty (Icss.NoEmployee n) limits h k = absurd (omega (arith, h.0, k.2))
+one_ics P bytes date days e Icss.NoDuty (Icss.Fails fault) limits h k = absurd (right_or_fault P bytes fault (right_with P bytes (λ s. HasNoDuty P s days e) h.1) k)
+one_ics P bytes date days e (Icss.NoEmployee n) (Icss.Shown text) limits h k = absurd (omega (arith, k.0, h.2))
+one_ics P bytes date days e (Icss.NoEmployee n) Icss.NoDuty limits h k = absurd (omega (arith, k.0, h.2))
+one_ics P bytes date days e (Icss.NoEmployee n) (Icss.NoEmployee m) limits h k = ap Icss.NoEmployee (h.1 ∙ sym k.1)
+one_ics P bytes date days e (Icss.NoEmployee n) (Icss.Fails fault) limits h k = absurd (right_or_fault P bytes fault h.0 k)
+one_ics P bytes date days e (Icss.Fails fault) (Icss.Shown text) limits h k = absurd (right_or_fault P bytes fault (right_with P bytes (HasEvents P date days e text) k.1) h)
+one_ics P bytes date days e (Icss.Fails fault) Icss.NoDuty limits h k = absurd (right_or_fault P bytes fault (right_with P bytes (λ s. HasNoDuty P s days e) k.1) h)
+one_ics P bytes date days e (Icss.Fails fault) (Icss.NoEmployee n) limits h k = absurd (right_or_fault P bytes fault k.0 h)
+one_ics P bytes date days e (Icss.Fails fault) (Icss.Fails other) limits h k = ap Icss.Fails (one_fault P bytes fault other h k)
+
+same_on : (P : Instance) (bytes : List ℕ) (start date : Date) (text other : List ℕ) → SpellsRightWith P bytes (λ s. IsOn P s start date text) → SpellsRightWith P bytes (λ s. IsOn P s start date other) → text ≡ other
+same_on P bytes start date text other h k =
+    let both = same_roster P bytes (λ s. IsOn P s start date text) (λ s. IsOn P s start date other) h k in
+    one_on P both.0 start date text other both.1 both.2
+
+pub one_on_date : (P : Instance) (bytes : List ℕ) (start date : Date) (a b : On) → IsOnAnswer P bytes start date a → IsOnAnswer P bytes start date b → a ≡ b
+one_on_date P bytes start date (Ons.Shown text) (Ons.Shown other) h k = ap Ons.Shown (same_on P bytes start date text other h k)
+one_on_date P bytes start date (Ons.Shown text) (Ons.Fails fault) h k = absurd (right_or_fault P bytes fault (right_with P bytes (λ s. IsOn P s start date text) h) k)
+one_on_date P bytes start date (Ons.Fails fault) (Ons.Shown text) h k = absurd (right_or_fault P bytes fault (right_with P bytes (λ s. IsOn P s start date text) k) h)
+one_on_date P bytes start date (Ons.Fails fault) (Ons.Fails other) h k = ap Ons.Fails (one_fault P bytes fault other h k)

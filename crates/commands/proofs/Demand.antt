@@ -1,6 +1,5 @@
 -- What is demanded on a day, and on all days.
-use Rattle.std.proofs.Common.{◌≡◌, ℕ, ◌+◌, ◌≤◌, [], ◌∷◌, refl, ap, sym, subst, ◌∙◌, pos, add-one, arith}
-use Rattle.std.proofs.Common.{ℤ, ◌≤ℤ◌, nat_abs, to_z, of_z, w32}
+use Rattle.std.proofs.Common.{◌≡◌, ℕ, ◌+◌, ◌≤◌, [], ◌∷◌, refl, ap, sym, subst, ◌∙◌, pos, add-one, arith, ℤ, ◌≤ℤ◌, nat_abs, to_z, of_z, w32}
 use Rattle.std.proofs.lemmas.Int.{ints, to_z-of_z}
 use Rattle.std.specs.List.{range_with_len, sum_by}
 use Rattle.std.proofs.lemmas.List.Sums.{sum_by-append}

@@ -11,3 +11,6 @@ pub mod Logs
 pub mod Bests
 pub mod Staffs
 pub mod Calendars
+pub mod Rests
+pub mod Pages
+pub mod RosterAnswers

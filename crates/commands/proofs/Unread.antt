@@ -1,12 +1,15 @@
 -- What passes is read.
-use Rattle.std.proofs.Common.{ℕ, List, subst}
+use Rattle.std.proofs.Common.{ℕ, List, subst, sym}
 use Rattle.rwsp_terms.specs.Instance.{Instance}
 use Rattle.rwsp_model.specs.Validity.{KeepsLimits}
+use Rattle.refutation_terms.specs.declared.lines.LogKind.{LogKind}
 use Rattle.refutation_terms.specs.declared.lines.LogRefusal.{LogRefusal}
 use Rattle.refutation_terms.specs.Log.{Log}
-use Rattle.refutation_terms.specs.Verdict.{IsAccepted}
+use Rattle.refutation_terms.specs.Verdict.{kind_by, IsAccepted}
 use Rattle.refutation_log.specs.ReadLog.{IsUnread}
 use Rattle.refutation_log.proofs.NotRefused.{not_refused}
 
-pub passes_and_is_unread : (P : Instance) (bytes : List ℕ) (g : Log) (why : LogRefusal) → KeepsLimits P → IsAccepted P bytes g → IsUnread P bytes why → ⊥
-passes_and_is_unread P bytes g why limits a u = not_refused P g why limits a.1.grounded.fits a.1.tree (subst (λ (text : List ℕ). IsUnread P text why) a.0 u)
+pub passes_and_is_unread : (P : Instance) (kind : LogKind) (bytes : List ℕ) (g : Log) (why : LogRefusal) → KeepsLimits P → IsAccepted P kind bytes g → IsUnread P kind bytes why → ⊥
+passes_and_is_unread P kind bytes g why limits a u =
+    let as_its_own : IsUnread P (kind_by g.goal) bytes why = subst (λ (k : LogKind). IsUnread P k bytes why) (sym a.of_kind) u in
+    not_refused P g why limits a.passes.grounded.fits a.passes.tree (subst (λ (text : List ℕ). IsUnread P (kind_by g.goal) text why) a.is_text as_its_own)

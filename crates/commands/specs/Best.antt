@@ -5,8 +5,8 @@ use Rattle.rwsp_terms.specs.declared.limits.TheConstants.{DAYS_OF_WEEK}
 use Rattle.rwsp_terms.specs.Instance.{Instance, cells, shift_count}
 use Rattle.rwsp_terms.specs.Roster.{IsRoster}
 use Rattle.rwsp_model.specs.declared.roster.Roster.{Roster}
-use Rattle.refutation_terms.specs.Log.{Log, FitsFor}
-use Rattle.refutation_terms.specs.LogText.{log_text_for}
+use Rattle.refutation_terms.specs.Log.{Fits}
+use Rattle.refutation_terms.specs.LogText.{log_text}
 use Rattle.refutation_terms.specs.FreeWeekends.{free_weekends}
 use Rattle.roster_print.specs.RosterText.{roster_text}
 use Rattle.refutation_log.specs.Bests.{IsBestFound, IsUndecided}
@@ -30,9 +30,9 @@ found_text P None = []
 found_text P (Some s) = counted_text P s
 
 abbrev pub best_text : Instance → BestFound → List ℕ
-best_text P (Best s g) = counted_text P s ++ log_text_for P g.goal g
-best_text P (NoRoster g) = log_text_for P g.goal g
-best_text P (Undecided s g) = found_text P s ++ log_text_for P g.goal g
+best_text P (Best s g) = counted_text P s ++ log_text P g
+best_text P (NoRoster g) = log_text P g
+best_text P (Undecided s g) = found_text P s ++ log_text P g
 
 -- a roster is one of the instance, whose week has seven days
 abbrev pub IsWeeklyRoster : Instance → Roster → Type 0
@@ -43,15 +43,11 @@ abbrev pub IsRosterFound : Instance → Option Roster → Type 0
 IsRosterFound P None = Unit {0}
 IsRosterFound P (Some s) = IsWeeklyRoster P s
 
--- a free log of the instance
-abbrev pub FitsFree : Instance → Log → Type 0
-FitsFree P g = (goal : ℕ) × FitsFor P (Some goal) g
-
 -- what the answer names is the instance's
 abbrev pub IsBestOf : Instance → BestFound → Type 0
-IsBestOf P (Best s g) = IsWeeklyRoster P s × FitsFree P g
-IsBestOf P (NoRoster g) = FitsFree P g
-IsBestOf P (Undecided s g) = IsRosterFound P s × FitsFree P g
+IsBestOf P (Best s g) = IsWeeklyRoster P s × Fits P g
+IsBestOf P (NoRoster g) = Fits P g
+IsBestOf P (Undecided s g) = IsRosterFound P s × Fits P g
 
 abbrev pub best_status : BestFound → ℕ
 best_status (Best s g) = 0

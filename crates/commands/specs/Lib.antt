@@ -5,9 +5,13 @@ pub mod LogRefusals
 pub mod Plan
 pub mod Verify
 pub mod Check
-pub mod CheckFree
 pub mod Reduce
 pub mod Crew
+pub mod Rest
+pub mod Page
+pub mod Ics
+pub mod On
+pub mod Roster
 pub mod Trial
 pub mod Best
 pub mod Staff

@@ -1,6 +1,7 @@
 -- What `reduce` answers.
 use Rattle.std.specs.Prelude.{ℕ, List}
 use Rattle.rwsp_terms.specs.Instance.{Instance}
+use Rattle.refutation_terms.specs.declared.lines.LogKind.TheVariants.{WithoutGoal}
 use Rattle.refutation_terms.specs.Log.{Log, Fits, Passes}
 use Rattle.refutation_terms.specs.LogText.{log_text}
 use Rattle.refutation_terms.specs.Strip.{IsReduced}
@@ -17,10 +18,10 @@ pub record IsSparing (P : Instance) (g : Log) : Type 0 where
   pub each : NeedsEach P g
   pub together : NeedsTogether P g
 
--- what an answer says of the bytes of a log: reduced is the log that passes
+-- what an answer says of the bytes of a log without a goal: reduced is the log that passes
 abbrev pub IsReduction : Instance → List ℕ → Answer → Type 0
-IsReduction P bytes (Reduced h) = ((g : Log) × IsAccepted P bytes g × IsReduced P g h) × IsSparing P h
-IsReduction P bytes (Refused why) = IsRefused P bytes why
+IsReduction P bytes (Reduced h) = ((g : Log) × IsAccepted P WithoutGoal bytes g × IsReduced P g h) × IsSparing P h
+IsReduction P bytes (Refused why) = IsRefused P WithoutGoal bytes why
 
 abbrev pub reduce_text : Instance → Answer → List ℕ
 reduce_text P (Reduced g) = log_text P g

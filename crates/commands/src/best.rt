@@ -5,7 +5,7 @@ ghost use Rattle.commands.specs.Best.{IsBestAnswer, IsBestOf, best_text, best_st
 
 mod texts;
 
-use refutation_log::{BestFound, print_free};
+use refutation_log::{BestFound, print_log};
 use roster_planner::best;
 use rwsp_model::Problem;
 use rwsp_terms::limits::GREATEST_BUDGET;
@@ -29,7 +29,7 @@ pub fn text(alloc: Global, problem: &Problem, found: &BestFound) -> Result<Vec<u
 {
     match found {
         BestFound::Best { roster, proof } => best_text(alloc, problem, roster, proof),
-        BestFound::NoRoster(log) => print_free(alloc, problem, log),
+        BestFound::NoRoster(log) => print_log(alloc, problem, log),
         BestFound::Undecided { roster, partial } => {
             undecided_text(alloc, problem, roster, partial)
         }

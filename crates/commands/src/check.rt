@@ -1,15 +1,16 @@
-// Whether a log passes.
-ghost use Rattle.std.specs.Prelude.{◌≡◌, ◌++◌, ◌≤◌, IfOk, codes};
+// Whether a log passes, with a goal or without.
+ghost use Rattle.std.specs.Prelude.{◌≡◌, ◌++◌, ◌≤◌, IfOk, OnOk};
+ghost use Rattle.refutation_log.specs.ReadLog.{HasLogsOf};
 ghost use Rattle.commands.specs.Files.{IsWithinLimit};
 ghost use Rattle.commands.specs.Lines.{line};
-ghost use Rattle.commands.specs.Check.{IsChecked, IsCheckedOf, check_text, check_status, rules_text};
+ghost use Rattle.commands.specs.Check.{IsChecked, IsCheckedOf, check_text, check_status, accepted_words, rules_text};
 ghost use Rattle.commands.specs.declared.second_file.SecondKind.TheVariants as Kinds;
 
 use crate::log_refusal::log_refusal_line;
-use crate::put::put_numbers;
+use crate::put::{put_labelled, put_numbers};
 use potential_bounds::Gate;
-use refutation_checker::check_with;
-use refutation_log::LogRefusal;
+use refutation_checker::{UncheckedLog, check_with};
+use refutation_log::{LogKind, LogRefusal};
 use rwsp_model::{Fail, Problem};
 use rwsp_terms::RuleList;
 use rwsp_terms::limits::MOST_WORKERS;
@@ -19,13 +20,13 @@ use std::thread::Threads;
 /// Whether a log passes.
 #[derive(Drop)]
 pub enum Answer {
-    /// It does: no roster meets these rules, which it names.
-    Accepted(RuleList),
+    /// It does: no roster meets these rules, which it names, or where it has a goal none with as many free weekends.
+    Accepted { goal: Option<u32>, rules: RuleList },
     /// It doesn't: its first line with a cause, and the lowest cause there.
     Refused(LogRefusal),
 }
 
-/// The answer to the bytes of a log, worked out by `workers` threads at most.
+/// The answer to the bytes of a log without a goal, worked out by `workers` threads at most.
 pub fn job<R: Threads + Sync, G: Gate>(
     rt: &R,
     alloc: Global,
@@ -36,12 +37,36 @@ pub fn job<R: Threads + Sync, G: Gate>(
 ) -> Result<Answer, AllocError>
     requires short { IsWithinLimit Kinds.Log bytes.now }
     requires workers { (1 ≤ workers) × (workers ≤ MOST_WORKERS) }
-    ensures says { IfOk result (IsChecked problem.now bytes.now) }
+    ensures says { IfOk result (IsChecked problem.now LogKind.WithoutGoal bytes.now) }
     ensures own { IfOk result (IsCheckedOf problem.now) }
 {
-    problem.prove_limits();
-    match check_with(rt, alloc, problem, bytes, workers, gate) {
-        Ok(named) => Ok(Answer::Accepted(named)),
+    let log = UncheckedLog {
+        kind: LogKind::WithoutGoal,
+        bytes,
+    };
+    checked(rt, alloc, problem, log, workers, gate)
+}
+
+/// The answer to the bytes of a log of a kind, worked out by `workers` threads at most.
+pub(crate) fn checked<R: Threads + Sync, G: Gate>(
+    rt: &R,
+    alloc: Global,
+    problem: &Problem,
+    log: UncheckedLog<'_>,
+    workers: u32,
+    gate: &G,
+) -> Result<Answer, AllocError>
+    requires kind { HasLogsOf problem.now log.kind }
+    requires short { IsWithinLimit Kinds.Log log.bytes.now }
+    requires workers { (1 ≤ workers) × (workers ≤ MOST_WORKERS) }
+    ensures says { IfOk result (IsChecked problem.now log.entry.kind log.entry.bytes.now) }
+    ensures own { IfOk result (IsCheckedOf problem.now) }
+{
+    match check_with(rt, alloc, problem, log, workers, gate) {
+        Ok(passed) => Ok(Answer::Accepted {
+            goal: passed.goal,
+            rules: passed.named,
+        }),
         Err(Fail::Refused(why)) => Ok(Answer::Refused(why)),
         Err(Fail::Memory) => Err(AllocError),
     }
@@ -53,20 +78,34 @@ pub fn text(alloc: Global, problem: &Problem, answer: &Answer) -> Result<Vec<u8>
     ensures { IfOk result (λ v. v.items ≡ check_text problem.now answer.now) }
 {
     match answer {
-        Answer::Accepted(rules) => accepted_line(alloc, rules),
+        Answer::Accepted { goal, rules } => accepted_line(alloc, *goal, rules),
         Answer::Refused(why) => log_refusal_line(alloc, problem, why),
     }
 }
 
-// The line that names the rules which an accepted log names.
-fn accepted_line(alloc: Global, rules: &RuleList) -> Result<Vec<u8>, AllocError>
-    ensures { IfOk result (λ v. v.items ≡ line (codes "accepted: rules" ++ rules_text rules.now)) }
+// The line that names the goal of an accepted log, if it has one, and the rules that it names.
+fn accepted_line(alloc: Global, goal: Option<u32>, rules: &RuleList) -> Result<Vec<u8>, AllocError>
+    ensures { IfOk result (λ v. v.items ≡ line (accepted_words goal ++ rules_text rules.now)) }
 {
     let mut out = Vec::new(alloc);
-    out.extend_from_slice(b"accepted: rules".as_slice())?;
+    put_accepted(&mut out, goal)?;
     put_numbers(&mut out, rules.numbers())?;
     out.push(b'\n')?;
     Ok(out)
+}
+
+// Appends the goal, if there is one, and the word before the rules.
+fn put_accepted(out: &mut Vec<u8>, goal: Option<u32>) -> Result<(), AllocError>
+    ensures { OnOk result (out.new.items ≡ out.old.items ++ accepted_words goal) }
+{
+    match goal {
+        None => out.extend_from_slice(b"accepted: rules".as_slice())?,
+        Some(goal) => {
+            put_labelled(out, b"accepted: goal ".as_slice(), goal)?;
+            out.extend_from_slice(b" rules".as_slice())?;
+        }
+    }
+    Ok(())
 }
 
 /// The status of the answer.
@@ -74,7 +113,7 @@ pub fn status(answer: &Answer) -> u8
     ensures { result ≡ check_status answer.now }
 {
     match answer {
-        Answer::Accepted(_) => 0,
+        Answer::Accepted { .. } => 0,
         Answer::Refused(_) => 5,
     }
 }

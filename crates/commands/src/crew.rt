@@ -37,8 +37,8 @@ impl Model for Calendar {
 impl Calendar {
     ghost use Rattle.std.specs.Prelude.{◌≡◌};
 
-    // The calendar with this text.
-    fn of(text: Vec<u8>) -> Calendar
+    /// The calendar with this text.
+    pub fn of(text: Vec<u8>) -> Calendar
         ensures { result ≡ text.items }
     {
         Calendar { text }
@@ -131,8 +131,8 @@ pub fn text(alloc: Global, problem: &Problem, answer: &Answer) -> Result<Vec<u8>
     }
 }
 
-// The line that says that the problem has no employee with this number.
-fn no_employee_line(alloc: Global, number: u32) -> Result<Vec<u8>, AllocError>
+/// The line that says that the problem has no employee with this number.
+pub fn no_employee_line(alloc: Global, number: u32) -> Result<Vec<u8>, AllocError>
     ensures { IfOk result (λ v. v.items ≡ line (codes "no employee " ++ decimal number)) }
 {
     let mut out = Vec::new(alloc);

@@ -2,6 +2,7 @@
 ghost use Rattle.std.specs.Prelude.{◌≡◌, IfOk};
 ghost use Rattle.refutation_terms.specs.Log.{Fits};
 ghost use Rattle.refutation_terms.specs.LogText.{log_text};
+ghost use Rattle.refutation_terms.specs.Verdict.{kind_by};
 ghost use Rattle.refutation_terms.specs.declared.lines.LogRefusal.{LogRefusal as Why};
 ghost use Rattle.refutation_log.specs.ReadLog.{IsUnread};
 ghost use Rattle.commands.specs.Files.{IsWithinLimit};
@@ -10,8 +11,8 @@ ghost use Rattle.commands.specs.declared.second_file.SecondKind.TheVariants as K
 
 use crate::log_refusal::log_refusal_line;
 use potential_bounds::Gate;
-use refutation_checker::check_with;
-use refutation_log::{Log, LogRefusal, print_log, read_log};
+use refutation_checker::{UncheckedLog, check_with};
+use refutation_log::{Log, LogKind, LogRefusal, print_log, read_log};
 use rule_reducer::reduce_in_place;
 use rwsp_model::{Fail, Problem};
 use rwsp_terms::limits::USUAL_WORKERS;
@@ -39,7 +40,7 @@ pub fn job<R: Threads + Sync, G: Gate>(
     ensures says { IfOk result (IsReduction problem.now bytes.items) }
     ensures own { IfOk result (IsReductionOf problem.now) }
 {
-    match read_log(alloc, problem, &bytes) {
+    match read_log(alloc, problem, LogKind::WithoutGoal, &bytes) {
         Ok(log) => {
             drop(bytes);
             reduced(alloc, problem, log)
@@ -49,9 +50,10 @@ pub fn job<R: Threads + Sync, G: Gate>(
     }
 }
 
-// The log without the rules that it can do without.
+// The log, which has no goal, without the rules that it can do without.
 fn reduced(alloc: Global, problem: &Problem, log: Log) -> Result<Answer, AllocError>
-    requires { Fits problem.now log }
+    requires kind { kind_by log.goal ≡ LogKind.WithoutGoal }
+    requires fits { Fits problem.now log }
     ensures says { IfOk result (IsReduction problem.now (log_text problem.now log)) }
     ensures own { IfOk result (IsReductionOf problem.now) }
 {
@@ -71,12 +73,16 @@ fn first_refusal<R: Threads + Sync, G: Gate>(
     gate: &G,
 ) -> Result<Answer, AllocError>
     requires short { IsWithinLimit Kinds.Log bytes.now }
-    requires unread { (why : Why) × IsUnread problem.now bytes.now why }
+    requires unread { (why : Why) × IsUnread problem.now LogKind.WithoutGoal bytes.now why }
     ensures says { IfOk result (IsReduction problem.now bytes.now) }
     ensures own { IfOk result (IsReductionOf problem.now) }
 {
     problem.prove_limits();
-    match check_with(rt, alloc, problem, bytes, USUAL_WORKERS, gate) {
+    let log = UncheckedLog {
+        kind: LogKind::WithoutGoal,
+        bytes,
+    };
+    match check_with(rt, alloc, problem, log, USUAL_WORKERS, gate) {
         Ok(_) => unreachable!(),
         Err(Fail::Refused(why)) => Ok(Answer::Refused(why)),
         Err(Fail::Memory) => Err(AllocError),

@@ -4,3 +4,8 @@ pub mod Rounds
 pub mod OneText
 pub mod DateWords
 pub mod Calendars
+pub mod OneDate
+pub mod Written
+pub mod EventLines
+pub mod OneEvents
+pub mod ReadBack

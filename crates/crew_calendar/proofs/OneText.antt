@@ -18,7 +18,7 @@ use Rattle.crew_calendar.proofs.Calendars.{one_text}
 agree : (date : Date) (days : ℕ) (on other : ℕ → Date) → IsCalendar date days on → IsCalendar date days other → (t : ℕ) → t < days → date_text (on t) ≡ date_text (other t)
 agree date days on other here there t less = one_text (on t) (other t) (here t less ∙ sym (there t less))
 
-lines_same : (f g : ℕ → List ℕ) (a n : ℕ) → ((i : ℕ) → i < a + n → f i ≡ g i) → flat_map f (range_with_len a n) ≡ flat_map g (range_with_len a n)
+pub lines_same : {X : Type 0} (f g : ℕ → List X) (a n : ℕ) → ((i : ℕ) → i < a + n → f i ≡ g i) → flat_map f (range_with_len a n) ≡ flat_map g (range_with_len a n)
 lines_same f g a zero same = refl
 lines_same f g a (suc n) same =
     let here : f a ≡ g a = same a (omega arith) in
@@ -33,7 +33,7 @@ one_table P s date days text other a b =
     ∙ sym b.is
 
 -- what a row has that may be there
-row_small : (rows : List ShiftRow) (k : ℕ) → All (λ (row : ShiftRow). (row.start ≤ GREATEST_BOUND) × (row.length ≤ GREATEST_BOUND)) rows → (start_in (slice_get rows k) ≤ GREATEST_BOUND) × (length_in (slice_get rows k) ≤ GREATEST_BOUND)
+pub row_small : (rows : List ShiftRow) (k : ℕ) → All (λ (row : ShiftRow). (row.start ≤ GREATEST_BOUND) × (row.length ≤ GREATEST_BOUND)) rows → (start_in (slice_get rows k) ≤ GREATEST_BOUND) × (length_in (slice_get rows k) ≤ GREATEST_BOUND)
 row_small rows k times =
     elim (slice_get_cases rows k).1 [
       | inl found ↦

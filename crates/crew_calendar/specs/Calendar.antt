@@ -1,5 +1,8 @@
 -- The dates of days in a row, and the words that name a date.
-use Rattle.std.specs.Prelude.{◌≡◌, ℕ, ◌+◌, ◌<◌, ℤ, pos, ◌+ℤ◌, ◌≤ℤ◌, List}
+use Rattle.std.specs.Prelude.{◌≡◌, ℕ, ◌+◌, ◌<◌, ℤ, pos, ◌+ℤ◌, ◌≤ℤ◌, List, [], ◌∷◌, codes, slice_index_or}
+use Rattle.jiff_core.specs.declared.civil.weekday.Weekday.{Weekday}
+use Rattle.jiff_core.specs.Weekday.{monday_zero}
+use Rattle.jiff_core.specs.Date.{weekday_of}
 use Rattle.jiff_core.specs.Calendar.{days_from_civil, IsBetween}
 use Rattle.crew_calendar.specs.declared.dates.TheConstants.{MOST_DAYS_LATER}
 -- a date, the number of its day, and its text YYYY-MM-DD, as `jiff` has them
@@ -34,3 +37,21 @@ IsDateWord word date = IsCivil date × (word ≡ date_text date)
 -- what holds of each calendar of this number of days that begins with the date
 abbrev pub OnCalendar : Date → ℕ → ((ℕ → Date) → Type 0) → Type 0
 OnCalendar date days Q = (on : ℕ → Date) → IsCalendar date days on → Q on
+
+-- the date is the other one or comes after it
+abbrev pub IsNotBefore : (start date : Date) → Type 0
+IsNotBefore start date = epoch_day start ≤ℤ epoch_day date
+
+-- the English names of the days of the week
+abbrev pub weekday_names : List (List ℕ)
+weekday_names =
+    codes "Monday" ∷ codes "Tuesday" ∷ codes "Wednesday" ∷ codes "Thursday" ∷ codes "Friday" ∷ codes "Saturday"
+    ∷ codes "Sunday" ∷ []
+
+-- the name of a day of the week
+abbrev pub weekday_name : Weekday → List ℕ
+weekday_name day = slice_index_or weekday_names (monday_zero day) []
+
+-- the name of a date's day of the week
+abbrev pub weekday_text : Date → List ℕ
+weekday_text date = slice_index_or weekday_names (weekday_of date) []

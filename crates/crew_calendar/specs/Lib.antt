@@ -3,3 +3,7 @@ pub mod Texts
 pub mod Facts
 pub mod Laws
 pub mod Calendar
+pub mod OnDate
+pub mod ShownNames
+pub mod ContentLines
+pub mod Events

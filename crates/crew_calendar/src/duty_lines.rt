@@ -14,8 +14,8 @@ use rwsp_terms::Symbol;
 use rwsp_terms::limits::{GREATEST_BOUND, LONGEST_CALENDAR};
 use std::alloc::{AllocError, Global};
 
-// Appends a number in two digits.
-fn put_two_digits(out: &mut Vec<u8>, n: u32) -> Result<(), AllocError>
+/// Appends a number in two digits.
+pub fn put_two_digits(out: &mut Vec<u8>, n: u32) -> Result<(), AllocError>
     requires { n < 100 }
     ensures { OnOk result (out.new.items ≡ out.old.items ++ two_digits n) }
 {
@@ -48,8 +48,8 @@ fn put_moment(out: &mut Vec<u8>, date: CivilDate, minutes: u32) -> Result<(), Al
     Ok(())
 }
 
-// When a shift starts, in minutes after midnight.
-fn start_of(problem: &Problem, shift: Symbol) -> u32
+/// When a shift starts, in minutes after midnight.
+pub fn start_of(problem: &Problem, shift: Symbol) -> u32
     requires { IsShift problem.now shift }
     ensures value { result ≡ start_of problem.now shift }
     ensures few { result ≤ GREATEST_BOUND }
@@ -58,8 +58,8 @@ fn start_of(problem: &Problem, shift: Symbol) -> u32
     problem.start(shift)
 }
 
-// How many minutes a shift has.
-fn length_of(problem: &Problem, shift: Symbol) -> u32
+/// How many minutes a shift has.
+pub fn length_of(problem: &Problem, shift: Symbol) -> u32
     requires { IsShift problem.now shift }
     ensures value { result ≡ length_of problem.now shift }
     ensures few { result ≤ GREATEST_BOUND }

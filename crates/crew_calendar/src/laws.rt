@@ -1,6 +1,8 @@
 // Laws of the definitions. Each function's contract is the law.
 ghost use Rattle.crew_calendar.specs.Facts.{DemandIsMetDaily, EmployeesFollowTheCycle, EmployeesKeepTheRules, EmployeesGoRound};
-ghost use Rattle.crew_calendar.specs.Laws.{TablesAreOne, DutiesAreOne, WordsNameOneDate};
+ghost use Rattle.crew_calendar.specs.OnDate.{DatesAreAsInTables, DatesHaveOneText};
+ghost use Rattle.crew_calendar.specs.ContentLines.{LinesAreReadBack, TextsAreReadBack, RowsAreShort, CharactersStayWhole};
+ghost use Rattle.crew_calendar.specs.Laws.{TablesAreOne, DutiesAreOne, EventsAreOne, WordsNameOneDate};
 
 /// Where a roster meets all rules, on each day at least as many employees as the least demand and at most as many as
 /// the greatest have each symbol, the day off too.
@@ -36,4 +38,39 @@ pub fn duties_are_one()
 /// A word names one date at most.
 pub fn words_name_one_date()
     ensures { WordsNameOneDate }
+{}
+
+/// Who works on a date has one text.
+pub fn dates_have_one_text()
+    ensures { DatesHaveOneText }
+{}
+
+/// Who works on a date is as the table of all employees has it on that day.
+pub fn dates_are_as_in_tables()
+    ensures { DatesAreAsInTables }
+{}
+
+/// The events of an employee's duties have one text.
+pub fn events_are_one()
+    ensures { EventsAreOne }
+{}
+
+/// A line without CR is read back from how it is written.
+pub fn lines_are_read_back()
+    ensures { LinesAreReadBack }
+{}
+
+/// A text is read back from how it is escaped.
+pub fn texts_are_read_back()
+    ensures { TextsAreReadBack }
+{}
+
+/// Each row of a line has at most 75 bytes.
+pub fn rows_are_short()
+    ensures { RowsAreShort }
+{}
+
+/// No row of a line begins within a character.
+pub fn characters_stay_whole()
+    ensures { CharactersStayWhole }
 {}

@@ -2,18 +2,31 @@
 #![tactic(auto)]
 
 mod civil_date;
+mod content_lines;
 mod dates;
 mod duty_lines;
+mod events;
 mod laws;
 mod lines;
+mod on_date;
 mod places;
+mod shown_names;
 
 pub use civil_date::CivilDate;
-pub use dates::{DAY_MINUTES, MOST_DAYS_LATER, date_after, date_of, fits, put_date};
+pub use content_lines::{LONGEST_ROW, put_content_line, put_escaped};
+pub use dates::{
+    DAY_MINUTES, MOST_DAYS_APART, MOST_DAYS_LATER, date_after, date_of, days_between, fits,
+    is_not_before, put_date, put_weekday,
+};
 pub use duty_lines::duties;
+pub use events::{duty_calendar, has_duty};
 pub use laws::{
-    demand_is_met_daily, duties_are_one, employees_follow_the_cycle, employees_go_round,
-    employees_keep_the_rules, tables_are_one, words_name_one_date,
+    characters_stay_whole, dates_are_as_in_tables, dates_have_one_text, demand_is_met_daily,
+    duties_are_one, employees_follow_the_cycle, employees_go_round, employees_keep_the_rules,
+    events_are_one, lines_are_read_back, rows_are_short, tables_are_one, texts_are_read_back,
+    words_name_one_date,
 };
 pub use lines::crew_table;
+pub use on_date::who_works;
 pub use places::place;
+pub use shown_names::put_shown;

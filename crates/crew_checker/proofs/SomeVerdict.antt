@@ -9,6 +9,7 @@ use Rattle.roster_print.specs.RosterText.{SpellsRoster}
 use Rattle.roster_print.specs.Refusal.{refusal_of_roster}
 use Rattle.roster_print.specs.declared.refusal.RosterRefusal.{RosterRefusal}
 use Rattle.roster_print.proofs.Spelling.{refusals_decide, spelled_is_roster}
+use Rattle.refutation_terms.specs.declared.lines.LogKind.TheVariants.{WithoutGoal}
 use Rattle.refutation_terms.specs.declared.lines.LogRefusal.{LogRefusal}
 use Rattle.refutation_terms.specs.Log.{Log}
 use Rattle.refutation_terms.specs.Verdict.{IsVerdict}
@@ -44,7 +45,7 @@ some_cut bytes goes =
     (λ j less h. (let le : k ≤ j = least.1 j ((let in_it = least.0.0 in omega (arith, less, in_it)), h) in omega (arith, less, le))) least.0.1))
     i (inside, at)))
 
-section_on : (P : Instance) (text : List ℕ) (sizes : Option (ℕ × ℕ)) (line m : ℕ) (bytes : List ℕ) → HasNoVerdict P text → ((place : Place) → length place.rest ≤ length bytes → IsPlace P text place → ⊥) → IsNextOf P sizes m → IsAt P text sizes line (refuted_line m) bytes → (k : ℕ) → AreUpToHeading (take k bytes) (drop k bytes) → (verdict : Result Log LogRefusal) → IsVerdict (with_weeks P m) (take k bytes) verdict → ⊥
+section_on : (P : Instance) (text : List ℕ) (sizes : Option (ℕ × ℕ)) (line m : ℕ) (bytes : List ℕ) → HasNoVerdict P text → ((place : Place) → length place.rest ≤ length bytes → IsPlace P text place → ⊥) → IsNextOf P sizes m → IsAt P text sizes line (refuted_line m) bytes → (k : ℕ) → AreUpToHeading (take k bytes) (drop k bytes) → (verdict : Result Log LogRefusal) → IsVerdict (with_weeks P m) WithoutGoal (take k bytes) verdict → ⊥
 section_on P text sizes line m bytes none further next at k cut (Ok g) passes =
     further (record { sizes = Some (first_size sizes m, m + 1); rest = drop k bytes; line = line + (1 + feeds (take k bytes)) })
     (omega (arith, length-drop k bytes))
@@ -77,7 +78,7 @@ none_on P text sizes line last (b ∷ bytes) none is at = none (Err (Refusals.Fo
 
 heading_on : (P : Instance) (text : List ℕ) (sizes : Option (ℕ × ℕ)) (line : ℕ) (bytes : List ℕ) → 0 < P.days → HasNoVerdict P text → ((place : Place) → length place.rest ≤ length bytes → IsPlace P text place → ⊥) → (h : Heading) → MayFollow P sizes h → IsAt P text sizes line (heading_line h) bytes → ⊥
 heading_on P text sizes line bytes days none further (Headings.Refuted m) may at =
-    some_cut bytes (λ k cut. some_verdict (with_weeks P m) (take k bytes) (section_on P text sizes line m bytes none further may at k cut))
+    some_cut bytes (λ k cut. some_verdict (with_weeks P m) WithoutGoal (take k bytes) tt (section_on P text sizes line m bytes none further may at k cut))
 heading_on P text sizes line bytes days none further (Headings.Found m) may at = roster_on P text sizes line m bytes days none may at
 heading_on P text sizes line bytes days none further (Headings.NoneTo last) may at = none_on P text sizes line last bytes none may at
 

@@ -3,6 +3,7 @@ ghost use Rattle.std.specs.Prelude.{◌≡◌, ◌≢◌, ℕ, ◌<◌, ◌≤�
 ghost use Rattle.rwsp_terms.specs.declared.limits.TheConstants.{LONGEST_LOG, MOST_WORKERS};
 ghost use Rattle.rwsp_terms.specs.Instance.{Instance};
 ghost use Rattle.rwsp_model.specs.Refusals.{MatchAnswer};
+ghost use Rattle.refutation_terms.specs.declared.lines.LogKind.TheVariants.{WithoutGoal};
 ghost use Rattle.refutation_terms.specs.Log.{Log};
 ghost use Rattle.refutation_terms.specs.Verdict.{IsAccepted, IsRefused};
 ghost use Rattle.crew_size.specs.Sizes.{with_weeks, IsSize};
@@ -14,8 +15,8 @@ use crew_size::{
     Heading, StaffRefusal, Staffed, count_feeds, heading_of, may_stand, section_end, with_weeks,
 };
 use potential_bounds::Gate;
-use refutation_checker::check_with;
-use refutation_log::{LineReader, LogRefusal};
+use refutation_checker::{UncheckedLog, check_with};
+use refutation_log::{LineReader, LogKind, LogRefusal};
 use roster_checker::first_broken;
 use roster_print::read_roster;
 use rwsp_model::{Fail, Problem};
@@ -137,22 +138,26 @@ impl<'a> Sections<'a> {
     }
 }
 
-// Checks the log for the problem with this number of weeks.
+// Checks the log, which has no goal, for the problem with this number of weeks.
 fn check_log<R: Threads + Sync, G: Gate>(
     workers: &Workers<R, G>,
     alloc: Global,
     problem: &Problem,
     weeks: u32,
-    log: &[u8],
+    bytes: &[u8],
 ) -> Result<(), Fail<LogRefusal>>
     requires size { IsSize problem.now weeks }
-    requires long { length log.now ≤ LONGEST_LOG }
+    requires long { length bytes.now ≤ LONGEST_LOG }
     requires workers { (1 ≤ workers.now.count) × (workers.now.count ≤ MOST_WORKERS) }
-    ensures { MatchAnswer result (λ _. (g : Log) × IsAccepted (with_weeks problem.now weeks) log.now g)
-        (IsRefused (with_weeks problem.now weeks) log.now) }
+    ensures { MatchAnswer result (λ _. (g : Log) × IsAccepted (with_weeks problem.now weeks) WithoutGoal bytes.now g)
+        (IsRefused (with_weeks problem.now weeks) WithoutGoal bytes.now) }
 {
     let Ok(sized) = with_weeks(problem, weeks) else {
         return Err(Fail::Memory);
+    };
+    let log = UncheckedLog {
+        kind: LogKind::WithoutGoal,
+        bytes,
     };
     let checked = check_with(workers.rt, alloc, &sized, log, workers.count, workers.gate);
     drop(sized);

@@ -1,10 +1,11 @@
 -- What accepted texts and searches decide.
-use Rattle.std.proofs.Common.{◌≡◌, ◌≢◌, ℕ, ◌+◌, ◌-◌, ◌*◌, ◌^◌, ◌<◌, ◌≤◌, List, [], ◌∷◌, ◌++◌, length, get_or, Some, None, refl, ap, sym, ◌∙◌, subst, arith, inl, inr, ⊎_elim}
+use Rattle.std.proofs.Common.{◌≡◌, ◌≢◌, ℕ, ◌+◌, ◌-◌, ◌*◌, ◌^◌, ◌<◌, ◌≤◌, List, [], ◌∷◌, ◌++◌, length, get_or, Some, None, refl, ap, sym, ◌∙◌, subst, arith, inl, inr, ⊎_elim, Option}
 use Rattle.std.specs.Prelude.{slice_get, codes}
 use Rattle.std.specs.Fmt.{decimal}
 use Rattle.std.proofs.Math.Nat.{mul-le-mul_right, pow-le-pow_right}
 use Rattle.std.proofs.lemmas.Bool.{cases_lt}
 use Rattle.std.proofs.lemmas.Option.{slice_get-get_or}
+use Rattle.rwsp_terms.specs.declared.data.Symbol.{Symbol}
 use Rattle.rwsp_terms.specs.Instance.{Instance, shift_count}
 use Rattle.rwsp_model.specs.Validity.{IsValid, KeepsLimits}
 use Rattle.rwsp_model.proofs.Limits.{keeps_valid}
@@ -14,6 +15,9 @@ use Rattle.roster_print.proofs.Printed.{printed_is_short, printed_is_spelled}
 use Rattle.refutation_terms.specs.Log.{Log, Passes}
 use Rattle.refutation_terms.proofs.Sound.{passing_leaves_none}
 use Rattle.refutation_terms.proofs.Named.{named-IsRule}
+use Rattle.refutation_terms.specs.declared.lines.LogKind.TheVariants.{WithoutGoal}
+use Rattle.refutation_terms.specs.Verdict.{kind_by}
+use Rattle.refutation_terms.specs.Laws.{HasGoal}
 use Rattle.crew_size.specs.Sizes.{with_weeks, IsSize}
 use Rattle.crew_size.specs.Texts.{Staff, next_size, roster_line, none_line, sections_text, end_text}
 use Rattle.crew_size.specs.Fitting.{EndFits, FitsSizes}
@@ -30,14 +34,19 @@ use Rattle.crew_size.proofs.Searches.{AreRefuted, fits_sizes}
 pub sized_keeps : (P : Instance) (m : ℕ) → KeepsLimits P → IsSize P m → KeepsLimits (with_weeks P m)
 sized_keeps P m limits size = other_weeks_keep P m limits size.some size.few size.few_cells
 
-none_of_log : (P : Instance) (m : ℕ) (g : Log) → Passes (with_weeks P m) g → HasNoRoster P m
-none_of_log P m g passes = λ s meets.
+-- a log without a goal leaves no roster, whatever its free weekends
+no_goal : (goal : Option ℕ) (s : List Symbol) → kind_by goal ≡ WithoutGoal → HasGoal goal s
+no_goal None s plain = tt
+no_goal (Some goal) s plain = absurd (cc)
+
+none_of_log : (P : Instance) (m : ℕ) (g : Log) → kind_by g.goal ≡ WithoutGoal → Passes (with_weeks P m) g → HasNoRoster P m
+none_of_log P m g plain passes = λ s meets.
     passing_leaves_none (with_weeks P m) g s passes
-    (record { is_roster = meets.is_roster; rules = λ r named. meets.rules r (named-IsRule (with_weeks P m) g.named r named) })
+    (record { is_roster = meets.is_roster; rules = λ r named. meets.rules r (named-IsRule (with_weeks P m) g.named r named) }) (no_goal g.goal s plain)
 
 -- the logs of the sizes pass
 abbrev AllPass : Instance → ℕ → List Log → Type 0
-AllPass P low logs = (k : ℕ) (g : Log) → slice_get logs k ≡ Some g → Passes (with_weeks P (low + k)) g
+AllPass P low logs = (k : ℕ) (g : Log) → slice_get logs k ≡ Some g → (kind_by g.goal ≡ WithoutGoal) × Passes (with_weeks P (low + k)) g
 
 none_among : (P : Instance) (low : ℕ) (logs : List Log) → AllPass P low logs → (k : ℕ) → low ≤ k → k < low + length logs → HasNoRoster P k
 none_among P low [] all k a b = absurd (omega (arith, a, b))
@@ -45,17 +54,21 @@ none_among P low (h ∷ logs) all k a b =
     let i : ℕ = k - low in
     let within : i < length (h ∷ logs) = omega (arith, a, b) in
     let same : low + i ≡ k = omega (arith, a) in
-    subst (HasNoRoster P) same (none_of_log P (low + i) (get_or (h ∷ logs) i h) (all i (get_or (h ∷ logs) i h) (slice_get-get_or (h ∷ logs) i h within)))
+    let passing = all i (get_or (h ∷ logs) i h) (slice_get-get_or (h ∷ logs) i h within) in
+    subst (HasNoRoster P) same (none_of_log P (low + i) (get_or (h ∷ logs) i h) passing.0 passing.1)
+
+all_pass : (P : Instance) (low : ℕ) (logs : List Log) → ArePassing P low logs → AllPass P low logs
+all_pass P low logs are k g at = (are.plain k g at, are.passes k g at)
 
 pub accepted_decide : AcceptedTextsDecide
 accepted_decide P text (Least low m) h = (
   omega (arith, h.size),
   (h.right.0, h.right.2),
-  λ k a b. none_among P low h.logs h.ends.stands.passing.passes k a (omega (arith, b, h.size)),
+  λ k a b. none_among P low h.logs (all_pass P low h.logs h.ends.stands.passing) k a (omega (arith, b, h.size)),
 )
 accepted_decide P text (NoneTo low last) h = (
   omega (arith, h.last_size.0, h.last_size.1),
-  λ k a b. none_among P low h.logs h.stands.passing.passes k a (omega (arith, b, h.last_size.1)),
+  λ k a b. none_among P low h.logs (all_pass P low h.logs h.stands.passing) k a (omega (arith, b, h.last_size.1)),
 )
 
 -- what a search of these sizes decides
@@ -71,11 +84,11 @@ decided_by : (P : Instance) (high budget low m : ℕ) (logs : List Log) (end : S
 decided_by P high budget low m logs (Ends.Least s) staffed le are e h same =
     let eq : Least low m ≡ staffed = cc in
     subst (IsDecidedWithin P low high) eq
-    (refl, h.0, (omega (arith, e), (s.cells, h.1.1), λ k a b. none_among P low logs (λ i g at. (are i g at).0) k a (omega (arith, b, e))))
+    (refl, h.0, (omega (arith, e), (s.cells, h.1.1), λ k a b. none_among P low logs (λ i g at. (ap kind_by (are i g at).2.no_goal, (are i g at).0)) k a (omega (arith, b, e))))
 decided_by P high budget low m logs Ends.NoneTo staffed le are e h same =
     let eq : NoneTo low (m - 1) ≡ staffed = cc in
     subst (IsDecidedWithin P low high) eq
-    (refl, omega (arith, h), (omega (arith, h, le), λ k a b. none_among P low logs (λ i g at. (are i g at).0) k a (omega (arith, b, e, h))))
+    (refl, omega (arith, h), (omega (arith, h, le), λ k a b. none_among P low logs (λ i g at. (ap kind_by (are i g at).2.no_goal, (are i g at).0)) k a (omega (arith, b, e, h))))
 decided_by P high budget low m logs (Ends.Undecided g) staffed le are e h same = absurd (cc)
 
 decided_within : (P : Instance) (low high budget : ℕ) (run : Staff) (staffed : Staffed) → low ≤ high → IsStaffed P low high budget run → decision_of run ≡ Some staffed → IsDecidedWithin P low high staffed
@@ -185,5 +198,5 @@ pub printed_accepted : PrintedRunsAreAccepted
 printed_accepted P low high budget run staffed limits one le size h same =
     let fits : FitsSizes P run = fits_sizes P low high budget run one le size h in
     let moved : IsStaffed P run.low high budget run = subst (λ n. IsStaffed P n high budget run) (sym h.first) h in
-    let passing : ArePassing P run.low run.logs = record { sizes = fits.sizes; passes = λ k g at. (moved.refuted k g at).0 } in
+    let passing : ArePassing P run.low run.logs = record { sizes = fits.sizes; plain = λ k g at. ap kind_by (moved.refuted k g at).2.no_goal; passes = λ k g at. (moved.refuted k g at).0 } in
     printed_by P high budget run.low (next_size run) run.logs run.end staffed limits passing refl fits.end fits.some moved.end same

@@ -20,6 +20,7 @@ use Rattle.rwsp_text.proofs.LineLaws.{next_same, line_some}
 use Rattle.refutation_terms.specs.Verdict.{IsVerdict}
 use Rattle.refutation_terms.proofs.Unique.{verdict_unique}
 use Rattle.refutation_log.proofs.OneText.{is_writable, has_names}
+use Rattle.refutation_terms.specs.declared.lines.LogKind.TheVariants.{WithoutGoal}
 use Rattle.crew_size.specs.Sizes.{with_weeks, IsSize}
 use Rattle.crew_size.specs.Sections.{AreUpToHeading}
 use Rattle.crew_size.specs.Places.{MayFollow, IsNextOf, IsHeadingNumber, heading_line, first_size}
@@ -51,7 +52,7 @@ pub record OfLog (P : Instance) (m : ℕ) (bytes : List ℕ) (o : Outcome) : Typ
   pub whole : bytes ≡ log ++ rest
   pub cut : AreUpToHeading log rest
   pub verdict : Result Log LogRefusal
-  pub said : IsVerdict (with_weeks P m) log verdict
+  pub said : IsVerdict (with_weeks P m) WithoutGoal log verdict
   pub outcome : o ≡ of_log m verdict
 
 -- a roster breaks a rule, or it breaks none
@@ -105,8 +106,8 @@ no_other P sizes line h w e never k v may f =
 log_once : (P : Instance) (m : ℕ) (bytes : List ℕ) (o p : Outcome) → KeepsLimits (with_weeks P m) → OfLog P m bytes o → OfLog P m bytes p → o ≡ p
 log_once P m bytes o p limits h k =
     let same = cut_once h.log k.log h.rest k.rest h.cut k.cut (sym h.whole ∙ k.whole) in
-    let said : IsVerdict (with_weeks P m) h.log k.verdict = subst (λ l. IsVerdict (with_weeks P m) l k.verdict) (sym same.0) k.said in
-    h.outcome ∙ ap (of_log m) (verdict_unique (with_weeks P m) h.log h.verdict k.verdict (is_writable (with_weeks P m) limits) (has_names (with_weeks P m) limits) h.said said) ∙ sym k.outcome
+    let said : IsVerdict (with_weeks P m) WithoutGoal h.log k.verdict = subst (λ l. IsVerdict (with_weeks P m) WithoutGoal l k.verdict) (sym same.0) k.said in
+    h.outcome ∙ ap (of_log m) (verdict_unique (with_weeks P m) WithoutGoal h.log h.verdict k.verdict (is_writable (with_weeks P m) limits) (has_names (with_weeks P m) limits) h.said said) ∙ sym k.outcome
 
 cells_once : (P : Instance) (first m : ℕ) (s : List Symbol) (o p : Outcome) → OfCells P first m s o → OfCells P first m s p → o ≡ p
 cells_once P first m s o p (inl (b, breaks, e)) (inl (c, breaks', f)) =

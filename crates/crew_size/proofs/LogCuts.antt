@@ -10,12 +10,18 @@ use Rattle.rwsp_text.specs.Lines.{AreWords, AreLines, text_of_lines}
 use Rattle.rwsp_text.proofs.LineLaws.{join_no_feed}
 use Rattle.rwsp_terms.specs.Instance.{Instance}
 use Rattle.refutation_terms.specs.declared.lines.Line.{Line}
-use Rattle.refutation_terms.specs.declared.lines.Line.TheVariants.{Split}
-use Rattle.refutation_terms.specs.declared.lines.Turn.{Turn}
+use Rattle.refutation_terms.specs.declared.lines.Line.TheVariants.{Split, Closing, Unfinished}
+use Rattle.refutation_terms.specs.declared.lines.Opening.{Opening}
+use Rattle.refutation_terms.specs.declared.lines.Opening.TheVariants.{Full, Turned}
 use Rattle.refutation_terms.specs.LogText.{raw, line_text}
-use Rattle.refutation_terms.proofs.LineTables.{rules_fields}
-use Rattle.refutation_terms.proofs.Texts.{header_fields, lines_fields, log_fields, log_written, log_words}
+use Rattle.refutation_terms.proofs.LineTables.{rules_fields, version_fields}
+use Rattle.refutation_terms.proofs.Texts.{lines_fields, log_fields, log_written, log_words, version_of, third_fields}
 use Rattle.refutation_log.proofs.OneText.{is_writable, has_names}
+use Rattle.refutation_terms.specs.declared.lines.Leaf.TheVariants.{Window, Day, Words as OfWords, Few}
+use Rattle.refutation_terms.specs.declared.lines.WordClaim.TheVariants.{Dead, Light}
+use Rattle.refutation_terms.specs.declared.lines.Version.TheVariants.{Version1, Version2, Free1}
+use Rattle.refutation_terms.specs.declared.lines.Version.{Version}
+use Rattle.refutation_terms.specs.Log.{Log}
 use Rattle.crew_size.specs.Sections.{AreWholeLines, BeginsAsHeading, HasHeadingAt, AreUpToHeading}
 use Rattle.crew_size.specs.Laws.{LogsAreCutWhole}
 use Rattle.crew_size.proofs.Cuts.{line_goes_on}
@@ -109,25 +115,38 @@ rules_other : (R t : List ℕ) → opens (text_of (rules_fields R) ++ t) ≡ fal
 rules_other [] t = refl
 rules_other (k ∷ R) t = refl
 
-line_other : (P : Instance) (line : Line) (t : List ℕ) → opens (line_text P (raw P line) ++ t) ≡ false
-line_other P (Split p x) t = refl
-line_other P line t = refl
+line_other : (P : Instance) (goal : Option ℕ) (line : Line) (t : List ℕ) → opens (line_text P (raw P goal line) ++ t) ≡ false
+line_other P goal (Split p x) t = refl
+line_other P goal (Closing (Window rule p len)) t = refl
+line_other P goal (Closing (Day j x over)) t = refl
+line_other P goal (Closing (OfWords p R (Dead len))) t = refl
+line_other P None (Closing (OfWords p R (Light turns reward y))) t = refl
+line_other P (Some goal) (Closing (OfWords p R (Light turns reward y))) t = refl
+line_other P goal (Closing Few) t = refl
+line_other P goal Unfinished t = refl
 
-lines_other : (P : Instance) (lines : List Line) → AreLines (lines_fields P lines) → AreOther (lines_fields P lines)
-lines_other P [] are = tt
-lines_other P (line ∷ lines) are = (record { words = are.0; other = line_other P line }, lines_other P lines are.1)
+lines_other : (P : Instance) (goal : Option ℕ) (lines : List Line) → AreLines (lines_fields P goal lines) → AreOther (lines_fields P goal lines)
+lines_other P goal [] are = tt
+lines_other P goal (line ∷ lines) are = (record { words = are.0; other = line_other P goal line }, lines_other P goal lines are.1)
 
-log_other : (P : Instance) (named : List ℕ) (turn : Option Turn) (lines : List Line) → AreLines (header_fields P named turn ++ lines_fields P lines) → AreOther (header_fields P named turn ++ lines_fields P lines)
-log_other P named None lines are = (
-  record { words = are.0; other = λ t. refl },
-  (record { words = are.1.0; other = rules_other named }, lines_other P lines are.1.1),
-)
-log_other P named (Some turn) lines are = (
-  record { words = are.0; other = λ t. refl },
-  (record { words = are.1.0; other = rules_other named }, (record { words = are.1.1.0; other = λ t. refl }, lines_other P lines are.1.1.1)),
+third_other : (P : Instance) (o : Opening) (goal : Option ℕ) (lines : List Line) → AreLines (third_fields P o goal ++ lines_fields P goal lines) → AreOther (third_fields P o goal ++ lines_fields P goal lines)
+third_other P Full None lines are = lines_other P None lines are
+third_other P (Turned turn) None lines are = (record { words = are.0; other = λ t. refl }, lines_other P None lines are.1)
+third_other P Full (Some goal) lines are = (record { words = are.0; other = λ t. refl }, lines_other P (Some goal) lines are.1)
+third_other P (Turned turn) (Some goal) lines are = (record { words = are.0; other = λ t. refl }, lines_other P (Some goal) lines are.1)
+
+version_other : (v : Version) (t : List ℕ) → opens (text_of (version_fields v) ++ t) ≡ false
+version_other Version1 t = refl
+version_other Version2 t = refl
+version_other Free1 t = refl
+
+log_other : (P : Instance) (g : Log) → AreLines (log_fields P g) → AreOther (log_fields P g)
+log_other P g are = (
+  record { words = are.0; other = version_other (version_of g.opening g.goal) },
+  (record { words = are.1.0; other = rules_other g.named }, third_other P g.opening g.goal g.lines are.1.1),
 )
 
 pub logs_are_cut_whole : LogsAreCutWhole
 logs_are_cut_whole P g rest limits fits place =
     subst (λ t. AreUpToHeading t rest) (sym (log_written P g))
-    (cut_of_lines (log_fields P g) rest (log_other P g.named g.turn g.lines (log_words P g (is_writable P limits) (has_names P limits) fits)) place)
+    (cut_of_lines (log_fields P g) rest (log_other P g (log_words P g (is_writable P limits) (has_names P limits) fits)) place)

@@ -7,6 +7,8 @@ use Rattle.rwsp_terms.specs.Instance.{Instance}
 use Rattle.rwsp_model.specs.Validity.{KeepsLimits}
 use Rattle.refutation_terms.specs.Log.{Log, Passes}
 use Rattle.refutation_terms.specs.LogText.{log_text}
+use Rattle.refutation_terms.specs.declared.lines.LogKind.TheVariants.{WithoutGoal}
+use Rattle.refutation_terms.specs.Verdict.{kind_by}
 use Rattle.crew_size.specs.Sizes.{with_weeks, IsSize}
 use Rattle.crew_size.specs.Texts.{refuted_line, roster_line, none_line, section_text, sections_text}
 use Rattle.crew_size.specs.Sections.{BeginsAsHeading, AreUpToHeading, ArePassing, StandsBehindLogs, IsHeadingsPlace, IsNextSize, IsLastSize, IsHeading, line_behind}
@@ -120,6 +122,7 @@ refused_said P text Refusals.Ends h = record { low = h.low; logs = h.logs; rest 
 record Follows (P : Instance) (sizes : Option (ℕ × ℕ)) (m : ℕ) (log : Log) (text behind : List ℕ) : Type 0 where
   next : IsNextOf P sizes m
   size : IsSize P m
+  plain : kind_by log.goal ≡ WithoutGoal
   passes : Passes (with_weeks P m) log
   whole : text ≡ refuted_line m ++ (log_text (with_weeks P m) log ++ behind)
   place : (behind ≡ []) ⊎ BeginsAsHeading behind
@@ -132,12 +135,13 @@ follows_said : (P : Instance) (sizes : Option (ℕ × ℕ)) (m n : ℕ) (log : L
 follows_said P sizes m n log text behind limits f =
     let bytes : List ℕ = log_text (with_weeks P m) log in
     let w : IsHeadingNumber (Refuted m) = (f.size.some, size_is_short P m f.size) in
-    let of : OfLog P m (bytes ++ behind) None = record { log = bytes; rest = behind; whole = refl; cut = log_cut P m log behind limits f.size f.passes f.place; verdict = Ok log; said = (refl, f.passes); outcome = refl } in
+    let of : OfLog P m (bytes ++ behind) None = record { log = bytes; rest = behind; whole = refl; cut = log_cut P m log behind limits f.size f.passes f.place; verdict = Ok log; said = record { of_kind = f.plain; is_text = refl; passes = f.passes }; outcome = refl } in
     inr (refuted_line m, bytes ++ behind, f.whole, heading_is_line (Refuted m) (bytes ++ behind) w, inr (Refuted m, refl, w, f.next, of))
 
 tail_passing : (P : Instance) (low : ℕ) (g : Log) (logs : List Log) → ArePassing P low (g ∷ logs) → ArePassing P (low + 1) logs
 tail_passing P low g logs are = record {
   sizes = λ k h at. let same : low + suc k ≡ low + 1 + k = omega arith in subst (IsSize P) same (are.sizes (suc k) h at);
+  plain = λ k h at. are.plain (suc k) h at;
   passes = λ k h at. let same : low + suc k ≡ low + 1 + k = omega arith in subst (λ n. Passes (with_weeks P n) h) same (are.passes (suc k) h at);
 }
 
@@ -164,7 +168,7 @@ first_section P m g logs rest =
 follows_first : (P : Instance) (sizes : Option (ℕ × ℕ)) (m : ℕ) (g : Log) (logs : List Log) (rest text : List ℕ) → IsNextOf P sizes m → ArePassing P m (g ∷ logs) → IsHeadingsPlace (g ∷ logs) rest → text ≡ sections_text P m (g ∷ logs) ++ rest → Follows P sizes m g text (sections_text P (m + 1) logs ++ rest)
 follows_first P sizes m g logs rest text next are place e =
     let first = first_log P m g logs are in
-    record { next = next; size = first.0; passes = first.1; whole = e ∙ first_section P m g logs rest; place = rest_place P (m + 1) g logs rest place }
+    record { next = next; size = first.0; plain = are.plain 0 g refl; passes = first.1; whole = e ∙ first_section P m g logs rest; place = rest_place P (m + 1) g logs rest place }
 
 -- from line n on, behind sections of these sizes, the text has sections of these logs, and then this verdict
 abbrev Says : Instance → Option (ℕ × ℕ) → ℕ → List ℕ → List Log → Result Staffed StaffRefusal → Type 0

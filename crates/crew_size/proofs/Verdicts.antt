@@ -15,6 +15,7 @@ use Rattle.refutation_terms.specs.declared.lines.LogRefusal.{LogRefusal}
 use Rattle.refutation_terms.specs.Log.{Log}
 use Rattle.rwsp_text.specs.Lines.{IsNextLine}
 use Rattle.refutation_terms.specs.Verdict.{IsRefused, IsAccepted}
+use Rattle.refutation_terms.specs.declared.lines.LogKind.TheVariants.{WithoutGoal}
 use Rattle.crew_size.specs.Sizes.{with_weeks}
 use Rattle.crew_size.specs.Texts.{refuted_line, roster_line, none_line, sections_text}
 use Rattle.crew_size.specs.Sections.{ArePassing, StandsBehindLogs, AreUpToHeading, IsNextSize, IsLastSize, IsHeading, line_behind}
@@ -115,7 +116,7 @@ settled P text sizes m low (h ∷ logs) rest are next stands =
 
 -- the log of a section
 
-pub log_passed : (P : Instance) (text : List ℕ) (sizes : Option (ℕ × ℕ)) (line m : ℕ) (bytes log rest : List ℕ) (place : Place) (g : Log) → IsAccepted (with_weeks P m) log g → IsNextOf P sizes m → bytes ≡ log ++ rest → AreUpToHeading log rest → place.sizes ≡ Some (first_size sizes m, m + 1) → place.rest ≡ rest → place.line ≡ line + (1 + feeds log) → IsAt P text sizes line (refuted_line m) bytes → IsPlace P text place
+pub log_passed : (P : Instance) (text : List ℕ) (sizes : Option (ℕ × ℕ)) (line m : ℕ) (bytes log rest : List ℕ) (place : Place) (g : Log) → IsAccepted (with_weeks P m) WithoutGoal log g → IsNextOf P sizes m → bytes ≡ log ++ rest → AreUpToHeading log rest → place.sizes ≡ Some (first_size sizes m, m + 1) → place.rest ≡ rest → place.line ≡ line + (1 + feeds log) → IsAt P text sizes line (refuted_line m) bytes → IsPlace P text place
 log_passed P text sizes line m bytes log rest place g accepted next e cut a b c at =
     let first : ℕ = first_size sizes m in
     let settle = settled P text sizes m at.low at.logs (refuted_line m ++ bytes) at.known next at.stands in
@@ -124,14 +125,14 @@ log_passed P text sizes line m bytes log rest place g accepted next e cut a b c 
     record {
       low = first;
       logs = at.logs ++ g ∷ [];
-      stands = subst (StandsBehindLogs P text first (at.logs ++ g ∷ [])) (sym b) (one_more_stands P text first m at.logs g log rest settle.stands.passing settle.size size accepted.0 accepted.1 whole cut);
+      stands = subst (StandsBehindLogs P text first (at.logs ++ g ∷ [])) (sym b) (one_more_stands P text first m at.logs g log rest settle.stands.passing settle.size size accepted.is_text accepted.of_kind accepted.passes whole cut);
       sizes = subst (AreSizes first (at.logs ++ g ∷ [])) (sym a) (sizes_one_more first m at.logs g settle.size);
       line =
           c ∙ ap (λ n. n + (1 + feeds log)) (at.number ∙ ap line_behind settle.same)
-          ∙ sym (line_behind_one_more P first m at.logs g log settle.size size accepted.0);
+          ∙ sym (line_behind_one_more P first m at.logs g log settle.size size accepted.is_text);
     }
 
-pub log_refused : (P : Instance) (text : List ℕ) (sizes : Option (ℕ × ℕ)) (line m : ℕ) (bytes log rest : List ℕ) (why : LogRefusal) → IsRefused (with_weeks P m) log why → IsNextOf P sizes m → bytes ≡ log ++ rest → AreUpToHeading log rest → IsAt P text sizes line (refuted_line m) bytes → HasRefusedLog P text m why
+pub log_refused : (P : Instance) (text : List ℕ) (sizes : Option (ℕ × ℕ)) (line m : ℕ) (bytes log rest : List ℕ) (why : LogRefusal) → IsRefused (with_weeks P m) WithoutGoal log why → IsNextOf P sizes m → bytes ≡ log ++ rest → AreUpToHeading log rest → IsAt P text sizes line (refuted_line m) bytes → HasRefusedLog P text m why
 log_refused P text sizes line m bytes log rest why refused next e cut at = record {
   low = at.low;
   logs = at.logs;

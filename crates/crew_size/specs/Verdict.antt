@@ -13,6 +13,7 @@ use Rattle.refutation_terms.specs.declared.lines.LogRefusal.{LogRefusal}
 use Rattle.refutation_terms.specs.Log.{Log}
 use Rattle.rwsp_text.specs.Lines.{IsNextLine}
 use Rattle.refutation_terms.specs.Verdict.{IsRefused}
+use Rattle.refutation_terms.specs.declared.lines.LogKind.TheVariants.{WithoutGoal}
 use Rattle.crew_size.specs.Sizes.{with_weeks}
 use Rattle.crew_size.specs.Texts.{refuted_line, roster_line, none_line, sections_text}
 use Rattle.crew_size.specs.Sections.{StandsBehindLogs, AreUpToHeading, IsNextSize, IsLastSize, IsHeading, line_behind}
@@ -94,7 +95,7 @@ pub record HasRefusedLog (P : Instance) (text : List ℕ) (m : ℕ) (why : LogRe
   pub stands : StandsBehindLogs P text low logs (refuted_line m ++ bytes ++ rest)
   pub next : IsNextSize P low logs m
   pub log : AreUpToHeading bytes rest
-  pub refused : IsRefused (with_weeks P m) bytes why
+  pub refused : IsRefused (with_weeks P m) WithoutGoal bytes why
 
 -- the roster at the end is refused
 pub record HasRefusedRoster (P : Instance) (text : List ℕ) (m : ℕ) (why : RosterRefusal) : Type 0 where

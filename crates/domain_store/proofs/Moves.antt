@@ -1,5 +1,5 @@
 -- What the moves of a walk leave.
-use Rattle.std.proofs.Common.{◌≡◌, ℕ, ◌+◌, ◌-◌, ◌*◌, ◌<◌, ◌≤◌, List, [], ◌∷◌, ◌++◌, length, take, Option, Some, None, refl, ap, sym, ◌∙◌, subst, arith, Bool, true, false, ◌&&◌, ◌||◌, ◌==◌, not, IsTrue, cond}
+use Rattle.std.proofs.Common.{◌≡◌, ℕ, ◌+◌, ◌-◌, ◌*◌, ◌<◌, ◌≤◌, List, [], ◌∷◌, ◌++◌, length, take, refl, ap, sym, ◌∙◌, subst, arith, Bool, true, false, ◌&&◌, ◌||◌, ◌==◌, not, IsTrue, cond}
 use Rattle.std.proofs.Math.Bool.{and-true}
 use Rattle.std.proofs.Math.Nat.{mul-le-mul_right}
 use Rattle.std.specs.Prelude.{◌↔◌, nat_le}
@@ -13,10 +13,12 @@ use Rattle.rwsp_terms.specs.Instance.{Instance, cells, shift_count}
 use Rattle.rwsp_model.specs.Validity.{KeepsLimits}
 use Rattle.refutation_terms.specs.declared.lines.Line.{Line}
 use Rattle.refutation_terms.specs.declared.lines.Line.TheVariants.{Split, Unfinished}
+use Rattle.refutation_terms.specs.declared.lines.Opening.{Opening}
+use Rattle.refutation_terms.specs.declared.lines.Opening.TheVariants.{Full, Turned}
 use Rattle.refutation_terms.specs.declared.lines.Turn.{Turn}
 use Rattle.refutation_terms.specs.Word.{Domains, AreSame}
 use Rattle.refutation_terms.specs.Tree.{IsLeaf, Leaf, IsTree, after_trees, opening, lines_leave, domains_at, is_idle}
-use Rattle.refutation_terms.specs.Log.{TurnFits}
+use Rattle.refutation_terms.specs.Log.{OpeningFits}
 use Rattle.domain_store.specs.Store.{Store, store_at, domain_at, has_domain, changed, full_store, HasSameShape, BelongsTo, IsStore, HasDomains}
 use Rattle.domain_store.specs.declared.open_split.OpenSplit.{OpenSplit}
 use Rattle.domain_store.specs.Splits.{Agrees, IsSplitAt, NoLines, InSplits, HasRead, IsBehindTree, second_sides_to_come, is_idle_in}
@@ -52,12 +54,12 @@ side_crossed n S T U D splits outer after lines o set e first at_mark same chang
     subst (λ s. InSplits NoLines n U D 0 s lines) (sym is) done
 
 -- a walk that has read no line
-pub at_start : (P : Instance) (turn : Option Turn) (S : Store) (splits : List OpenSplit) → IsStore S → BelongsTo P S → splits ≡ [] → AreSame P (has_domain S) (opening P turn) → IsStateOf P turn [] (record { store = S; splits = splits; whole = false })
-at_start P turn S splits now belongs none agrees =
-    let here : Agrees (length S.sets) S (opening P turn) = λ p z lt. agrees p z (subst (λ m. p < m) (positions_of P S now belongs) lt) in
+pub at_start : (P : Instance) (start : Opening) (S : Store) (splits : List OpenSplit) → IsStore S → BelongsTo P S → splits ≡ [] → AreSame P (has_domain S) (opening P start) → IsStateOf P start [] (record { store = S; splits = splits; whole = false })
+at_start P start S splits now belongs none agrees =
+    let here : Agrees (length S.sets) S (opening P start) = λ p z lt. agrees p z (subst (λ m. p < m) (positions_of P S now belongs) lt) in
     record {
       belongs = belongs;
-      read = subst (λ s. InSplits NoLines (length S.sets) S (opening P turn) 0 s []) (sym none) (omega arith, here, refl);
+      read = subst (λ s. InSplits NoLines (length S.sets) S (opening P start) 0 s []) (sym none) (omega arith, here, refl);
     }
 
 pub belongs_still : (P : Instance) (S T : Store) → BelongsTo P S → HasSameShape S T → BelongsTo P T
@@ -67,18 +69,18 @@ belongs_still P S T b same = record {
   shifts = same.shifts ∙ b.shifts;
 }
 
-part_of : (P : Instance) (turn : Option Turn) (lines : List Line) (S : Store) (splits : List OpenSplit) (whole : Bool) → whole ≡ false → IsStateOf P turn lines (record { store = S; splits = splits; whole = whole }) → InSplits NoLines (length S.sets) S (opening P turn) 0 splits lines
-part_of P turn lines S splits whole part w = subst (λ b. HasRead b (length S.sets) S (opening P turn) splits lines) part w.read
+part_of : (P : Instance) (start : Opening) (lines : List Line) (S : Store) (splits : List OpenSplit) (whole : Bool) → whole ≡ false → IsStateOf P start lines (record { store = S; splits = splits; whole = whole }) → InSplits NoLines (length S.sets) S (opening P start) 0 splits lines
+part_of P start lines S splits whole part w = subst (λ b. HasRead b (length S.sets) S (opening P start) splits lines) part w.read
 
 -- a split was read
-pub behind_split : (P : Instance) (turn : Option Turn) (lines : List Line) (S T : Store) (splits after : List OpenSplit) (whole : Bool) (p : ℕ) (x : Symbol) (o : OpenSplit) → whole ≡ false → o.p ≡ p → o.x ≡ x → o.in_second ≡ false → o.mark.len ≡ length S.trail → store_at S o.mark.len ≡ S → p < length S.sets → is_idle_in S p x.number ≡ false → T ≡ changed S p (x.number ∷ []) → HasSameShape S T → ((q y : ℕ) → has_domain T q y ≡ ((not (q == p) || (y == x.number)) && has_domain S q y)) → ((len : ℕ) → len ≤ length S.trail → store_at T len ≡ store_at S len) → after ≡ splits ++ o ∷ [] → IsStateOf P turn lines (record { store = S; splits = splits; whole = whole }) → IsStateOf P turn (lines ++ Split p x ∷ []) (record { store = T; splits = after; whole = whole })
-behind_split P turn lines S T splits after whole p x o part is_p is_x first at_end here position useful change same has kept is w =
+pub behind_split : (P : Instance) (start : Opening) (lines : List Line) (S T : Store) (splits after : List OpenSplit) (whole : Bool) (p : ℕ) (x : Symbol) (o : OpenSplit) → whole ≡ false → o.p ≡ p → o.x ≡ x → o.in_second ≡ false → o.mark.len ≡ length S.trail → store_at S o.mark.len ≡ S → p < length S.sets → is_idle_in S p x.number ≡ false → T ≡ changed S p (x.number ∷ []) → HasSameShape S T → ((q y : ℕ) → has_domain T q y ≡ ((not (q == p) || (y == x.number)) && has_domain S q y)) → ((len : ℕ) → len ≤ length S.trail → store_at T len ≡ store_at S len) → after ≡ splits ++ o ∷ [] → IsStateOf P start lines (record { store = S; splits = splits; whole = whole }) → IsStateOf P start (lines ++ Split p x ∷ []) (record { store = T; splits = after; whole = whole })
+behind_split P start lines S T splits after whole p x o part is_p is_x first at_end here position useful change same has kept is w =
     let grown : length T.trail ≡ length S.trail + 1 = ap (λ V. length V.trail) change ∙ length_push S.trail (record { position = p; before = domain_at S p }) in
     let longer : length S.trail ≤ length T.trail = omega (arith, grown) in
-    let as_split : (q : ℕ) (y : Symbol) → q ≡ o.p → y ≡ o.x → InSplits NoLines (length S.sets) T (opening P turn) 0 (splits ++ o ∷ []) (lines ++ Split q y ∷ []) = λ q y eq ey.
-    subst (λ r. InSplits NoLines (length S.sets) T (opening P turn) 0 (splits ++ o ∷ []) (lines ++ Split r y ∷ [])) (sym eq)
-    (subst (λ z. InSplits NoLines (length S.sets) T (opening P turn) 0 (splits ++ o ∷ []) (lines ++ Split o.p z ∷ [])) (sym ey)
-    (split_read (length S.sets) S T (opening P turn) splits lines o first at_end
+    let as_split : (q : ℕ) (y : Symbol) → q ≡ o.p → y ≡ o.x → InSplits NoLines (length S.sets) T (opening P start) 0 (splits ++ o ∷ []) (lines ++ Split q y ∷ []) = λ q y eq ey.
+    subst (λ r. InSplits NoLines (length S.sets) T (opening P start) 0 (splits ++ o ∷ []) (lines ++ Split r y ∷ [])) (sym eq)
+    (subst (λ z. InSplits NoLines (length S.sets) T (opening P start) 0 (splits ++ o ∷ []) (lines ++ Split o.p z ∷ [])) (sym ey)
+    (split_read (length S.sets) S T (opening P start) splits lines o first at_end
     (subst (λ r. r < length S.sets) (sym is_p) position)
     (subst (λ r. IsTrue (has_domain S r o.x.number)) (sym is_p) (subst (λ z. IsTrue (has_domain S p z.number)) (sym is_x) (held_where_useful S p x.number useful)))
     (subst (λ r. 2 ≤ length (domain_at S r)) (sym is_p) (more_where_useful S p x.number useful))
@@ -86,17 +88,17 @@ behind_split P turn lines S T splits after whole p x o part is_p is_x first at_e
     (subst (λ r. (q y : ℕ) → has_domain T q y ≡ ((not (q == r) || (y == o.x.number)) && has_domain S q y)) (sym is_p)
     (subst (λ z. (q y : ℕ) → has_domain T q y ≡ ((not (q == p) || (y == z.number)) && has_domain S q y)) (sym is_x) has))
     kept longer
-    (part_of P turn lines S splits whole part w))) in
-    let there : InSplits NoLines (length S.sets) T (opening P turn) 0 after (lines ++ Split p x ∷ []) = subst (λ s. InSplits NoLines (length S.sets) T (opening P turn) 0 s (lines ++ Split p x ∷ [])) (sym is) (as_split p x (sym is_p) (sym is_x)) in
+    (part_of P start lines S splits whole part w))) in
+    let there : InSplits NoLines (length S.sets) T (opening P start) 0 after (lines ++ Split p x ∷ []) = subst (λ s. InSplits NoLines (length S.sets) T (opening P start) 0 s (lines ++ Split p x ∷ [])) (sym is) (as_split p x (sym is_p) (sym is_x)) in
     record {
       belongs = belongs_still P S T w.belongs same;
-      read = subst (λ b. HasRead b (length T.sets) T (opening P turn) after (lines ++ Split p x ∷ [])) (sym part) (subst (λ n. InSplits NoLines n T (opening P turn) 0 after (lines ++ Split p x ∷ [])) (sym same.positions) there);
+      read = subst (λ b. HasRead b (length T.sets) T (opening P start) after (lines ++ Split p x ∷ [])) (sym part) (subst (λ n. InSplits NoLines n T (opening P start) 0 after (lines ++ Split p x ∷ [])) (sym same.positions) there);
     }
 
 -- a whole tree was read, and ends what it ends
-pub tree_follows : (P : Instance) (turn : Option Turn) (lines tree : List Line) (S : Store) (splits : List OpenSplit) (whole : Bool) → IsTree tree → whole ≡ false → IsStateOf P turn lines (record { store = S; splits = splits; whole = whole }) → InSplits IsTree (length S.sets) S (opening P turn) 0 splits (lines ++ tree)
-tree_follows P turn lines tree S splits whole is_tree part w =
-    tree_read (length S.sets) S (opening P turn) splits lines tree is_tree (part_of P turn lines S splits whole part w)
+pub tree_follows : (P : Instance) (start : Opening) (lines tree : List Line) (S : Store) (splits : List OpenSplit) (whole : Bool) → IsTree tree → whole ≡ false → IsStateOf P start lines (record { store = S; splits = splits; whole = whole }) → InSplits IsTree (length S.sets) S (opening P start) 0 splits (lines ++ tree)
+tree_follows P start lines tree S splits whole is_tree part w =
+    tree_read (length S.sets) S (opening P start) splits lines tree is_tree (part_of P start lines S splits whole part w)
 
 -- a leaf is a whole tree
 pub leaf_is_tree : (leaf : Line) → IsLeaf leaf → IsTree (leaf ∷ [])
@@ -105,10 +107,10 @@ leaf_is_tree leaf is_leaf = (Leaf leaf is_leaf, refl)
 pub leaf_can_end : (S : Store) (splits : List OpenSplit) (whole : Bool) → whole ≡ false → IsWalk (record { store = S; splits = splits; whole = whole }) → IsBehindTree S splits
 leaf_can_end S splits whole part w = (opening w.0 w.1, w.2 ++ Unfinished ∷ [], tree_follows w.0 w.1 w.2 (Unfinished ∷ []) S splits whole (leaf_is_tree Unfinished tt) part w.3)
 
-pub behind_tree : (P : Instance) (turn : Option Turn) (lines tree : List Line) (S T : Store) (splits after : List OpenSplit) (whole ended : Bool) → IsTree tree → whole ≡ false → HasSameShape S T → ((D : Domains) (lines : List Line) → InSplits IsTree (length S.sets) S D 0 splits lines → HasRead ended (length S.sets) T D after lines) → IsStateOf P turn lines (record { store = S; splits = splits; whole = whole }) → IsStateOf P turn (lines ++ tree) (record { store = T; splits = after; whole = ended })
-behind_tree P turn lines tree S T splits after whole ended is_tree part same ends w = record {
+pub behind_tree : (P : Instance) (start : Opening) (lines tree : List Line) (S T : Store) (splits after : List OpenSplit) (whole ended : Bool) → IsTree tree → whole ≡ false → HasSameShape S T → ((D : Domains) (lines : List Line) → InSplits IsTree (length S.sets) S D 0 splits lines → HasRead ended (length S.sets) T D after lines) → IsStateOf P start lines (record { store = S; splits = splits; whole = whole }) → IsStateOf P start (lines ++ tree) (record { store = T; splits = after; whole = ended })
+behind_tree P start lines tree S T splits after whole ended is_tree part same ends w = record {
   belongs = belongs_still P S T w.belongs same;
-  read = subst (λ n. HasRead ended n T (opening P turn) after (lines ++ tree)) (sym same.positions) (ends (opening P turn) (lines ++ tree) (tree_follows P turn lines tree S splits whole is_tree part w));
+  read = subst (λ n. HasRead ended n T (opening P start) after (lines ++ tree)) (sym same.positions) (ends (opening P start) (lines ++ tree) (tree_follows P start lines tree S splits whole is_tree part w));
 }
 
 pub still_walk : (S T : Store) (splits after : List OpenSplit) (whole ended : Bool) → whole ≡ false → HasSameShape S T → ((D : Domains) (lines : List Line) → InSplits IsTree (length S.sets) S D 0 splits lines → HasRead ended (length S.sets) T D after lines) → IsWalk (record { store = S; splits = splits; whole = whole }) → IsWalk (record { store = T; splits = after; whole = ended })
@@ -116,28 +118,28 @@ still_walk S T splits after whole ended part same ends w =
     (w.0, w.1, w.2 ++ Unfinished ∷ [], behind_tree w.0 w.1 w.2 (Unfinished ∷ []) S T splits after whole ended (leaf_is_tree Unfinished tt) part same ends w.3)
 
 -- the domains are those of the next line
-pub state_domains : (P : Instance) (turn : Option Turn) (lines : List Line) (S : Store) (splits : List OpenSplit) (whole : Bool) → IsStore S → IsStateOf P turn lines (record { store = S; splits = splits; whole = whole }) → AreSame P (has_domain S) (domains_at P turn lines (length lines))
-state_domains P turn lines S splits whole now w p x lt =
+pub state_domains : (P : Instance) (start : Opening) (lines : List Line) (S : Store) (splits : List OpenSplit) (whole : Bool) → IsStore S → IsStateOf P start lines (record { store = S; splits = splits; whole = whole }) → AreSame P (has_domain S) (domains_at P start lines (length lines))
+state_domains P start lines S splits whole now w p x lt =
     let inside : p < length S.sets = subst (λ m. p < m) (sym (positions_of P S now w.belongs)) lt in
     let le : length lines ≤ length lines = omega arith in
-    read_leaves whole (length S.sets) S (opening P turn) splits lines w.read p x inside
-    ∙ ap (λ ls. opening P turn p x && lines_leave ls p x) (sym (take_all (length lines) lines le))
+    read_leaves whole (length S.sets) S (opening P start) splits lines w.read p x inside
+    ∙ ap (λ ls. opening P start p x && lines_leave ls p x) (sym (take_all (length lines) lines le))
 
-pub state_idle : (P : Instance) (turn : Option Turn) (lines : List Line) (S : Store) (splits : List OpenSplit) (whole : Bool) → IsStore S → HasDomains S → IsStateOf P turn lines (record { store = S; splits = splits; whole = whole }) → (p x : ℕ) → p < length S.sets → is_idle_in S p x ≡ is_idle P (domains_at P turn lines (length lines)) p x
-state_idle P turn lines S splits whole now tests w p x inside =
+pub state_idle : (P : Instance) (start : Opening) (lines : List Line) (S : Store) (splits : List OpenSplit) (whole : Bool) → IsStore S → HasDomains S → IsStateOf P start lines (record { store = S; splits = splits; whole = whole }) → (p x : ℕ) → p < length S.sets → is_idle_in S p x ≡ is_idle P (domains_at P start lines (length lines)) p x
+state_idle P start lines S splits whole now tests w p x inside =
     let lt : p < cells P = subst (λ m. p < m) (positions_of P S now w.belongs) inside in
-    idle_in_store P (domains_at P turn lines (length lines)) S p x now tests w.belongs inside (λ z. state_domains P turn lines S splits whole now w p z lt)
+    idle_in_store P (domains_at P start lines (length lines)) S p x now tests w.belongs inside (λ z. state_domains P start lines S splits whole now w p z lt)
 
-pub state_whole : (P : Instance) (turn : Option Turn) (lines : List Line) (S : Store) (splits : List OpenSplit) (whole : Bool) → IsStateOf P turn lines (record { store = S; splits = splits; whole = whole }) → (whole ≡ true) ↔ IsTree lines
-state_whole P turn lines S splits whole w = read_is_tree whole (length S.sets) S (opening P turn) splits lines w.read
+pub state_whole : (P : Instance) (start : Opening) (lines : List Line) (S : Store) (splits : List OpenSplit) (whole : Bool) → IsStateOf P start lines (record { store = S; splits = splits; whole = whole }) → (whole ≡ true) ↔ IsTree lines
+state_whole P start lines S splits whole w = read_is_tree whole (length S.sets) S (opening P start) splits lines w.read
 
-pub state_ended : (P : Instance) (turn : Option Turn) (lines rest : List Line) (S : Store) (splits : List OpenSplit) (whole : Bool) → whole ≡ true → IsStateOf P turn lines (record { store = S; splits = splits; whole = whole }) → after_trees 1 (lines ++ rest) ≡ after_trees 0 rest
-state_ended P turn lines rest S splits whole ended w =
-    read_whole (length S.sets) S (opening P turn) splits lines rest (subst (λ b. HasRead b (length S.sets) S (opening P turn) splits lines) ended w.read)
+pub state_ended : (P : Instance) (start : Opening) (lines rest : List Line) (S : Store) (splits : List OpenSplit) (whole : Bool) → whole ≡ true → IsStateOf P start lines (record { store = S; splits = splits; whole = whole }) → after_trees 1 (lines ++ rest) ≡ after_trees 0 rest
+state_ended P start lines rest S splits whole ended w =
+    read_whole (length S.sets) S (opening P start) splits lines rest (subst (λ b. HasRead b (length S.sets) S (opening P start) splits lines) ended w.read)
 
-pub state_open : (P : Instance) (turn : Option Turn) (lines rest : List Line) (S : Store) (splits : List OpenSplit) (whole : Bool) → whole ≡ false → IsStateOf P turn lines (record { store = S; splits = splits; whole = whole }) → after_trees 1 (lines ++ rest) ≡ after_trees (second_sides_to_come splits + 1) rest
-state_open P turn lines rest S splits whole part w =
-    read_part (length S.sets) S (opening P turn) splits lines rest (part_of P turn lines S splits whole part w)
+pub state_open : (P : Instance) (start : Opening) (lines rest : List Line) (S : Store) (splits : List OpenSplit) (whole : Bool) → whole ≡ false → IsStateOf P start lines (record { store = S; splits = splits; whole = whole }) → after_trees 1 (lines ++ rest) ≡ after_trees (second_sides_to_come splits + 1) rest
+state_open P start lines rest S splits whole part w =
+    read_part (length S.sets) S (opening P start) splits lines rest (part_of P start lines S splits whole part w)
 
 -- full domains have two symbols at least
 pub two_in_full : (P : Instance) (S : Store) (p : ℕ) → KeepsLimits P → S ≡ full_store P → p < cells P → 2 ≤ length (domain_at S p)
@@ -145,30 +147,30 @@ two_in_full P S p limits e lt =
     let at : domain_at S p ≡ range_with_len 0 (shift_count P + 1) = ap (λ T. domain_at T p) e ∙ get_or-replicate (cells P) p (range_with_len 0 (shift_count P + 1)) [] lt in
     omega (arith, ap length at, length-range_with_len 0 (shift_count P + 1), limits.some_shifts)
 
--- the day of a turn is one of the first week
-turn_fits : (P : Instance) (turn : Option Turn) (t : Turn) → TurnFits P turn → turn ≡ Some t → TurnFits P (Some t)
-turn_fits P turn t h e = subst (TurnFits P) e h
+-- the day of a start is one of the first week
+turn_fits : (P : Instance) (start : Opening) (t : Turn) → OpeningFits P start → start ≡ Turned t → OpeningFits P (Turned t)
+turn_fits P start t h e = subst (OpeningFits P) e h
 
 pub full_position : (P : Instance) (p : ℕ) → p < cells P → p < length (full_store P).sets
 full_position P p lt = subst (λ n. p < n) (sym (length-replicate (cells P) (range_with_len 0 (shift_count P + 1)))) lt
 
-pub symbol_held : (P : Instance) (turn : Option Turn) (t : Turn) → TurnFits P turn → turn ≡ Some t → nat_le t.x.number (shift_count P) ≡ true
-symbol_held P turn t h e = le-leb t.x.number (shift_count P) (turn_fits P turn t h e).1
+pub symbol_held : (P : Instance) (start : Opening) (t : Turn) → OpeningFits P start → start ≡ Turned t → nat_le t.x.number (shift_count P) ≡ true
+symbol_held P start t h e = le-leb t.x.number (shift_count P) (turn_fits P start t h e).1
 
--- the domains at the first line, with the turn's symbol alone on its day or with all symbols
-pub open_with_turn : (P : Instance) (S T : Store) (turn : Option Turn) (t : Turn) → turn ≡ Some t → ((p x : ℕ) → p < cells P → has_domain S p x ≡ nat_le x (shift_count P)) → ((q y : ℕ) → has_domain T q y ≡ ((not (q == t.day - 1) || (y == t.x.number)) && has_domain S q y)) → AreSame P (has_domain T) (opening P turn)
-open_with_turn P S T turn t e full has p x lt =
+-- the domains at the first line, with the start's symbol alone on its day or with all symbols
+pub open_with_turn : (P : Instance) (S T : Store) (start : Opening) (t : Turn) → start ≡ Turned t → ((p x : ℕ) → p < cells P → has_domain S p x ≡ nat_le x (shift_count P)) → ((q y : ℕ) → has_domain T q y ≡ ((not (q == t.day - 1) || (y == t.x.number)) && has_domain S q y)) → AreSame P (has_domain T) (opening P start)
+open_with_turn P S T start t e full has p x lt =
     has p x
     ∙ narrowed_there p (t.day - 1) (x == t.x.number) (has_domain S p x) (nat_le x (shift_count P)) (full p x lt)
     ∙ ap (λ o. opening P o p x) (sym e)
 
-pub open_without_turn : (P : Instance) (S : Store) (turn : Option Turn) → ((t : Turn) → turn ≡ Some t → ⊥) → ((p x : ℕ) → p < cells P → has_domain S p x ≡ nat_le x (shift_count P)) → AreSame P (has_domain S) (opening P turn)
-open_without_turn P S None none full p x lt = full p x lt ∙ sym (and-true (nat_le x (shift_count P)))
-open_without_turn P S (Some t) none full p x lt = absurd (none t refl)
+pub open_without_turn : (P : Instance) (S : Store) (start : Opening) → start ≡ Full → ((p x : ℕ) → p < cells P → has_domain S p x ≡ nat_le x (shift_count P)) → AreSame P (has_domain S) (opening P start)
+open_without_turn P S Full none full p x lt = full p x lt ∙ sym (and-true (nat_le x (shift_count P)))
+open_without_turn P S (Turned t) none full p x lt = absurd (cc)
 
-pub day_within : (P : Instance) (turn : Option Turn) (t : Turn) → KeepsLimits P → TurnFits P turn → turn ≡ Some t → t.day - 1 < cells P
-day_within P turn t limits h e =
-    let fits : TurnFits P (Some t) = turn_fits P turn t h e in
+pub day_within : (P : Instance) (start : Opening) (t : Turn) → KeepsLimits P → OpeningFits P start → start ≡ Turned t → t.day - 1 < cells P
+day_within P start t limits h e =
+    let fits : OpeningFits P (Turned t) = turn_fits P start t h e in
     let some : 0 < t.day = fits.0.0 in
     let few : t.day ≤ P.days = fits.0.1 in
     let weeks : 1 ≤ P.weeks = limits.some_weeks in

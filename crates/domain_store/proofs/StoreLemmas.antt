@@ -1,9 +1,8 @@
 -- Stores at their marks, and what domains keep through a change and its undoing.
-use Rattle.std.proofs.Common.{◌≡◌, ◌≢◌, ℕ, ◌+◌, ◌-◌, ◌*◌, ◌<◌, ◌≤◌, List, [], ◌∷◌, ◌++◌, length, Bool, true, false, refl, ap, sym, ◌∙◌, arith, subst, get_or, set, take, drop, replicate, eqb, leb, inl, inr}
+use Rattle.std.proofs.Common.{◌≡◌, ◌≢◌, ℕ, ◌+◌, ◌-◌, ◌*◌, ◌<◌, ◌≤◌, List, [], ◌∷◌, ◌++◌, length, Bool, true, false, refl, ap, sym, ◌∙◌, arith, subst, get_or, set, take, drop, replicate, eqb, leb, inl, inr, mul-le-mul}
 use Rattle.std.specs.Prelude.{◌↔◌, All, ◌&&◌, ◌||◌, not, map}
 use Rattle.std.specs.List.{range_with_len}
 use Rattle.std.specs.List.Sorted.{IsStrictlyIncreasing}
-use Rattle.std.proofs.Common.{mul-le-mul}
 use Rattle.std.proofs.lemmas.Bool.{or_cases, or_left, or_right, false≢true, eqb-true, cases_lt, cases_eq, eq-eqb, ne_eqb}
 use Rattle.std.proofs.lemmas.List.{get_or-map, get_or-replicate, get_or_push, drop_all, take_all, drop-append-le, take-append-le, take-append-drop, take-take, set-set, set-get_or, length-set, length_push, length-take-le, get_or-set_same, get_or-set_other, length-replicate, drop_at, take_at, get_or_past, length-map}
 use Rattle.std.proofs.lemmas.List.Elements.{All-set, All-push, All-get_or, All-replicate, All-nil}

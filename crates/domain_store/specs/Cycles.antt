@@ -4,8 +4,10 @@ use Rattle.rwsp_terms.specs.declared.data.Symbol.{Symbol}
 use Rattle.rwsp_terms.specs.Instance.{Instance, cells}
 use Rattle.rwsp_terms.specs.Rules.{NamesShortRules}
 use Rattle.refutation_terms.specs.declared.lines.Line.{Line}
-use Rattle.refutation_terms.specs.declared.lines.Line.TheVariants.{Dead}
-use Rattle.refutation_terms.specs.Log.{AreRules}
+use Rattle.refutation_terms.specs.declared.lines.Line.TheVariants.{Closing}
+use Rattle.refutation_terms.specs.declared.lines.Leaf.TheVariants.{Words}
+use Rattle.refutation_terms.specs.declared.lines.WordClaim.TheVariants.{Dead}
+use Rattle.refutation_terms.specs.Ranges.{AreRules}
 use Rattle.refutation_terms.specs.Word.{Domains}
 use Rattle.refutation_terms.specs.Tree.{is_idle}
 use Rattle.refutation_terms.specs.Sharp.{NoWordHas}
@@ -17,7 +19,7 @@ pub record AreShortRules (P : Instance) (R : List ℕ) : Type 0 where
 
 -- the dead leaf of two turns from position 0 on, by all short rules
 abbrev pub IsCycleLeaf : Instance → Line → Type 0
-IsCycleLeaf P (Dead p len R) = (p ≡ 0) × (len ≡ 2 * cells P) × AreShortRules P R
+IsCycleLeaf P (Closing (Words p R (Dead len))) = (p ≡ 0) × (len ≡ 2 * cells P) × AreShortRules P R
 IsCycleLeaf P line = ⊥
 
 -- the symbol is beside another in the domain of the position, and no word of two turns that is clean for the

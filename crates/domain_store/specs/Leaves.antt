@@ -4,12 +4,12 @@ use Rattle.rwsp_terms.specs.Instance.{Instance}
 use Rattle.refutation_terms.specs.declared.lines.Line.{Line}
 use Rattle.refutation_terms.specs.Word.{Domains}
 use Rattle.refutation_terms.specs.Tree.{IsLeaf}
-use Rattle.refutation_terms.specs.Log.{HoldsFor, LineFitsFor, ListsShortOnly}
+use Rattle.refutation_terms.specs.Log.{Holds, LineFits, ListsShortOnly}
 
 -- a leaf with its numbers in their ranges, with short rules only in its list, and it holds under the domains, for this
 -- goal or none
-pub record IsHoldingLeafFor (P : Instance) (goal : Option ℕ) (D : Domains) (line : Line) : Type 0 where
+pub record IsHoldingLeaf (P : Instance) (goal : Option ℕ) (D : Domains) (line : Line) : Type 0 where
   pub leaf : IsLeaf line
-  pub fits : LineFitsFor P goal line
+  pub fits : LineFits P goal line
   pub short : ListsShortOnly P line
-  pub holds : HoldsFor P goal D line
+  pub holds : Holds P goal D line

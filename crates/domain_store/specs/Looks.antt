@@ -3,27 +3,28 @@ use Rattle.std.specs.Prelude.{◌≡◌, ◌≢◌, ◌↔◌, ℕ, ◌<◌, Boo
 use Rattle.rwsp_terms.specs.declared.data.Symbol.{Symbol}
 use Rattle.rwsp_terms.specs.Instance.{Instance, cells}
 use Rattle.refutation_terms.specs.declared.lines.Line.{Line}
-use Rattle.refutation_terms.specs.declared.lines.Line.TheVariants.{Split, Window, Day, Bound, Free}
+use Rattle.refutation_terms.specs.declared.lines.Line.TheVariants.{Split, Closing}
+use Rattle.refutation_terms.specs.declared.lines.Leaf.TheVariants.{Window, Day, Words}
+use Rattle.refutation_terms.specs.declared.lines.WordClaim.TheVariants.{Light}
 use Rattle.refutation_terms.specs.Tree.{First, narrowed, is_idle}
 use Rattle.refutation_terms.specs.Log.{Holds, LineFits}
 use Rattle.domain_store.specs.Store.{Store, BelongsTo, HasSameShape, domain_at, has_domain}
-use Rattle.domain_store.specs.Leaves.{IsHoldingLeafFor}
+use Rattle.domain_store.specs.Leaves.{IsHoldingLeaf}
 use Rattle.domain_store.specs.declared.look.Look.{Look}
 use Rattle.domain_store.specs.declared.look.Look.TheVariants.{Quiet, Closed, Cut}
 
 -- some leaf of these holds under the domains: they are closed
 abbrev pub Closes : Instance → (Line → Type 0) → Store → Type 0
-Closes P leaves S = (line : Line) × leaves line × Holds P (has_domain S) line
+Closes P leaves S = (line : Line) × leaves line × Holds P None (has_domain S) line
 
 -- a line that weighs no words
 abbrev pub IsUnweighed : Line → Type 0
-IsUnweighed (Bound p turns R y) = ⊥
-IsUnweighed (Free turns reward R y) = ⊥
+IsUnweighed (Closing (Words p R (Light turns reward y))) = ⊥
 IsUnweighed line = Unit {0}
 
 -- one of the leaves, and it holds
 abbrev pub IsClosing : Instance → (Line → Type 0) → Store → Line → Type 0
-IsClosing P leaves S line = leaves line × IsHoldingLeafFor P None (has_domain S) line
+IsClosing P leaves S line = leaves line × IsHoldingLeaf P None (has_domain S) line
 
 -- a spent symbol, which is in the domain of its position beside another, and a leaf that holds once it is alone there
 -- and weighs no words
@@ -33,7 +34,7 @@ pub record IsCut (P : Instance) (spent : ℕ → Symbol → Type 0) (S : Store)
   pub position : p < cells P
   pub useful : is_idle P (has_domain S) p x.number ≡ false
   pub unweighed : IsUnweighed line
-  pub leaf : IsHoldingLeafFor P None (narrowed (has_domain S) (Split p x) First) line
+  pub leaf : IsHoldingLeaf P None (narrowed (has_domain S) (Split p x) First) line
 
 -- closed exactly where a leaf holds; a cut exactly where none does and a symbol is spent; quiet where there is
 -- neither
@@ -51,8 +52,8 @@ joined first second = first
 
 -- the leaves include all window and day leaves of the problem
 pub record HasPlainLeaves (P : Instance) (leaves : Store → Line → Type 0) : Type 0 where
-  pub windows : (S : Store) (number p len : ℕ) → LineFits P (Window number p len) → leaves S (Window number p len)
-  pub days : (S : Store) (j : ℕ) (x : Symbol) (over : Bool) → LineFits P (Day j x over) → leaves S (Day j x over)
+  pub windows : (S : Store) (number p len : ℕ) → LineFits P None (Closing (Window number p len)) → leaves S (Closing (Window number p len))
+  pub days : (S : Store) (j : ℕ) (x : Symbol) (over : Bool) → LineFits P None (Closing (Day j x over)) → leaves S (Closing (Day j x over))
 
 -- the position is one of the problem, and its domain has the symbol and another beside it
 pub record IsBesideAnother (P : Instance) (S : Store) (p : ℕ) (x : Symbol) : Type 0 where

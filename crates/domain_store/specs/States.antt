@@ -1,8 +1,8 @@
 -- What a walk is a state of.
-use Rattle.std.specs.Prelude.{ℕ, ◌+◌, List, length, Bool, cond, Option}
+use Rattle.std.specs.Prelude.{ℕ, ◌+◌, List, length, Bool, cond}
 use Rattle.rwsp_terms.specs.Instance.{Instance}
 use Rattle.refutation_terms.specs.declared.lines.Line.{Line}
-use Rattle.refutation_terms.specs.declared.lines.Turn.{Turn}
+use Rattle.refutation_terms.specs.declared.lines.Opening.{Opening}
 use Rattle.refutation_terms.specs.Tree.{opening}
 use Rattle.domain_store.specs.Store.{Store, BelongsTo}
 use Rattle.domain_store.specs.declared.open_split.OpenSplit.{OpenSplit}
@@ -15,14 +15,14 @@ pub record State : Type 0 where
   -- whether a whole tree was read
   pub whole : Bool
 
--- the state behind these lines of a log with this turn, if it has one
-pub record IsStateOf (P : Instance) (turn : Option Turn) (lines : List Line) (w : State) : Type 0 where
+-- the state behind these lines of a log with this start, if it has one
+pub record IsStateOf (P : Instance) (start : Opening) (lines : List Line) (w : State) : Type 0 where
   pub belongs : BelongsTo P w.store
-  pub read : HasRead w.whole (length w.store.sets) w.store (opening P turn) w.splits lines
+  pub read : HasRead w.whole (length w.store.sets) w.store (opening P start) w.splits lines
 
 -- some lines lead there
 abbrev pub IsWalk : State → Type 0
-IsWalk w = (P : Instance) × (turn : Option Turn) × (lines : List Line) × IsStateOf P turn lines w
+IsWalk w = (P : Instance) × (start : Opening) × (lines : List Line) × IsStateOf P start lines w
 
 -- how many whole trees must still follow
 abbrev pub open_trees : State → ℕ

@@ -3,17 +3,17 @@ ghost use Rattle.std.specs.Prelude.{◌≡◌, ℕ, ◌+◌, ◌<◌, ◌≤◌,
 ghost use Rattle.rwsp_terms.specs.Instance.{Instance, cells};
 ghost use Rattle.refutation_terms.specs.declared.lines.Line.{Line};
 ghost use Rattle.refutation_terms.specs.declared.lines.Line.TheVariants.{Split};
-ghost use Rattle.refutation_terms.specs.declared.lines.Turn.{Turn as TheTurn};
+ghost use Rattle.refutation_terms.specs.declared.lines.Opening.{Opening as TheOpening};
 ghost use Rattle.refutation_terms.specs.Word.{AreSame};
 ghost use Rattle.refutation_terms.specs.Tree.{IsLeaf, IsTree, after_trees, opening, domains_at, is_idle};
-ghost use Rattle.refutation_terms.specs.Log.{TurnFits};
+ghost use Rattle.refutation_terms.specs.Log.{OpeningFits};
 ghost use Rattle.domain_store.specs.Store.{HasSameShape, has_domain, BelongsTo};
 ghost use Rattle.domain_store.specs.Splits.{second_sides_to_come, is_idle_in};
 
 use crate::Domains;
 use crate::ending::end_tree;
 use crate::open_split::OpenSplit;
-use refutation_terms::Turn;
+use refutation_terms::Opening;
 use rwsp_model::Problem;
 use rwsp_terms::Symbol;
 use rwsp_terms::limits::MOST_CELLS;
@@ -46,12 +46,12 @@ impl Walk {
     ghost use Rattle.domain_store.specs.States.{IsStateOf, open_trees};
 
     /// A walk that has read no line. With a turn, its symbol is alone on its day of the first week.
-    pub fn new(alloc: Global, problem: &Problem, turn: Option<Turn>) -> Result<Walk, AllocError>
-        requires { TurnFits problem.now turn }
-        ensures starts { IfOk result (λ w. IsStateOf problem.now turn [] w) }
+    pub fn new(alloc: Global, problem: &Problem, start: Opening) -> Result<Walk, AllocError>
+        requires { OpeningFits problem.now start }
+        ensures starts { IfOk result (λ w. IsStateOf problem.now start [] w) }
         ensures part { IfOk result (λ w. w.whole ≡ false) }
     {
-        let domains = opening_domains(alloc, problem, turn)?;
+        let domains = opening_domains(alloc, problem, start)?;
         domains.prove_facts();
         Ok(Walk {
             domains,
@@ -77,7 +77,7 @@ impl Walk {
     /// The number of positions.
     pub fn cells(&self) -> u32
         ensures positions { result ≡ length self.now.store.sets }
-        ensures value { (P : Instance) (turn : Option TheTurn) (lines : List Line) → IsStateOf P turn lines self.now
+        ensures value { (P : Instance) (start : TheOpening) (lines : List Line) → IsStateOf P start lines self.now
             → result ≡ cells P }
         ensures few { result ≤ MOST_CELLS }
     {
@@ -88,8 +88,8 @@ impl Walk {
     /// The domains at the next line.
     pub fn domains(&self) -> &Domains
         ensures value { result.now ≡ self.now.store }
-        ensures has { (P : Instance) (turn : Option TheTurn) (lines : List Line) → IsStateOf P turn lines self.now →
-            AreSame P (has_domain result.now) (domains_at P turn lines (length lines)) }
+        ensures has { (P : Instance) (start : TheOpening) (lines : List Line) → IsStateOf P start lines self.now →
+            AreSame P (has_domain result.now) (domains_at P start lines (length lines)) }
     {
         self.domains.prove_facts();
         &self.domains
@@ -98,7 +98,7 @@ impl Walk {
     /// Whether the lines are those of one whole tree, with no line behind it.
     pub fn is_whole(&self) -> bool
         ensures value { result ≡ self.now.whole }
-        ensures tree { (P : Instance) (turn : Option TheTurn) (lines : List Line) → IsStateOf P turn lines self.now
+        ensures tree { (P : Instance) (start : TheOpening) (lines : List Line) → IsStateOf P start lines self.now
             → IsTrue result ↔ IsTree lines }
     {
         self.whole
@@ -107,8 +107,8 @@ impl Walk {
     /// How many whole trees must still follow, so that the lines become those of one.
     pub fn open_count(&self) -> usize
         ensures value { result ≡ open_trees self.now }
-        ensures trees { (P : Instance) (turn : Option TheTurn) (lines rest : List Line)
-            → IsStateOf P turn lines self.now →
+        ensures trees { (P : Instance) (start : TheOpening) (lines rest : List Line)
+            → IsStateOf P start lines self.now →
             after_trees 1 (lines ++ rest) ≡ after_trees result rest }
     {
         if self.whole {
@@ -122,8 +122,8 @@ impl Walk {
     pub fn is_idle(&self, p: u32, x: Symbol) -> bool
         requires { p < length self.now.store.sets }
         ensures value { result ≡ is_idle_in self.now.store p x.number }
-        ensures idle { (P : Instance) (turn : Option TheTurn) (lines : List Line) → IsStateOf P turn lines self.now
-            → result ≡ is_idle P (domains_at P turn lines (length lines)) p x.number }
+        ensures idle { (P : Instance) (start : TheOpening) (lines : List Line) → IsStateOf P start lines self.now
+            → result ≡ is_idle P (domains_at P start lines (length lines)) p x.number }
     {
         self.domains.prove_facts();
         is_idle_there(&self.domains, p, x)
@@ -135,8 +135,8 @@ impl Walk {
         requires position { p < length self.old.store.sets }
         requires useful { is_idle_in self.old.store p x.number ≡ false }
         ensures splits { IfOk result (λ _.
-            (P : Instance) (turn : Option TheTurn) (lines : List Line) → IsStateOf P turn lines self.old
-            → IsStateOf P turn (lines ++ Split p x ∷ []) self.new) }
+            (P : Instance) (start : TheOpening) (lines : List Line) → IsStateOf P start lines self.old
+            → IsStateOf P start (lines ++ Split p x ∷ []) self.new) }
         ensures one_more { IfOk result (λ _. open_trees self.new ≡ open_trees self.old + 1) }
         ensures part_still { IfOk result (λ _. self.new.whole ≡ false) }
         ensures same { HasSameShape self.old.store self.new.store }
@@ -157,10 +157,10 @@ impl Walk {
     /// walk as a leaf in its place: so this also goes past the lines of one that nobody looks at.
     pub fn read_leaf(&mut self)
         requires { self.old.whole ≡ false }
-        ensures ends { (P : Instance) (turn : Option TheTurn) (lines : List Line) (leaf : Line)
-            → IsStateOf P turn lines self.old → IsLeaf leaf → IsStateOf P turn (lines ++ leaf ∷ []) self.new }
-        ensures trees { (P : Instance) (turn : Option TheTurn) (lines tree : List Line) →
-            IsStateOf P turn lines self.old → IsTree tree → IsStateOf P turn (lines ++ tree) self.new }
+        ensures ends { (P : Instance) (start : TheOpening) (lines : List Line) (leaf : Line)
+            → IsStateOf P start lines self.old → IsLeaf leaf → IsStateOf P start (lines ++ leaf ∷ []) self.new }
+        ensures trees { (P : Instance) (start : TheOpening) (lines tree : List Line) →
+            IsStateOf P start lines self.old → IsTree tree → IsStateOf P start (lines ++ tree) self.new }
         ensures one_less { open_trees self.old ≡ open_trees self.new + 1 }
         ensures same { HasSameShape self.old.store self.new.store }
     {
@@ -194,19 +194,18 @@ fn second_sides_to_come(splits: &[OpenSplit]) -> usize
 }
 
 // The domains at the first line.
-fn opening_domains(
-    alloc: Global,
-    problem: &Problem,
-    turn: Option<Turn>,
-) -> Result<Domains, AllocError>
-    requires { TurnFits problem.now turn }
+fn opening_domains(alloc: Global, problem: &Problem, start: Opening) -> Result<Domains, AllocError>
+    requires { OpeningFits problem.now start }
     ensures belongs { IfOk result (λ D. BelongsTo problem.now D) }
-    ensures has { IfOk result (λ D. AreSame problem.now (has_domain D) (opening problem.now turn)) }
+    ensures has { IfOk result (λ D. AreSame problem.now (has_domain D) (opening problem.now start)) }
 {
     let mut domains = Domains::new(alloc, problem)?;
-    if let Some(turn) = turn {
-        problem.prove_limits();
-        domains.set_only(turn.day - 1, turn.x);
+    match start {
+        Opening::Full => {}
+        Opening::Turned(first) => {
+            problem.prove_limits();
+            domains.set_only(first.day - 1, first.x);
+        }
     }
     Ok(domains)
 }

@@ -2,8 +2,8 @@
 ghost use Rattle.refutation_terms.specs.Log.{Fits};
 
 use refutation_log::{
-    Log, LogRefusal, Turn, first_turn, print_log, put_cited, read_free_header, read_line_for,
-    read_log,
+    Log, LogKind, LogRefusal, Opening, Turn, first_turn, print_log, put_cited, read_header,
+    read_line, read_log,
 };
 use rwsp_model::{Fail as Failure, Problem};
 use rwsp_terms::RuleList;
@@ -148,7 +148,7 @@ fn is_refused_for(alloc: Global, problem: &Problem, text: &[u8], wanted: &LogRef
     if text.len() > 1_000_000 {
         return false;
     }
-    match read_log(alloc, problem, text) {
+    match read_log(alloc, problem, LogKind::WithoutGoal, text) {
         Err(Failure::Refused(why)) => is_cause(&why, wanted),
         _ => false,
     }
@@ -215,8 +215,8 @@ const FREE_TEXTS: [(&[u8], bool); 15] = [
 
 // Whether the text is read as that of a free log of one line.
 fn is_free_log_of_one_line(alloc: Global, problem: &Problem, text: &[u8]) -> bool {
-    match read_free_header(alloc, problem, text) {
-        Ok(header) => read_line_for(alloc, problem, Some(header.goal), header.body).is_ok(),
+    match read_header(alloc, problem, LogKind::WithGoal, text) {
+        Ok(header) => read_line(alloc, problem, header.goal, header.body).is_ok(),
         Err(_) => false,
     }
 }
@@ -240,16 +240,16 @@ fn put_all_cited(rules: &mut RuleList, problem: &Problem, log: &Log) -> Result<(
     Ok(())
 }
 
-fn turn_of(alloc: Global, text: &[u8]) -> Result<Option<Turn>, Fail> {
+fn turn_of(alloc: Global, text: &[u8]) -> Result<Opening, Fail> {
     let problem = problem_of(alloc, text)?;
     Ok(first_turn(&problem))
 }
 
 #[test]
 fn turns(rt: HostRuntime) -> Result<(), Fail> {
-    assert_eq!(rt; turn_of(rt.alloc(), NO_DEMAND)?, None);
-    let turn = turn_of(rt.alloc(), D_ON_BOTH_DAYS)?.ok_or("a turn")?;
-    assert_eq!(rt; turn, Turn { day: 1, x: D });
+    assert_eq!(rt; turn_of(rt.alloc(), NO_DEMAND)?, Opening::Full);
+    let turn = Turn { day: 1, x: D };
+    assert_eq!(rt; turn_of(rt.alloc(), D_ON_BOTH_DAYS)?, Opening::Turned(turn));
     Ok(())
 }
 

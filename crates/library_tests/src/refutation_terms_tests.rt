@@ -1,7 +1,7 @@
 // The definitions of refutations tried on small problems: the checker accepts a log exactly where it passes.
 // More logs are judged in `program_tests`.
-use refutation_checker::{NoGate, check_free_with, check_with};
-use refutation_terms::LogRefusal;
+use refutation_checker::{NoGate, UncheckedLog, check_with};
+use refutation_terms::{LogKind, LogRefusal};
 use rwsp_model::Fail::Refused;
 use rwsp_terms::RuleList;
 use std::alloc::Global;
@@ -50,7 +50,12 @@ fn rules_of<R: Threads + Sync>(
     if text.len() > 1_000 {
         return Err(Fail::from("a long text"));
     }
-    Ok(check_with(rt, alloc, &problem, text, 1, &NoGate)?)
+    let log = UncheckedLog {
+        kind: LogKind::WithoutGoal,
+        bytes: text,
+    };
+    let passed = check_with(rt, alloc, &problem, log, 1, &NoGate)?;
+    Ok(passed.named)
 }
 
 #[test]
@@ -73,7 +78,11 @@ fn unfinished_line<R: Threads + Sync>(
     if text.len() > 1_000 {
         return Err(Fail::from("a long text"));
     }
-    match check_with(rt, alloc, &problem, text, 1, &NoGate) {
+    let log = UncheckedLog {
+        kind: LogKind::WithoutGoal,
+        bytes: text,
+    };
+    match check_with(rt, alloc, &problem, log, 1, &NoGate) {
         Err(Refused(LogRefusal::Unfinished(line))) => Ok(line),
         _ => Err(Fail::from("another verdict")),
     }
@@ -97,8 +106,12 @@ fn passed_goal<R: Threads + Sync>(
     if problem.days() != 7 || text.len() > 1_000 {
         return Err(Fail::from("another problem, or a long text"));
     }
-    let passed = check_free_with(rt, alloc, &problem, text, 1, &NoGate)?;
-    Ok(passed.goal)
+    let log = UncheckedLog {
+        kind: LogKind::WithGoal,
+        bytes: text,
+    };
+    let passed = check_with(rt, alloc, &problem, log, 1, &NoGate)?;
+    Ok(passed.goal.ok_or("no goal")?)
 }
 
 // No roster of one week has two free weekends, whatever the rules.

@@ -3,7 +3,7 @@ use Rattle.std.proofs.Common.{ℕ, ◌≤◌, List, ◌∙◌, arith, ℤ}
 use Rattle.rwsp_terms.specs.declared.data.Weight.{Weight}
 use Rattle.rwsp_terms.specs.Instance.{Instance, shift_count, IsDay}
 use Rattle.rwsp_terms.specs.Places.{SetsWeight}
-use Rattle.refutation_terms.specs.Log.{AreWeightsOf}
+use Rattle.refutation_terms.specs.Ranges.{AreWeightsOf}
 use Rattle.potential_bounds.proofs.Stepping.{zero_outside, of_problem}
 
 -- weights of the problem are still such where one of them is set

@@ -1,21 +1,21 @@
-// A bound leaf or a free leaf, after an exact test.
-ghost use Rattle.std.specs.Prelude.{◌*◌, ◌≤◌, ◌+◌, ◌≡◌, IfOk, IfSome, OnOk, Some, None, pos, neg_ℤ, ◌≤ℤ◌};
+// A leaf of words that weigh too little, after an exact test.
+ghost use Rattle.std.specs.Prelude.{◌*◌, ◌<◌, ◌≤◌, ◌+◌, ◌≡◌, IfOk, IfSome, OnOk, Some, None, pos, neg_ℤ, ◌≤ℤ◌};
 ghost use Rattle.rwsp_terms.specs.Instance.{cells, IsDay};
 ghost use Rattle.rwsp_terms.specs.declared.limits.TheConstants.{GREATEST_REWARD, LONGEST_WORD};
-ghost use Rattle.refutation_terms.specs.Log.{AreWeightsOf};
+ghost use Rattle.refutation_terms.specs.Ranges.{AreWeightsOf};
+ghost use Rattle.refutation_terms.specs.WordsLeaf.{RewardFits};
 ghost use Rattle.nearest_weights.specs.Fields.{IsField, IsLeafIn};
 
 use crate::demand::Shape;
 use crate::field::Field;
-use potential_bounds::{FreeClaim, bound_escape, free_escape};
-use refutation_terms::Line;
+use potential_bounds::{Claim, claim_escape};
+use refutation_terms::{Leaf, Line, WordClaim};
 use rwsp_model::Problem;
 use rwsp_terms::limits::{GREATEST_REWARD, GREATEST_WEIGHT, LONGEST_WORD};
 use rwsp_terms::{Symbol, Weights};
 use std::alloc::{AllocError, Global};
 
-// The leaf of these weights, one for each coordinate, where it holds: a bound leaf, or a free leaf of a log with the
-// field's goal.
+// The leaf of these weights, one for each coordinate, where it holds.
 pub fn leaf_of(
     alloc: Global,
     field: &Field<'_>,
@@ -27,46 +27,44 @@ pub fn leaf_of(
     requires few { turns * cells field.now.automaton.now.problem ≤ LONGEST_WORD }
     ensures { IfOk result (λ found. IfSome found (IsLeafIn field.now)) }
 {
-    match field.goal {
-        Some(goal) => free_leaf_of(alloc, field, goal, turns, weights),
-        None => bound_leaf_of(alloc, field, turns, weights),
-    }
-}
-
-// The free leaf of these weights, where it holds. The weight behind those of days and symbols is the reward.
-fn free_leaf_of(
-    alloc: Global,
-    field: &Field<'_>,
-    goal: u32,
-    turns: u32,
-    weights: &[i64],
-) -> Result<Option<Line>, AllocError>
-    requires field { IsField field.now }
-    requires goal { field.now.goal ≡ Some goal }
-    requires some { 1 ≤ turns }
-    requires few { turns * cells field.now.automaton.now.problem ≤ LONGEST_WORD }
-    ensures { IfOk result (λ found. IfSome found (IsLeafIn field.now)) }
-{
     let problem = field.automaton.problem();
     problem.prove_limits();
-    let reward = reward_of(problem, weights);
+    let (position, reward) = begin_and_reward(field, weights);
     let weights = weights_of(alloc, problem, weights)?;
-    let claim = FreeClaim {
-        goal,
+    let claim = Claim {
+        goal: field.goal,
+        position,
         turns,
         reward,
         weights: &weights,
     };
-    if let Some(_) = free_escape(alloc, field.automaton, field.doms, claim)? {
+    if let Some(_) = claim_escape(alloc, field.automaton, field.doms, claim)? {
         return Ok(None);
     }
     let rules = field.automaton.rules().copy()?;
-    Ok(Some(Line::Free {
+    let claim = WordClaim::Light {
         turns,
         reward,
-        rules,
         weights,
-    }))
+    };
+    Ok(Some(Line::Closing(Leaf::Words {
+        p: position,
+        rules,
+        claim,
+    })))
+}
+
+// The position of the words' first day, and what each free weekend weighs: with a goal the words begin on the first
+// day, and the weight behind those of days and symbols is the reward; without one nothing is rewarded.
+fn begin_and_reward(field: &Field<'_>, weights: &[i64]) -> (u32, u32)
+    requires { IsField field.now }
+    ensures position { result.0 < cells field.now.automaton.now.problem }
+    ensures reward { RewardFits field.now.goal result.0 result.1 }
+{
+    match field.goal {
+        None => (field.place.position, 0),
+        Some(_) => (0, reward_of(field.automaton.problem(), weights)),
+    }
 }
 
 // The reward among the weights of all coordinates.
@@ -77,35 +75,6 @@ fn reward_of(problem: &Problem, weights: &[i64]) -> u32
     let reward = weights.get(place).copied().unwrap_or(0);
     let greatest = i64::from(GREATEST_REWARD);
     reward.max(0).min(greatest) as u32
-}
-
-// The bound leaf of these weights, one for each coordinate, where it holds.
-fn bound_leaf_of(
-    alloc: Global,
-    field: &Field<'_>,
-    turns: u32,
-    weights: &[i64],
-) -> Result<Option<Line>, AllocError>
-    requires field { IsField field.now }
-    requires goal { field.now.goal ≡ None }
-    requires some { 1 ≤ turns }
-    requires few { turns * cells field.now.automaton.now.problem ≤ LONGEST_WORD }
-    ensures { IfOk result (λ found. IfSome found (IsLeafIn field.now)) }
-{
-    let problem = field.automaton.problem();
-    problem.prove_limits();
-    let p = field.place.position;
-    let weights = weights_of(alloc, problem, weights)?;
-    if let Some(_) = bound_escape(alloc, field.automaton, field.doms, p, turns, &weights)? {
-        return Ok(None);
-    }
-    let rules = field.automaton.rules().copy()?;
-    Ok(Some(Line::Bound {
-        p,
-        turns,
-        rules,
-        weights,
-    }))
 }
 
 // The weights by day and symbol.

@@ -1,4 +1,4 @@
-//! Bound leaves and free leaves by the nearest point of the counts of clean words to the demand.
+//! Leaves of words that weigh too little, by the nearest point of the counts of clean words to the demand.
 #![tactic(auto)]
 
 mod closing;

@@ -2,10 +2,11 @@
 ghost use Rattle.std.specs.Prelude.{◌≡◌, ◌*◌, ◌≤◌, ◌<◌, ◌+◌, IfOk, IfSome, Option, None};
 ghost use Rattle.rwsp_terms.specs.Instance.{cells};
 ghost use Rattle.rwsp_terms.specs.declared.limits.TheConstants.{LONGEST_WORD};
+ghost use Rattle.refutation_terms.specs.declared.lines.Opening.TheVariants.{Full};
 ghost use Rattle.refutation_terms.specs.Log.{GoalFits};
 ghost use Rattle.domain_store.specs.Store.{BelongsTo, has_domain};
 ghost use Rattle.domain_store.specs.Cycles.{AreShortRules};
-ghost use Rattle.domain_store.specs.Leaves.{IsHoldingLeafFor};
+ghost use Rattle.domain_store.specs.Leaves.{IsHoldingLeaf};
 
 use crate::closing::found_leaf;
 use crate::demand::{Demand, Shape};
@@ -91,10 +92,10 @@ impl<'a> NearestWeights<'a> {
         goal: Option<u32>,
     ) -> Result<Option<Line>, AllocError>
         requires belongs { BelongsTo self.old.problem doms.now }
-        requires goal { GoalFits self.old.problem None goal }
+        requires goal { GoalFits self.old.problem Full goal }
         ensures same { self.new ≡ self.old }
         ensures leaf { IfOk result
-            (λ found. IfSome found (IsHoldingLeafFor self.old.problem goal (has_domain doms.now))) }
+            (λ found. IfSome found (IsHoldingLeaf self.old.problem goal (has_domain doms.now))) }
     {
         let weights = Vec::new(alloc);
         let (line, last) = leaf_from(alloc, self.automaton, doms, goal, Start::Top, weights)?;
@@ -112,10 +113,10 @@ impl<'a> NearestWeights<'a> {
         goal: Option<u32>,
     ) -> Result<Option<Line>, AllocError>
         requires belongs { BelongsTo self.old.problem doms.now }
-        requires goal { GoalFits self.old.problem None goal }
+        requires goal { GoalFits self.old.problem Full goal }
         ensures same { self.new ≡ self.old }
         ensures leaf { IfOk result
-            (λ found. IfSome found (IsHoldingLeafFor self.old.problem goal (has_domain doms.now))) }
+            (λ found. IfSome found (IsHoldingLeaf self.old.problem goal (has_domain doms.now))) }
     {
         if self.automaton.problem().cells() > MOST_CELLS_WITHIN {
             return Ok(None);
@@ -147,9 +148,9 @@ fn leaf_from(
 ) -> Result<(Option<Line>, Vec<i64>), AllocError>
     requires short { AreShortRules automaton.now.problem automaton.now.rules }
     requires belongs { BelongsTo automaton.now.problem doms.now }
-    requires goal { GoalFits automaton.now.problem None goal }
+    requires goal { GoalFits automaton.now.problem Full goal }
     ensures { IfOk result
-        (λ r. IfSome r.0 (IsHoldingLeafFor automaton.now.problem goal (has_domain doms.now))) }
+        (λ r. IfSome r.0 (IsHoldingLeaf automaton.now.problem goal (has_domain doms.now))) }
 {
     let problem = automaton.problem();
     let demand = Demand::of(alloc, problem, goal)?;

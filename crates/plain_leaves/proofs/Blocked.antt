@@ -6,7 +6,7 @@ use Rattle.rwsp_terms.specs.declared.data.Rule.{Rule}
 use Rattle.rwsp_terms.specs.Instance.{Instance, cells}
 use Rattle.rwsp_terms.specs.Rules.{rule_of}
 use Rattle.rwsp_terms.specs.Window.{Bad}
-use Rattle.refutation_terms.specs.Leaf.{IsBlocked}
+use Rattle.refutation_terms.specs.WindowLeaf.{IsBlocked}
 use Rattle.refutation_terms.specs.Word.{Over}
 use Rattle.domain_store.specs.Store.{Store, has_domain}
 use Rattle.window_rules.specs.Views.{left_in, MayStand, AreAllBad}

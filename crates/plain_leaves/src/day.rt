@@ -2,8 +2,9 @@
 ghost use Rattle.std.specs.Prelude.{◌≡◌, ◌+◌, ◌-◌, ◌*◌, ◌<◌, ◌≤◌, ◌↔◌, length, IsTrue};
 ghost use Rattle.rwsp_terms.specs.Instance.{IsDay, IsSymbol};
 ghost use Rattle.rwsp_terms.specs.declared.limits.TheConstants.{MOST_WEEKS};
-ghost use Rattle.refutation_terms.specs.declared.lines.Line.TheVariants.{Day};
-ghost use Rattle.refutation_terms.specs.Leaf.{is_only, fixed, possible};
+ghost use Rattle.refutation_terms.specs.declared.lines.Line.TheVariants.{Closing};
+ghost use Rattle.refutation_terms.specs.declared.lines.Leaf.TheVariants.{Day};
+ghost use Rattle.refutation_terms.specs.DayLeaf.{is_only, fixed, possible};
 ghost use Rattle.refutation_terms.specs.Log.{Holds};
 ghost use Rattle.domain_store.specs.Store.{BelongsTo, has_domain};
 
@@ -78,7 +79,7 @@ pub fn day_holds(problem: &Problem, doms: &Domains, day: u32, x: Symbol, over: b
     requires domains { BelongsTo problem.now doms.now }
     requires day { IsDay problem.now day }
     requires symbol { IsSymbol problem.now x }
-    ensures { IsTrue result ↔ Holds problem.now (has_domain doms.now) (Day day x over) }
+    ensures { IsTrue result ↔ Holds problem.now None (has_domain doms.now) (Closing (Day day x over)) }
 {
     if over {
         let fixed = count_fixed(problem, doms, day, x) as i32;

@@ -2,7 +2,7 @@
 ghost use Rattle.std.specs.Prelude.{◌≡◌, ◌+◌, ◌*◌, ◌<◌, ◌≤◌, ◌↔◌, IsTrue, count_by};
 ghost use Rattle.std.specs.List.{range_with_len};
 ghost use Rattle.rwsp_terms.specs.declared.limits.TheConstants.{MOST_WEEKS, DAYS_OF_WEEK};
-ghost use Rattle.refutation_terms.specs.FreeLeaves.{may_be_free, HasTooFewFree};
+ghost use Rattle.refutation_terms.specs.FewLeaf.{may_be_free, HasTooFewFree};
 ghost use Rattle.domain_store.specs.Store.{BelongsTo, has_domain};
 
 use crate::day::position_of;

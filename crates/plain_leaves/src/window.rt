@@ -3,7 +3,7 @@ ghost use Rattle.std.specs.Prelude.{◌<◌, ◌≤◌, ◌↔◌, length, IsTru
 ghost use Rattle.rwsp_terms.specs.Instance.{cells};
 ghost use Rattle.rwsp_terms.specs.Rules.{rules};
 ghost use Rattle.rwsp_terms.specs.declared.limits.TheConstants.{LONGEST_WORD};
-ghost use Rattle.refutation_terms.specs.Leaf.{IsBlocked};
+ghost use Rattle.refutation_terms.specs.WindowLeaf.{IsBlocked};
 ghost use Rattle.domain_store.specs.Store.{BelongsTo, has_domain};
 
 use domain_store::Domains;

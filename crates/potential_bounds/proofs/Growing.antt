@@ -1,5 +1,5 @@
 -- Lists of weights that grow at the end.
-use Rattle.std.proofs.Common.{◌≡◌, ℕ, zero, suc, ◌+◌, ◌*◌, ◌<◌, List, [], ◌∷◌, ◌++◌, Bool, true, false, ◌&&◌, ◌==◌, refl, ap, sym, ◌∙◌, subst, arith, inl, inr, pos, ℤ, if◌then◌else◌, length, get_or, map}
+use Rattle.std.proofs.Common.{◌≡◌, ℕ, zero, suc, ◌+◌, ◌*◌, ◌<◌, List, [], ◌∷◌, ◌++◌, Bool, true, false, ◌&&◌, ◌==◌, refl, ap, sym, ◌∙◌, subst, arith, inl, inr, pos, ℤ, if◌then◌else◌, length, get_or, map, append_assoc}
 use Rattle.std.specs.Prelude.{All}
 use Rattle.std.specs.List.{range_with_len, flat_map}
 use Rattle.std.proofs.lemmas.List.Elements.{All-append, All-cons, All-nil}
@@ -7,7 +7,6 @@ use Rattle.std.proofs.lemmas.List.Quantifiers.{all_pairs_push}
 use Rattle.rwsp_terms.specs.declared.data.Weight.{Weight}
 use Rattle.std.proofs.lemmas.Grind.{flat_map-append}
 use Rattle.std.proofs.lemmas.List.{map-append, append-nil}
-use Rattle.std.proofs.Common.{append_assoc}
 use Rattle.rwsp_terms.specs.Instance.{Instance, shift_count}
 use Rattle.refutation_terms.specs.Sharp.{both_signs, plain_bounds}
 use Rattle.rwsp_terms.specs.Weights.{IsWeight, AreWeights, ComesBefore, weight_at}

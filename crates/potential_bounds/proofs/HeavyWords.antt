@@ -1,5 +1,5 @@
 -- The best words by weights and a reward are the heaviest clean words.
-use Rattle.std.proofs.Common.{◌≡◌, ℕ, List, sym, ◌∙◌, arith, ℤ, Option, Some, None, inl, inr}
+use Rattle.std.proofs.Common.{ℕ, List, sym, ◌∙◌, arith, ℤ, Option, Some, None, inl, inr}
 use Rattle.std.specs.Prelude.{◌≤ℤ◌, MatchOption, IfOk, Result, Ok, Err}
 use Rattle.std.specs.declared.alloc.AllocError.{AllocError}
 use Rattle.std.proofs.lemmas.Int.{ints}

@@ -1,20 +1,18 @@
--- What the heaviest clean words say of a bound leaf and of a free leaf.
-use Rattle.std.proofs.Common.{◌≡◌, ℕ, ◌+◌, ◌*◌, ◌≤◌, List, length, subst, sym, refl, ap, ◌∙◌, arith, Option, Some, None}
-use Rattle.std.specs.Prelude.{ℤ, pos, ◌+ℤ◌, ◌*ℤ◌, ◌≤ℤ◌, ◌<ℤ◌, MatchOption, unwrap_or}
+-- What the heaviest clean words say of a leaf of words.
+use Rattle.std.proofs.Common.{◌≡◌, ℕ, ◌*◌, List, length, subst, sym, refl, ap, ◌∙◌, arith, Option, Some, None}
+use Rattle.std.specs.Prelude.{ℤ, pos, ◌*ℤ◌, ◌≤ℤ◌, ◌<ℤ◌, MatchOption, unwrap_or}
 use Rattle.std.proofs.lemmas.Int.{ints}
 use Rattle.rwsp_terms.specs.declared.data.Symbol.{Symbol}
 use Rattle.rwsp_terms.specs.declared.data.Weight.{Weight}
 use Rattle.rwsp_terms.specs.Instance.{Instance, cells}
-use Rattle.refutation_terms.specs.declared.lines.Line.{Line}
 use Rattle.refutation_terms.specs.Word.{Domains, Over, Clean, weight, total}
 use Rattle.refutation_terms.specs.FreeWeekends.{free_weekends, free_weight}
-use Rattle.refutation_terms.specs.FreeLeaves.{free_total}
+use Rattle.refutation_terms.specs.declared.lines.WordClaim.{WordClaim}
+use Rattle.refutation_terms.specs.declared.lines.WordClaim.TheVariants.{Light}
+use Rattle.refutation_terms.specs.WordsLeaf.{owed, RewardFits, WordsHold, WordsEscape}
 use Rattle.refutation_terms.specs.Escape.{IsHeaviestBy, IsLeastHeaviestBy}
-use Rattle.refutation_terms.specs.Log.{HoldsFor}
-use Rattle.refutation_terms.specs.Verdict.{EscapesFor}
 use Rattle.clean_words.specs.declared.heavy_words.HeavyWord.{HeavyWord}
 use Rattle.potential_bounds.specs.Heaviest.{IsHeaviestFound}
-use Rattle.potential_bounds.specs.Claims.{weighed_leaf, IsClaimOf}
 use Rattle.potential_bounds.specs.Searched.{IsTopEscape}
 
 abbrev IsSame : (List Symbol → ℤ) → (List Symbol → ℤ) → Type 0
@@ -32,26 +30,26 @@ said P D p len turns R W V least sum (Some h) same size is heavy =
     let here : L len = record { heavy = heavy_same P D p len R W V h.word same heavy.0.heavy; least = λ v other. heavy.0.least v (heavy_same P D p len R V W v (λ u. sym (same u)) other) } in
     (subst L size here, omega (arith, ints, is, same h.word, heavy.1, heavy.2))
 
--- what is found says of the leaf whether it holds
-abbrev pub IsSaid : Instance → Domains → Option ℕ → Line → Option HeavyWord → Type 0
-IsSaid P D goal leaf found = MatchOption found (HoldsFor P goal D leaf) (λ h. EscapesFor P goal D leaf h.word)
+-- what is found says of the claim whether it holds
+abbrev pub IsSaid : Instance → Domains → Option ℕ → ℕ → List ℕ → WordClaim → Option HeavyWord → Type 0
+IsSaid P D goal p R claim found = MatchOption found (WordsHold P goal D p R claim) (λ h. WordsEscape P goal D p R claim h.word)
 
-pub claim_said : (P : Instance) (D : Domains) (goal : Option ℕ) (p len turns reward : ℕ) (R : List ℕ) (y : List Weight) (least : ℤ) (found : Option HeavyWord) → IsClaimOf P goal p reward → len ≡ turns * cells P → least ≡ pos turns *ℤ free_total P y reward (unwrap_or goal 0)
-    → IsHeaviestFound P D p len R (free_weight P y reward p) least found → IsSaid P D goal (weighed_leaf goal p turns reward R y) found
+pub claim_said : (P : Instance) (D : Domains) (goal : Option ℕ) (p len turns reward : ℕ) (R : List ℕ) (y : List Weight) (least : ℤ) (found : Option HeavyWord) → RewardFits goal p reward → len ≡ turns * cells P → least ≡ pos turns *ℤ owed P (Some (unwrap_or goal 0)) y reward
+    → IsHeaviestFound P D p len R (free_weight P y reward p) least found → IsSaid P D goal p R (Light turns reward y) found
 claim_said P D None p len turns reward R y least found plain size is heavy =
-    let sum : free_total P y reward 0 ≡ total P y = omega (arith, ints) in
+    let none : reward * 0 ≡ 0 = omega arith in
+    let sum : owed P (Some 0) y reward ≡ total P y = omega (arith, ints, none) in
     let here : IsSame (free_weight P y reward p) (weight P y p) = λ u. let zero : 0 * free_weekends u ≡ 0 = omega arith in let none : reward * free_weekends u ≡ 0 = ap (λ (n : ℕ). n * free_weekends u) plain ∙ zero in omega (arith, ints, none) in
     said P D p len turns R (free_weight P y reward p) (weight P y p) least (total P y) found here size (is ∙ ap (λ (z : ℤ). pos turns *ℤ z) sum) heavy
 claim_said P D (Some goal) p len turns reward R y least found first size is heavy =
-    let F : ℕ → Type 0 = λ q. IsHeaviestFound P D q len R (free_weight P y reward q) least found in
-    said P D 0 len turns R (free_weight P y reward 0) (free_weight P y reward 0) least (free_total P y reward goal) found (λ u. refl) size is (subst F first.1 heavy)
+    said P D p len turns R (free_weight P y reward p) (free_weight P y reward p) least (owed P (Some goal) y reward) found (λ u. refl) size is heavy
 
 -- what is asked of the words, by the total that was worked out
-pub asked_by : (P Q : Instance) (y : List Weight) (turns reward n : ℕ) (goal : Option ℕ) (asked least sum : ℤ) → asked ≡ least → least ≡ pos turns *ℤ sum → sum ≡ free_total Q y reward n → Q ≡ P → n ≡ unwrap_or goal 0 → asked ≡ pos turns *ℤ free_total P y reward (unwrap_or goal 0)
-asked_by P Q y turns reward n goal asked least sum read is value same number = read ∙ is ∙ ap (λ (z : ℤ). pos turns *ℤ z) (value ∙ ap (λ I. free_total I y reward n) same ∙ ap (λ (k : ℕ). free_total P y reward k) number)
+pub asked_by : (P Q : Instance) (y : List Weight) (turns reward n : ℕ) (goal : Option ℕ) (asked least sum : ℤ) → asked ≡ least → least ≡ pos turns *ℤ sum → sum ≡ owed Q (Some n) y reward → Q ≡ P → n ≡ unwrap_or goal 0 → asked ≡ pos turns *ℤ owed P (Some (unwrap_or goal 0)) y reward
+asked_by P Q y turns reward n goal asked least sum read is value same number = read ∙ is ∙ ap (λ (z : ℤ). pos turns *ℤ z) (value ∙ ap (λ I. owed I (Some n) y reward) same ∙ ap (λ (k : ℕ). owed P (Some k) y reward) number)
 
 -- the same of one turn from position 0 on
-pub top_escape : (P : Instance) (D : Domains) (R : List ℕ) (y : List Weight) (found : Option (List Symbol)) → MatchOption found (HoldsFor P None D (weighed_leaf None 0 1 0 R y)) (λ w. EscapesFor P None D (weighed_leaf None 0 1 0 R y) w) → IsTopEscape P D R y found
+pub top_escape : (P : Instance) (D : Domains) (R : List ℕ) (y : List Weight) (found : Option (List Symbol)) → MatchOption found (WordsHold P None D 0 R (Light 1 0 y)) (WordsEscape P None D 0 R (Light 1 0 y)) → IsTopEscape P D R y found
 top_escape P D R y None holds = holds
 top_escape P D R y (Some w) heavy =
     let once : 1 * cells P ≡ cells P = omega arith in

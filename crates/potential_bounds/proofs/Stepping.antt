@@ -9,7 +9,7 @@ use Rattle.rwsp_terms.specs.Instance.{Instance, shift_count, least, greatest, Is
 use Rattle.rwsp_terms.specs.Roster.{weeks_with}
 use Rattle.rwsp_terms.specs.Weights.{IsWeight, AreWeights, ComesBefore, weight_at}
 use Rattle.rwsp_terms.specs.Places.{SetsWeight}
-use Rattle.refutation_terms.specs.Log.{AreWeightsOf}
+use Rattle.refutation_terms.specs.Ranges.{AreWeightsOf}
 use Rattle.refutation_terms.specs.Sharp.{step, AreStepped}
 use Rattle.potential_bounds.specs.Searched.{AreValuesWithin, AreSteppedOn}
 use Rattle.potential_bounds.proofs.Products.{IsBetween}

@@ -1,14 +1,11 @@
-// The words that escape a bound leaf or a free leaf.
+// The words that escape a leaf of words that claims too little weight.
 ghost use Rattle.std.specs.Prelude.{◌≡◌, ◌+◌, ◌*◌, ◌<◌, ◌≤◌, IfOk, MatchOption, pos, neg_ℤ, ◌*ℤ◌, ◌≤ℤ◌};
 ghost use Rattle.rwsp_terms.specs.Instance.{cells};
 ghost use Rattle.rwsp_terms.specs.declared.limits.TheConstants.{GREATEST_REWARD, GREATEST_WEIGHT, LONGEST_WORD, MOST_DAYS, MOST_SHIFTS, MOST_SYMBOLS, MOST_WEEKS};
-ghost use Rattle.refutation_terms.specs.declared.lines.Line.TheVariants.{Bound, Free};
-ghost use Rattle.refutation_terms.specs.Leaf.{IsTooLight};
-ghost use Rattle.refutation_terms.specs.FreeLeaves.{IsTooLightFree};
-ghost use Rattle.refutation_terms.specs.Log.{HoldsFor};
-ghost use Rattle.refutation_terms.specs.Verdict.{Escapes, EscapesFor, EscapesFree};
+ghost use Rattle.refutation_terms.specs.declared.lines.WordClaim.TheVariants.{Light};
+ghost use Rattle.refutation_terms.specs.WordsLeaf.{RewardFits, WordsHold, WordsEscape};
 ghost use Rattle.domain_store.specs.Store.{BelongsTo, has_domain};
-ghost use Rattle.potential_bounds.specs.Claims.{claimed, IsClaimOf};
+ghost use Rattle.potential_bounds.specs.Claims.{IsGoalOf};
 
 use crate::{heaviest, total};
 use clean_words::{Automaton, CleanWords};
@@ -16,8 +13,8 @@ use domain_store::Domains;
 use rwsp_terms::{Weights, Word};
 use std::alloc::{AllocError, Global};
 
-/// What a bound leaf says, or in a log with a goal a free leaf: words that are clean for its rules weigh less than a
-/// roster, with so many free weekends.
+/// What a leaf of words claims: the words that are clean for its rules weigh less than a roster, with as many free
+/// weekends as the goal where the log has one.
 #[derive(Clone, Copy)]
 pub struct Claim<'a> {
     /// The goal of the log, in free weekends.
@@ -33,7 +30,7 @@ pub struct Claim<'a> {
 }
 
 /// The least of the heaviest words of the claim's turns over the domains that are clean for the rules of the automaton,
-/// where it weighs at least as many times the total; None exactly where the leaf of these rules holds.
+/// where it weighs at least what is owed; None exactly where the claim holds.
 pub fn claim_escape(
     alloc: Global,
     automaton: &Automaton,
@@ -44,11 +41,12 @@ pub fn claim_escape(
     requires position { claim.position < cells automaton.now.problem }
     requires some { 1 ≤ claim.turns }
     requires few { claim.turns * cells automaton.now.problem ≤ LONGEST_WORD }
-    requires reward { claim.reward ≤ GREATEST_REWARD }
-    requires goal { IsClaimOf automaton.now.problem claim.goal claim.position claim.reward }
-    ensures { let P = automaton.now.problem in let D = has_domain doms.now in
-        let goal = claim.entry.goal in let leaf = claimed claim.entry automaton.now.rules in
-        IfOk result (λ found. MatchOption found (HoldsFor P goal D leaf) (EscapesFor P goal D leaf)) }
+    requires goal { IsGoalOf automaton.now.problem claim.goal }
+    requires reward { RewardFits claim.goal claim.position claim.reward }
+    ensures { let P = automaton.now.problem in let D = has_domain doms.now in let R = automaton.now.rules in
+        let goal = claim.entry.goal in let p = claim.entry.position in
+        let light = Light claim.entry.turns claim.entry.reward claim.entry.weights.now in
+        IfOk result (λ found. MatchOption found (WordsHold P goal D p R light) (WordsEscape P goal D p R light)) }
 {
     let problem = automaton.problem();
     problem.prove_limits();
@@ -67,78 +65,6 @@ pub fn claim_escape(
         Some(heavy) => Ok(Some(heavy.word)),
         None => Ok(None),
     }
-}
-
-/// The same of a bound leaf.
-pub fn bound_escape(
-    alloc: Global,
-    automaton: &Automaton,
-    doms: &Domains,
-    p: u32,
-    turns: u32,
-    weights: &Weights,
-) -> Result<Option<Word>, AllocError>
-    requires belongs { BelongsTo automaton.now.problem doms.now }
-    requires position { p < cells automaton.now.problem }
-    requires some { 1 ≤ turns }
-    requires few { turns * cells automaton.now.problem ≤ LONGEST_WORD }
-    ensures { let P = automaton.now.problem in let D = has_domain doms.now in let R = automaton.now.rules in
-        IfOk result (λ found. MatchOption found
-        (IsTooLight P D p turns R weights.now)
-        (Escapes P D (Bound p turns R weights.now))) }
-{
-    let claim = Claim {
-        goal: None,
-        position: p,
-        turns,
-        reward: 0,
-        weights,
-    };
-    claim_escape(alloc, automaton, doms, claim)
-}
-
-/// What a free leaf says.
-#[derive(Clone, Copy)]
-pub struct FreeClaim<'a> {
-    /// The free weekends of the roster.
-    pub goal: u32,
-    /// The length of the words, in turns. They begin on day 1.
-    pub turns: u32,
-    /// What each free weekend weighs.
-    pub reward: u32,
-    /// What the symbols weigh on the days.
-    pub weights: &'a Weights,
-}
-
-/// The same of a free leaf.
-pub fn free_escape(
-    alloc: Global,
-    automaton: &Automaton,
-    doms: &Domains,
-    claim: FreeClaim<'_>,
-) -> Result<Option<Word>, AllocError>
-    requires belongs { BelongsTo automaton.now.problem doms.now }
-    requires days { automaton.now.problem.days ≡ 7 }
-    requires goal { claim.goal ≤ automaton.now.problem.weeks + 1 }
-    requires some { 1 ≤ claim.turns }
-    requires few { claim.turns * cells automaton.now.problem ≤ LONGEST_WORD }
-    requires reward { claim.reward ≤ GREATEST_REWARD }
-    ensures { let P = automaton.now.problem in let D = has_domain doms.now in let R = automaton.now.rules in
-        let goal = claim.entry.goal in let turns = claim.entry.turns in
-        let reward = claim.entry.reward in let y = claim.entry.weights.now in
-        IfOk result (λ found. MatchOption found
-        (IsTooLightFree P goal D turns reward R y)
-        (EscapesFree P goal D (Free turns reward R y))) }
-{
-    automaton.problem().prove_limits();
-    let claim = Claim {
-        goal: Some(claim.goal),
-        position: 0,
-        turns: claim.turns,
-        reward: claim.reward,
-        weights: claim.weights,
-    };
-    claim_escape(alloc, automaton, doms, claim)
 }
 
 // `turns` times the total.

@@ -13,7 +13,7 @@ mod weighing;
 mod weight_table;
 
 pub use clean_words::HeavyWord;
-pub use escapes::{Claim, FreeClaim, bound_escape, claim_escape, free_escape};
+pub use escapes::{Claim, claim_escape};
 pub use first::first_plain;
 pub use gate::{Gate, NoGate};
 pub use heavy::heaviest;

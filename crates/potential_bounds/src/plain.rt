@@ -1,5 +1,5 @@
 // The plain bounds: +1 or -1 on all shifts, or on one shift.
-ghost use Rattle.std.specs.Prelude.{◌≡◌, ◌≢◌, ℕ, ◌+◌, ◌<◌, ◌≤◌, List, [], ◌∷◌, ◌++◌, map, All, IfOk, OnOk, ℤ, pos, negsuc, ◌≤ℤ◌, ◌≤◌, neg_ℤ};
+ghost use Rattle.std.specs.Prelude.{◌≡◌, ◌≢◌, ℕ, ◌+◌, ◌<◌, ◌≤◌, List, [], ◌∷◌, ◌++◌, map, All, IfOk, OnOk, ℤ, pos, negsuc, ◌≤ℤ◌, neg_ℤ};
 ghost use Rattle.rwsp_terms.specs.declared.limits.TheConstants.{GREATEST_WEIGHT};
 ghost use Rattle.std.specs.List.{range_with_len, flat_map};
 ghost use Rattle.rwsp_terms.specs.Instance.{Instance, shift_count, symbol_numbered};

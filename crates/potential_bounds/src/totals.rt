@@ -5,7 +5,7 @@ ghost use Rattle.std.specs.List.{range_with_len};
 ghost use Rattle.rwsp_terms.specs.Instance.{IsDay, IsSymbol, shift_count};
 ghost use Rattle.rwsp_terms.specs.Weights.{weight_at};
 ghost use Rattle.refutation_terms.specs.Word.{int_sum_by, least_weight};
-ghost use Rattle.refutation_terms.specs.FreeLeaves.{free_total};
+ghost use Rattle.refutation_terms.specs.WordsLeaf.{owed};
 
 use rwsp_model::Problem;
 use rwsp_terms::{Symbol, Weights};
@@ -15,7 +15,7 @@ use rwsp_terms::{Symbol, Weights};
 pub fn total(problem: &Problem, weights: &Weights, reward: u32, goal: u32) -> i64
     requires reward { reward ≤ GREATEST_REWARD }
     requires goal { goal ≤ MOST_WEEKS + 1 }
-    ensures value { result ≡ free_total problem.now weights.now reward goal }
+    ensures value { result ≡ owed problem.now (Some goal) weights.now reward }
     ensures above { neg_ℤ (pos (MOST_DAYS * (MOST_SYMBOLS * (GREATEST_WEIGHT * (MOST_SHIFTS * MOST_WEEKS))))) ≤ℤ
         result }
     ensures below { result ≤ℤ pos (MOST_DAYS * (MOST_SYMBOLS * (GREATEST_WEIGHT * (MOST_SHIFTS * MOST_WEEKS)))

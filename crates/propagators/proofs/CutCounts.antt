@@ -12,7 +12,7 @@ use Rattle.rwsp_terms.specs.Instance.{Instance, cells, shift_count, IsDay}
 use Rattle.rwsp_terms.proofs.Counting.{count_same, cond_mono, count_next, count_mono}
 use Rattle.refutation_terms.specs.declared.lines.Line.TheVariants.{Split}
 use Rattle.refutation_terms.specs.Word.{Domains}
-use Rattle.refutation_terms.specs.Leaf.{is_only, fixed, possible}
+use Rattle.refutation_terms.specs.DayLeaf.{is_only, fixed, possible}
 use Rattle.refutation_terms.specs.Tree.{First, narrowed, is_idle}
 use Rattle.refutation_terms.proofs.Tests.{left_of, passes_by}
 use Rattle.refutation_terms.proofs.Alone.{not_only}

@@ -1,14 +1,15 @@
 -- Which day leaves hold once one domain is cut to a symbol.
-use Rattle.std.proofs.Common.{◌≡◌, ◌≢◌, ℕ, ◌+◌, ◌-◌, ◌*◌, ◌/◌, ◌%◌, ◌<◌, ◌≤◌, refl, ap, sym, ◌∙◌, subst, arith, Bool, true, false, pos, ℤ, inl, inr}
+use Rattle.std.proofs.Common.{◌≡◌, ◌≢◌, ℕ, ◌+◌, ◌-◌, ◌*◌, ◌/◌, ◌%◌, ◌<◌, ◌≤◌, refl, ap, sym, ◌∙◌, subst, arith, Bool, true, false, pos, ℤ, inl, inr, None}
 use Rattle.std.specs.Prelude.{◌<ℤ◌, ◌≤ℤ◌}
 use Rattle.std.proofs.lemmas.Int.{ints}
 use Rattle.std.proofs.lemmas.Bool.{cases_eq}
 use Rattle.std.proofs.lemmas.Nat.{div_below, mod_below, div-add-mod'}
 use Rattle.rwsp_terms.specs.declared.data.Symbol.{Symbol}
 use Rattle.rwsp_terms.specs.Instance.{Instance, cells, shift_count, least, greatest, IsDay, symbol_numbered}
-use Rattle.refutation_terms.specs.declared.lines.Line.TheVariants.{Split, Day}
+use Rattle.refutation_terms.specs.declared.lines.Line.TheVariants.{Split, Closing}
+use Rattle.refutation_terms.specs.declared.lines.Leaf.TheVariants.{Day}
 use Rattle.refutation_terms.specs.Word.{Domains}
-use Rattle.refutation_terms.specs.Leaf.{fixed, possible, HasTooMany, HasTooFew}
+use Rattle.refutation_terms.specs.DayLeaf.{fixed, possible, HasTooMany, HasTooFew}
 use Rattle.refutation_terms.specs.Tree.{First, narrowed, is_idle}
 use Rattle.refutation_terms.specs.Log.{Holds, LineFits}
 use Rattle.domain_store.specs.Store.{Store, has_domain}
@@ -106,7 +107,7 @@ short_only_so P D i j l z x lt day other small h none within short =
     ]
 
 closes_nowhere : (P : Instance) (D : Domains) (i j l z : ℕ) (x : Symbol) (over : Bool) → i < P.weeks → IsDay P j → x.number ≤ shift_count P → is_idle P D (position_in_week P i j) x.number ≡ false
-    → IsDay P l → IsWithinDemand P D l z → TakesNone P D j x.number → TakesNone P D l z → Holds P (narrowed D (Split (position_in_week P i j) x) First) (Day l (symbol_numbered z) over) → ⊥
+    → IsDay P l → IsWithinDemand P D l z → TakesNone P D j x.number → TakesNone P D l z → Holds P None (narrowed D (Split (position_in_week P i j) x) First) (Closing (Day l (symbol_numbered z) over)) → ⊥
 closes_nowhere P D i j l z x true lt day small h other within own none holds = over_only_so P D i j l z x lt day other h own within holds
 closes_nowhere P D i j l z x false lt day small h other within own none holds = short_only_so P D i j l z x lt day other small h none within holds
 
@@ -176,16 +177,16 @@ one_symbol_more P D j n before here z less =
 
 -- what the looks say
 
-pub closing_day : (P : Instance) (S : Store) (j : ℕ) (x : Symbol) (over : Bool) → IsFirstOverrun P (has_domain S) j x.number over → IsClosing P (IsDayLeaf P) S (Day j x over)
+pub closing_day : (P : Instance) (S : Store) (j : ℕ) (x : Symbol) (over : Bool) → IsFirstOverrun P (has_domain S) j x.number over → IsClosing P (IsDayLeaf P) S (Closing (Day j x over))
 closing_day P S j x over first =
-    let fits : LineFits P (Day j x over) = (first.day, first.first.symbol) in
+    let fits : LineFits P None (Closing (Day j x over)) = (first.day, first.first.symbol) in
     (fits, record { leaf = tt; fits = fits; short = tt; holds = holds_where_overrun P (has_domain S) j x over first.first.holds })
 
 pub none_closes : (P : Instance) (S : Store) → ((j z : ℕ) → IsDay P j → z ≤ shift_count P → IsWithinDemand P (has_domain S) j z) → Closes P (IsDayLeaf P) S → ⊥
-none_closes P S within (Day j x over, among, holds) = holds_nowhere P (has_domain S) j x over (within j x.number among.0 among.1) holds
+none_closes P S within (Closing (Day j x over), among, holds) = holds_nowhere P (has_domain S) j x over (within j x.number among.0 among.1) holds
 none_closes P S within (line, among, holds) = absurd among
 
-pub cut_day : (P : Instance) (S : Store) (p : ℕ) (x : Symbol) (j : ℕ) (counted : Symbol) (over : Bool) → IsDayCut P (has_domain S) p x j counted over → IsCut P (IsDaySpent P (has_domain S)) S p x (Day j counted over)
+pub cut_day : (P : Instance) (S : Store) (p : ℕ) (x : Symbol) (j : ℕ) (counted : Symbol) (over : Bool) → IsDayCut P (has_domain S) p x j counted over → IsCut P (IsDaySpent P (has_domain S)) S p x (Closing (Day j counted over))
 cut_day P S p x j counted over cut = record {
   is_spent = record { position = cut.position; useful = cut.useful; closes = (j, counted, over, cut.fits, cut.holds) };
   position = cut.position;

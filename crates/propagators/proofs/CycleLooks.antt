@@ -7,15 +7,17 @@ use Rattle.rwsp_terms.specs.declared.limits.TheConstants.{MOST_CELLS}
 use Rattle.rwsp_terms.specs.declared.data.Symbol.{Symbol}
 use Rattle.rwsp_terms.specs.Instance.{Instance, cells, symbol_numbered}
 use Rattle.refutation_terms.specs.declared.lines.Line.{Line}
-use Rattle.refutation_terms.specs.declared.lines.Line.TheVariants.{Split, Dead}
+use Rattle.refutation_terms.specs.declared.lines.Line.TheVariants.{Split, Closing}
+use Rattle.refutation_terms.specs.declared.lines.Leaf.TheVariants.{Words}
+use Rattle.refutation_terms.specs.declared.lines.WordClaim.TheVariants.{Dead}
 use Rattle.refutation_terms.specs.Word.{Domains, Over}
-use Rattle.refutation_terms.specs.Leaf.{IsDead}
+use Rattle.refutation_terms.specs.WordsLeaf.{IsDead}
 use Rattle.refutation_terms.specs.Tree.{First, narrowed}
 use Rattle.refutation_terms.specs.Sharp.{NoWordHas}
 use Rattle.refutation_terms.proofs.Named.{clean_for_some, dead_for_all, all_are_short}
 use Rattle.domain_store.specs.Sets.{has_symbol}
 use Rattle.domain_store.specs.Store.{Store, has_domain}
-use Rattle.domain_store.specs.Leaves.{IsHoldingLeafFor}
+use Rattle.domain_store.specs.Leaves.{IsHoldingLeaf}
 use Rattle.domain_store.specs.Looks.{Closes, IsClosing, IsCut}
 use Rattle.domain_store.specs.Cycles.{AreShortRules, IsCycleLeaf, IsCycleSpent}
 use Rattle.propagators.specs.Known.{KnownCycle, knows_symbol}
@@ -80,7 +82,7 @@ dead_once_alone P D R p x within none u long over clean =
 -- what the looks say
 
 cycle_leaf : (C : KnownCycle) (D : Domains) → 0 < cells C.problem → cells C.problem ≤ MOST_CELLS → AreShortRules C.problem C.rules → IsDead C.problem D 0 (2 * cells C.problem) C.rules
-    → IsHoldingLeafFor C.problem None D (Dead 0 (2 * cells C.problem) C.rules)
+    → IsHoldingLeaf C.problem None D (Closing (Words 0 C.rules (Dead (2 * cells C.problem))))
 cycle_leaf C D some few short dead = record {
   leaf = tt;
   fits = (some, (omega (arith, some), omega (arith, few)), short.are_rules);
@@ -88,7 +90,7 @@ cycle_leaf C D some few short dead = record {
   holds = dead;
 }
 
-pub closed_cycle : (C : KnownCycle) (S : Store) (line : Line) → line ≡ Dead 0 (2 * cells C.problem) C.rules → IsShortCycle C S → 0 < cells C.problem → cells C.problem ≤ MOST_CELLS → IsDead C.problem (knows_symbol C) 0 (2 * cells C.problem) C.rules
+pub closed_cycle : (C : KnownCycle) (S : Store) (line : Line) → line ≡ Closing (Words 0 C.rules (Dead (2 * cells C.problem))) → IsShortCycle C S → 0 < cells C.problem → cells C.problem ≤ MOST_CELLS → IsDead C.problem (knows_symbol C) 0 (2 * cells C.problem) C.rules
     → IsClosing C.problem (IsCycleLeaf C.problem) S line
 closed_cycle C S line is h some few dead = subst (λ (l : Line). IsClosing C.problem (IsCycleLeaf C.problem) S l) (sym is) (
   (refl, refl, h.short),
@@ -103,10 +105,10 @@ same_dead C S p len R h start turns short dead =
     (dead_for_all C.problem (has_domain S) 0 (2 * cells C.problem) C.rules R h.short.all_short (all_are_short C.problem R short.all_short) (subst Q turns (subst P start dead)))
 
 pub none_closes : (C : KnownCycle) (S : Store) → IsShortCycle C S → (IsDead C.problem (knows_symbol C) 0 (2 * cells C.problem) C.rules → ⊥) → Closes C.problem (IsCycleLeaf C.problem) S → ⊥
-none_closes C S h alive (Dead p len R, among, holds) = alive (same_dead C S p len R h among.0 among.1 among.2 holds)
+none_closes C S h alive (Closing (Words p R (Dead len)), among, holds) = alive (same_dead C S p len R h among.0 among.1 among.2 holds)
 none_closes C S h alive (line, among, holds) = absurd among
 
-pub cut_cycle : (C : KnownCycle) (S : Store) (p : ℕ) (x : Symbol) (line : Line) → line ≡ Dead 0 (2 * cells C.problem) C.rules → IsShortCycle C S → 0 < cells C.problem → cells C.problem ≤ MOST_CELLS → IsUnsupported C S p x
+pub cut_cycle : (C : KnownCycle) (S : Store) (p : ℕ) (x : Symbol) (line : Line) → line ≡ Closing (Words 0 C.rules (Dead (2 * cells C.problem))) → IsShortCycle C S → 0 < cells C.problem → cells C.problem ≤ MOST_CELLS → IsUnsupported C S p x
     → IsCut C.problem (IsCycleSpent C.problem (has_domain S)) S p x line
 cut_cycle C S p x line is h some few u = subst (λ (l : Line). IsCut C.problem (IsCycleSpent C.problem (has_domain S)) S p x l) (sym is) (record {
   is_spent = record { position = u.position; useful = u.useful; short = C.rules; all_short = h.short.all_short; nowhere = u.nowhere };

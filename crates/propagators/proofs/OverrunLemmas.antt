@@ -4,7 +4,7 @@ use Rattle.std.specs.Prelude.{Option}
 use Rattle.std.proofs.lemmas.Bool.{cases_eq}
 use Rattle.rwsp_terms.specs.declared.data.Symbol.{Symbol}
 use Rattle.rwsp_terms.specs.Instance.{Instance, shift_count, IsDay}
-use Rattle.refutation_terms.specs.Leaf.{fixed, possible}
+use Rattle.refutation_terms.specs.DayLeaf.{fixed, possible}
 use Rattle.domain_store.specs.Sets.{has_symbol}
 use Rattle.domain_store.specs.Store.{Store, has_domain}
 use Rattle.propagators.specs.Counted.{Counted, CountsFor, StandsFor, has_counted}

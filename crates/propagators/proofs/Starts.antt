@@ -19,10 +19,13 @@ use Rattle.rwsp_model.specs.Validity.{KeepsLimits}
 use Rattle.rwsp_model.proofs.Limits.{some_cells}
 use Rattle.rwsp_model.proofs.Numbering.{one_number}
 use Rattle.refutation_terms.specs.declared.lines.Line.{Line}
-use Rattle.refutation_terms.specs.declared.lines.Line.TheVariants.{Bound}
+use Rattle.refutation_terms.specs.declared.lines.Line.TheVariants.{Closing}
+use Rattle.refutation_terms.specs.declared.lines.Leaf.TheVariants.{Words}
+use Rattle.refutation_terms.specs.declared.lines.WordClaim.TheVariants.{Light}
 use Rattle.refutation_terms.specs.Word.{Domains, AreSame}
-use Rattle.refutation_terms.specs.Leaf.{IsTooLight}
-use Rattle.refutation_terms.specs.Log.{LineFits, AreRules, AreWeightsOf, WeightsFit, Holds}
+use Rattle.refutation_terms.specs.WordsLeaf.{IsTooLight}
+use Rattle.refutation_terms.specs.Log.{LineFits, Holds}
+use Rattle.refutation_terms.specs.Ranges.{AreRules, AreWeightsOf, WeightsFit}
 use Rattle.refutation_terms.specs.Sharp.{plain_bounds, weights_on, both_signs, IsSearched, HoldsAtTop, NoBoundHolds}
 use Rattle.refutation_terms.proofs.SameDomains.{turned_round}
 use Rattle.domain_store.specs.Sets.{has_symbol, IsDomain}
@@ -149,17 +152,17 @@ searched_answer P D R None none searched = record {
 searched_answer P D R (Some y) none found = (searched_fit P D R found.0 y found.2, inr (found.0, found.1, found.2), found.3)
 
 -- the bound of such weights fits
-top_bound : (P : Instance) (D : Domains) (R : List ℕ) (y : List Weight) → KeepsLimits P → AreShortRules P R → IsTopAnswer P D R (Some y) → LineFits P (Bound 0 1 R y)
+top_bound : (P : Instance) (D : Domains) (R : List ℕ) (y : List Weight) → KeepsLimits P → AreShortRules P R → IsTopAnswer P D R (Some y) → LineFits P None (Closing (Words 0 R (Light 1 0 y)))
 top_bound P D R y limits short h =
     let some : 0 < cells P = some_cells P limits in
     let few : cells P ≤ MOST_CELLS = limits.few_cells in
-    (some, (omega (arith, some), omega (arith, few)), short.are_rules, h.0)
+    (some, (omega (arith, some), omega (arith, few)), short.are_rules, h.0, refl)
 
 -- where there are no such weights, no such bound holds
-no_top_bound : (P : Instance) (D : Domains) (R : List ℕ) (line : Line) → AreShortRules P R → NoBoundHolds P D R → IsTopBound P D line → Holds P D line → ⊥
-no_top_bound P D R (Bound p turns S y) short none bound holds =
+no_top_bound : (P : Instance) (D : Domains) (R : List ℕ) (line : Line) → AreShortRules P R → NoBoundHolds P D R → IsTopBound P D line → Holds P None D line → ⊥
+no_top_bound P D R (Closing (Words p S (Light turns reward y))) short none bound holds =
     let lists : S ≡ R = one_short_list P S R bound.2.are_rules short.are_rules bound.2.all_short short.all_short in
-    let at_top : HoldsAtTop P D S y = subst (λ n. IsTooLight P D 0 n S y) bound.1 (subst (λ n. IsTooLight P D n turns S y) bound.0 holds) in
+    let at_top : HoldsAtTop P D S y = subst (λ n. IsTooLight P None D 0 n 0 S y) bound.1 (subst (λ n. IsTooLight P None D n turns 0 S y) bound.0 holds) in
     let here : HoldsAtTop P D R y = subst (λ (L : List ℕ). HoldsAtTop P D L y) lists at_top in
     elim bound.3 [
       | inl plain ↦ none.plain plain.0 y plain.1 here
@@ -168,14 +171,14 @@ no_top_bound P D R (Bound p turns S y) short none bound holds =
 no_top_bound P D R line short none bound holds = absurd bound
 
 -- such a bound holds under the same domains too
-same_top_bound : (P : Instance) (C D E : Domains) (line : Line) → 0 < cells P → AreSame P D E → IsTopBound P C line → Holds P D line → Holds P E line
-same_top_bound P C D E (Bound p turns R y) some same bound holds =
-    let at_top : HoldsAtTop P D R y = subst (λ n. IsTooLight P D 0 n R y) bound.1 (subst (λ n. IsTooLight P D n turns R y) bound.0 holds) in
-    subst (λ n. IsTooLight P E n turns R y) (sym bound.0) (subst (λ n. IsTooLight P E 0 n R y) (sym bound.1) (same_at_top P D E R y some same at_top))
+same_top_bound : (P : Instance) (C D E : Domains) (line : Line) → 0 < cells P → AreSame P D E → IsTopBound P C line → Holds P None D line → Holds P None E line
+same_top_bound P C D E (Closing (Words p R (Light turns reward y))) some same bound holds =
+    let at_top : HoldsAtTop P D R y = subst (λ n. IsTooLight P None D 0 n 0 R y) bound.1 (subst (λ n. IsTooLight P None D n turns 0 R y) bound.0 holds) in
+    subst (λ n. IsTooLight P None E n turns 0 R y) (sym bound.0) (subst (λ n. IsTooLight P None E 0 n 0 R y) (sym bound.1) (same_at_top P D E R y some same at_top))
 same_top_bound P C D E line some same bound holds = absurd bound
 
 -- what a look at domains finds, where they are the same as those of the start
-pub look_at_start : (w : TopWatch) (S : Store) (y : List Weight) → KeepsLimits w.problem → IsTopWatch w → w.weights ≡ Some y → AreSame w.problem (has_domain S) (has_domain w.start) → IsBoundLook w.problem w.start S (Some (Bound 0 1 w.rules y))
+pub look_at_start : (w : TopWatch) (S : Store) (y : List Weight) → KeepsLimits w.problem → IsTopWatch w → w.weights ≡ Some y → AreSame w.problem (has_domain S) (has_domain w.start) → IsBoundLook w.problem w.start S (Some (Closing (Words 0 w.rules (Light 1 0 y))))
 look_at_start w S y limits is found same =
     let P = w.problem in
     let A : Option (List Weight) → Type 0 = IsTopAnswer P (has_domain w.start) w.rules in
@@ -195,7 +198,7 @@ no_look w S limits is none = λ line bound holds.
 
 -- a bound under the same domains
 pub same_top : (P : Instance) (D E : Domains) (line : Line) → 0 < cells P → AreSame P D E → IsTopBound P D line → IsTopBound P E line
-same_top P D E (Bound p turns R y) some same h = (
+same_top P D E (Closing (Words p R (Light turns reward y))) some same h = (
   h.0,
   h.1,
   h.2,

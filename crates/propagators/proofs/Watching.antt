@@ -1,14 +1,15 @@
 -- What a propagator of windows keeps.
-use Rattle.std.proofs.Common.{◌≡◌, ◌≢◌, ◌⊎◌, inl, inr, ℕ, zero, suc, ◌+◌, ◌*◌, ◌%◌, ◌<◌, ◌≤◌, List, [], ◌∷◌, length, get_or, set, replicate, refl, ap, sym, ◌∙◌, subst, arith, Bool, true, false, ◌||◌, get_or-set_same, get_or-set_other}
+use Rattle.std.proofs.Common.{◌≡◌, ◌≢◌, ◌⊎◌, inl, inr, ℕ, zero, suc, ◌+◌, ◌*◌, ◌%◌, ◌<◌, ◌≤◌, List, [], ◌∷◌, length, get_or, set, replicate, refl, ap, sym, ◌∙◌, subst, arith, Bool, true, false, ◌||◌, get_or-set_same, get_or-set_other, None}
 use Rattle.std.proofs.lemmas.Bool.{cases_eq}
 use Rattle.std.proofs.lemmas.Nat.{mod-mul-add}
 use Rattle.std.proofs.lemmas.List.{length-set, length-replicate, ext_get_or, get_or-replicate}
 use Rattle.rwsp_terms.specs.declared.data.Symbol.{Symbol}
 use Rattle.rwsp_terms.specs.Instance.{Instance, cells}
 use Rattle.rwsp_terms.specs.declared.limits.TheConstants.{MOST_SHIFTS}
-use Rattle.refutation_terms.specs.declared.lines.Line.TheVariants.{Window}
+use Rattle.refutation_terms.specs.declared.lines.Line.TheVariants.{Closing}
+use Rattle.refutation_terms.specs.declared.lines.Leaf.TheVariants.{Window}
 use Rattle.refutation_terms.specs.Word.{Domains, Over}
-use Rattle.refutation_terms.specs.Leaf.{IsBlocked}
+use Rattle.refutation_terms.specs.WindowLeaf.{IsBlocked}
 use Rattle.refutation_terms.specs.Log.{LineFits}
 use Rattle.domain_store.specs.Sets.{has_symbol}
 use Rattle.domain_store.specs.Store.{Store, BelongsTo, domain_at, IsStore, HasDomains}
@@ -81,7 +82,7 @@ abbrev IsAwaited : Instance → List Bool → ℕ → ℕ → Type 0
 IsAwaited P pending p len = (q : ℕ) × (get_or pending q false ≡ true) × LiesOver P p len q
 
 still_awaited : (P : Instance) (sets : List (List ℕ)) (pending : List Bool) (p number at len : ℕ) (s : List ℕ) (flag lost : Bool)
-    → IsWatch (record { problem = P; sets = sets; pending = pending }) → flag ≡ (get_or pending p false || lost) → LineFits P (Window number at len) → IsBlocked P (has_known sets) number at len
+    → IsWatch (record { problem = P; sets = sets; pending = pending }) → flag ≡ (get_or pending p false || lost) → LineFits P None (Closing (Window number at len)) → IsBlocked P (has_known sets) number at len
     → IsAwaited P (set pending p flag) at len
 still_awaited P sets pending p number at len s flag lost w is fits blocked =
     let q = w.awaited number at len fits blocked in
@@ -170,7 +171,7 @@ all_awaited P S sets pending n belongs store tests same n_is all = record {
 
 -- where no position has to be looked at, no window holds
 pub none_awaited : (w : WindowWatch) (S : Store) → IsWatch w → w.sets ≡ S.sets → ((q : ℕ) → q < cells w.problem → get_or w.pending q false ≡ false) → Closes w.problem (IsWindowLeaf w.problem) S → ⊥
-none_awaited w S watch same none (Window number p len, among, holds) =
+none_awaited w S watch same none (Closing (Window number p len), among, holds) =
     let known : IsBlocked w.problem (has_known w.sets) number p len = subst (λ t. IsBlocked w.problem (has_known t) number p len) (sym same) holds in
     let q = watch.awaited number p len among known in
     let some : 0 < cells w.problem = omega (arith, among.2) in

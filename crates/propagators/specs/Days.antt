@@ -3,9 +3,10 @@ use Rattle.std.specs.Prelude.{◌≡◌, ◌≢◌, ℕ, ◌+◌, ◌-◌, ◌*�
 use Rattle.rwsp_terms.specs.declared.data.Symbol.{Symbol}
 use Rattle.rwsp_terms.specs.Instance.{Instance, cells, shift_count, least, greatest}
 use Rattle.refutation_terms.specs.declared.lines.Line.{Line}
-use Rattle.refutation_terms.specs.declared.lines.Line.TheVariants.{Split, Day}
+use Rattle.refutation_terms.specs.declared.lines.Line.TheVariants.{Split, Closing}
+use Rattle.refutation_terms.specs.declared.lines.Leaf.TheVariants.{Day}
 use Rattle.refutation_terms.specs.Word.{Domains}
-use Rattle.refutation_terms.specs.Leaf.{fixed, possible}
+use Rattle.refutation_terms.specs.DayLeaf.{fixed, possible}
 use Rattle.refutation_terms.specs.Tree.{First, narrowed, is_idle}
 use Rattle.refutation_terms.specs.Log.{LineFits, Holds}
 use Rattle.refutation_terms.specs.Sharp.{SomeDayHolds}
@@ -14,7 +15,7 @@ use Rattle.propagators.specs.Counted.{Counted, StandsFor}
 
 -- a day leaf of the problem
 abbrev pub IsDayLeaf : Instance → Line → Type 0
-IsDayLeaf P (Day j x over) = LineFits P (Day j x over)
+IsDayLeaf P (Closing (Day j x over)) = LineFits P None (Closing (Day j x over))
 IsDayLeaf P line = ⊥
 
 -- the symbol is beside another in the domain of the position, and a day leaf holds once it is alone there
@@ -80,5 +81,5 @@ pub record IsDayCut (P : Instance) (D : Domains) (p : ℕ) (x : Symbol) (j : ℕ
     (over : Bool) : Type 0 where
   pub position : p < cells P
   pub useful : is_idle P D p x.number ≡ false
-  pub fits : LineFits P (Day j counted over)
-  pub holds : Holds P (narrowed D (Split p x) First) (Day j counted over)
+  pub fits : LineFits P None (Closing (Day j counted over))
+  pub holds : Holds P None (narrowed D (Split p x) First) (Closing (Day j counted over))

@@ -3,7 +3,7 @@ use Rattle.std.specs.Prelude.{ℕ, ◌<◌, ◌≤◌, Bool, true, false, Option
 use Rattle.rwsp_terms.specs.declared.data.Symbol.{Symbol}
 use Rattle.rwsp_terms.specs.Instance.{Instance, shift_count, IsDay}
 use Rattle.refutation_terms.specs.Word.{Domains}
-use Rattle.refutation_terms.specs.Leaf.{HasTooMany, HasTooFew}
+use Rattle.refutation_terms.specs.DayLeaf.{HasTooMany, HasTooFew}
 
 -- the symbol isn't certain to be on the day too often, and can be there often enough
 pub record IsWithinDemand (P : Instance) (D : Domains) (j x : ℕ) : Type 0 where

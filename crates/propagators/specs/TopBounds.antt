@@ -4,9 +4,12 @@ use Rattle.rwsp_terms.specs.declared.data.Weight.{Weight}
 use Rattle.rwsp_terms.specs.declared.limits.TheConstants.{SEARCHED_ROUNDS}
 use Rattle.rwsp_terms.specs.Instance.{Instance}
 use Rattle.refutation_terms.specs.declared.lines.Line.{Line}
-use Rattle.refutation_terms.specs.declared.lines.Line.TheVariants.{Bound}
+use Rattle.refutation_terms.specs.declared.lines.Line.TheVariants.{Closing}
+use Rattle.refutation_terms.specs.declared.lines.Leaf.TheVariants.{Words}
+use Rattle.refutation_terms.specs.declared.lines.WordClaim.TheVariants.{Light}
 use Rattle.refutation_terms.specs.Word.{Domains, AreSame}
-use Rattle.refutation_terms.specs.Log.{LineFits, AreWeightsOf, Holds}
+use Rattle.refutation_terms.specs.Log.{LineFits, Holds}
+use Rattle.refutation_terms.specs.Ranges.{AreWeightsOf}
 use Rattle.refutation_terms.specs.Sharp.{plain_bounds, IsSearched, HoldsAtTop, NoBoundHolds}
 use Rattle.domain_store.specs.Store.{Store, BelongsTo, has_domain}
 use Rattle.domain_store.specs.Cycles.{AreShortRules}
@@ -18,7 +21,7 @@ AreTopWeights P D R y = ((k : ℕ) × (slice_get (plain_bounds P) k ≡ Some y))
 
 -- a bound of one turn from position 0 on, by all short rules and such weights
 abbrev pub IsTopBound : Instance → Domains → Line → Type 0
-IsTopBound P D (Bound p turns R y) = (p ≡ 0) × (turns ≡ 1) × AreShortRules P R × AreTopWeights P D R y
+IsTopBound P D (Closing (Words p R (Light turns reward y))) = (p ≡ 0) × (turns ≡ 1) × AreShortRules P R × AreTopWeights P D R y
 IsTopBound P D line = ⊥
 
 -- the domains are those of the start, and the line is such a bound under them
@@ -46,5 +49,5 @@ pub record IsTopWatch (w : TopWatch) : Type 0 where
 
 -- a bound that holds under the domains, or none where no bound of the start holds
 abbrev pub IsBoundLook : Instance → Store → Store → Option Line → Type 0
-IsBoundLook P start S None = (line : Line) → IsStartBound P start S line → Holds P (has_domain S) line → ⊥
-IsBoundLook P start S (Some line) = LineFits P line × IsStartBound P start S line × Holds P (has_domain S) line
+IsBoundLook P start S None = (line : Line) → IsStartBound P start S line → Holds P None (has_domain S) line → ⊥
+IsBoundLook P start S (Some line) = LineFits P None line × IsStartBound P start S line × Holds P None (has_domain S) line

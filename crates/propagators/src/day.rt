@@ -1,8 +1,9 @@
 // The leaves of days.
-ghost use Rattle.std.specs.Prelude.{◌≡◌, ℕ, ◌<◌, ◌↔◌, IfOk, Bool};
+ghost use Rattle.std.specs.Prelude.{◌≡◌, ℕ, ◌<◌, ◌↔◌, IfOk, Bool, None};
 ghost use Rattle.rwsp_terms.specs.declared.data.Symbol.{Symbol};
 ghost use Rattle.refutation_terms.specs.declared.lines.Line.{Line};
-ghost use Rattle.refutation_terms.specs.declared.lines.Line.TheVariants.{Day};
+ghost use Rattle.refutation_terms.specs.declared.lines.Line.TheVariants.{Closing};
+ghost use Rattle.refutation_terms.specs.declared.lines.Leaf.TheVariants.{Day};
 ghost use Rattle.refutation_terms.specs.Log.{LineFits};
 ghost use Rattle.domain_store.specs.Store.{Store, BelongsTo, has_domain};
 ghost use Rattle.propagators.specs.Counted.{StandsFor};
@@ -12,7 +13,7 @@ ghost use Rattle.domain_store.specs.Looks.{IsLook};
 use crate::Counts;
 use crate::day_cut::first_cut;
 use domain_store::{Domains, Look, Propagator};
-use refutation_terms::Line;
+use refutation_terms::{Leaf, Line};
 use rwsp_model::Problem;
 use rwsp_terms::Symbol;
 use std::alloc::{AllocError, Global};
@@ -50,7 +51,7 @@ impl<'a> DayProp<'a> {
         ensures serves { IfOk result (λ d. ⟦<DayProp<'a> as Propagator>⟧.serves d problem.now) }
         ensures tracks { IfOk result (λ d. ⟦<DayProp<'a> as Propagator>⟧.tracks d doms.now) }
         ensures leaves { IfOk result (λ d. (S : Store) (j : ℕ) (x : Symbol) (over : Bool)
-            → LineFits problem.now (Day j x over) → ⟦<DayProp<'a> as Propagator>⟧.leaves d S (Day j x over)) }
+            → LineFits problem.now None (Closing (Day j x over)) → ⟦<DayProp<'a> as Propagator>⟧.leaves d S (Closing (Day j x over))) }
         ensures days_only { IfOk result (λ d. (S : Store) (line : Line)
             → ⟦<DayProp<'a> as Propagator>⟧.leaves d S line → IsDayLeaf problem.now line) }
         ensures spent { IfOk result (λ d. (S : Store) (p : ℕ) (x : Symbol)
@@ -94,7 +95,7 @@ fn seen(problem: &Problem, counts: &Counts, doms: &Domains) -> Look
     problem.prove_limits();
     doms.prove_facts();
     if let Some((day, x, over)) = counts.overrun(problem) {
-        return Look::Closed(Line::Day { day, x, over });
+        return Look::Closed(Line::Closing(Leaf::Day { day, x, over }));
     }
     match first_cut(problem, counts, doms) {
         Some(cut) => cut.look(),

@@ -1,9 +1,10 @@
 // Symbols that a day leaf takes away.
 ghost use Rattle.std.specs.Prelude.{◌≡◌, ℕ, ◌+◌, ◌-◌, ◌<◌, length, MatchOption, true, false};
 ghost use Rattle.rwsp_terms.specs.Instance.{IsDay, IsSymbol};
-ghost use Rattle.refutation_terms.specs.Leaf.{fixed, possible};
+ghost use Rattle.refutation_terms.specs.DayLeaf.{fixed, possible};
 ghost use Rattle.domain_store.specs.Store.{has_domain, BelongsTo};
-ghost use Rattle.refutation_terms.specs.declared.lines.Line.TheVariants.{Day};
+ghost use Rattle.refutation_terms.specs.declared.lines.Line.TheVariants.{Closing};
+ghost use Rattle.refutation_terms.specs.declared.lines.Leaf.TheVariants.{Day};
 ghost use Rattle.domain_store.specs.declared.look.Look.TheVariants.{Cut};
 ghost use Rattle.propagators.specs.DayCuts.{TakesNoneOn, TakesNoneAtAll};
 ghost use Rattle.propagators.specs.Days.{AreCountsOf, TakesNone, IsSaturation, IsNeighbour, IsPlaceAnswer, IsDayCut};
@@ -11,7 +12,7 @@ ghost use Rattle.propagators.specs.Days.{AreCountsOf, TakesNone, IsSaturation, I
 use crate::Counts;
 use domain_store::{Domains, Look};
 use plain_leaves::position_of;
-use refutation_terms::Line;
+use refutation_terms::{Leaf, Line};
 use rwsp_model::Problem;
 use rwsp_terms::Symbol;
 
@@ -29,16 +30,16 @@ pub struct DayCut {
 impl DayCut {
     /// The cut with its leaf.
     pub fn look(self) -> Look
-        ensures { result ≡ Cut self.p self.x (Day self.day self.counted self.over) }
+        ensures { result ≡ Cut self.p self.x (Closing (Day self.day self.counted self.over)) }
     {
         Look::Cut {
             p: self.p,
             x: self.x,
-            line: Line::Day {
+            line: Line::Closing(Leaf::Day {
                 day: self.day,
                 x: self.counted,
                 over: self.over,
-            },
+            }),
         }
     }
 }

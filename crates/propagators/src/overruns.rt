@@ -1,7 +1,7 @@
 // The first day and symbol whose demand can't be met by what is counted.
 ghost use Rattle.std.specs.Prelude.{◌↔◌, IsTrue};
 ghost use Rattle.rwsp_terms.specs.Instance.{IsDay, IsSymbol};
-ghost use Rattle.refutation_terms.specs.Leaf.{HasTooMany, HasTooFew};
+ghost use Rattle.refutation_terms.specs.DayLeaf.{HasTooMany, HasTooFew};
 ghost use Rattle.domain_store.specs.Store.{Store, has_domain};
 ghost use Rattle.propagators.specs.Counted.{StandsFor, CountsFor, has_counted};
 ghost use Rattle.propagators.specs.Overruns.{IsSymbolAnswer, IsDayAnswer, IsOverrunAnswer};

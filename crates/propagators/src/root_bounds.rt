@@ -14,7 +14,7 @@ ghost use Rattle.propagators.specs.TopBounds.{IsStartBound, IsTopAnswer, IsTopWa
 use clean_words::Automaton;
 use domain_store::{Domains, Look, Propagator};
 use potential_bounds::{Gate, first_plain, plain_bounds, search_weights};
-use refutation_terms::Line;
+use refutation_terms::{Leaf, Line, WordClaim};
 use rwsp_model::Problem;
 use rwsp_terms::Weights;
 use std::alloc::{AllocError, Global};
@@ -112,12 +112,15 @@ impl<'a> RootBounds<'a> {
         }
         let rules = self.automaton.rules().copy()?;
         let weights = weights.copy()?;
-        Ok(Some(Line::Bound {
+        Ok(Some(Line::Closing(Leaf::Words {
             p: 0,
-            turns: 1,
             rules,
-            weights,
-        }))
+            claim: WordClaim::Light {
+                turns: 1,
+                weights,
+                reward: 0,
+            },
+        })))
     }
 }
 

@@ -1,8 +1,10 @@
 // The clean words of two turns, kept while domains change.
 ghost use Rattle.std.specs.Prelude.{◌≡◌, ◌↔◌, ℕ, ◌+◌, ◌-◌, ◌*◌, ◌^◌, ◌<◌, ◌≤◌, [], false, true, length, replicate, slice_index_or, slice_set, IfOk, IsTrue};
 ghost use Rattle.rwsp_terms.specs.Instance.{cells, shift_count};
-ghost use Rattle.refutation_terms.specs.declared.lines.Line.TheVariants.{Dead};
-ghost use Rattle.refutation_terms.specs.Leaf.{IsDead};
+ghost use Rattle.refutation_terms.specs.declared.lines.Line.TheVariants.{Closing};
+ghost use Rattle.refutation_terms.specs.declared.lines.Leaf.TheVariants.{Words};
+ghost use Rattle.refutation_terms.specs.declared.lines.WordClaim.TheVariants.{Dead};
+ghost use Rattle.refutation_terms.specs.WordsLeaf.{IsDead};
 ghost use Rattle.refutation_terms.specs.Sharp.{NoWordHas};
 ghost use Rattle.domain_store.specs.Sets.{has_symbol};
 ghost use Rattle.domain_store.specs.Store.{BelongsTo, domain_at};
@@ -13,7 +15,7 @@ use crate::day_marks::DayMarks;
 use crate::marks::{Marks, WORD_BITS};
 use clean_words::{Automaton, Step};
 use domain_store::{Domains, KeptSets, SymbolSet};
-use refutation_terms::Line;
+use refutation_terms::{Leaf, Line, WordClaim};
 use rwsp_model::Problem;
 use rwsp_terms::Symbol;
 use rwsp_terms::limits::{LONGEST_WORD, MOST_CELLS};
@@ -104,14 +106,16 @@ impl<'a> Cycle<'a> {
 
     /// The dead leaf of two turns from position 0 on, by a copy of the list of rules.
     pub fn dead_leaf(&self) -> Result<Line, AllocError>
-        ensures { IfOk result (λ line. line ≡ Dead 0 (2 * cells self.now.problem) self.now.rules) }
+        ensures { IfOk result (λ line. line ≡ Closing (Words 0 self.now.rules (Dead (2 * cells self.now.problem)))) }
     {
         let rules = self.automaton.rules().copy()?;
-        Ok(Line::Dead {
+        Ok(Line::Closing(Leaf::Words {
             p: 0,
-            len: 2 * self.automaton.problem().cells(),
             rules,
-        })
+            claim: WordClaim::Dead {
+                len: 2 * self.automaton.problem().cells(),
+            },
+        }))
     }
 
     /// Whether no word of two turns over the domains is clean.

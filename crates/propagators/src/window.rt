@@ -1,10 +1,11 @@
 // The leaves of windows.
-ghost use Rattle.std.specs.Prelude.{◌≡◌, ℕ, ◌<◌, ◌≤◌, length, IfOk, MatchOption, true, false, slice_set, slice_index_or};
+ghost use Rattle.std.specs.Prelude.{◌≡◌, ℕ, ◌<◌, ◌≤◌, length, IfOk, MatchOption, true, false, slice_set, slice_index_or, None};
 ghost use Rattle.rwsp_terms.specs.declared.data.Symbol.{Symbol};
 ghost use Rattle.rwsp_terms.specs.declared.limits.TheConstants.{MOST_CELLS, MOST_SHIFTS};
 ghost use Rattle.rwsp_terms.specs.Instance.{cells};
 ghost use Rattle.refutation_terms.specs.declared.lines.Line.{Line};
-ghost use Rattle.refutation_terms.specs.declared.lines.Line.TheVariants.{Window};
+ghost use Rattle.refutation_terms.specs.declared.lines.Line.TheVariants.{Closing};
+ghost use Rattle.refutation_terms.specs.declared.lines.Leaf.TheVariants.{Window};
 ghost use Rattle.refutation_terms.specs.Log.{LineFits};
 ghost use Rattle.domain_store.specs.Sets.{has_symbol};
 ghost use Rattle.domain_store.specs.Store.{Store, BelongsTo, domain_at};
@@ -59,8 +60,8 @@ impl<'a> WindowProp<'a> {
         ensures serves { IfOk result (λ w. ⟦<WindowProp<'a> as Propagator>⟧.serves w problem.now) }
         ensures tracks { IfOk result (λ w. ⟦<WindowProp<'a> as Propagator>⟧.tracks w doms.now) }
         ensures leaves { IfOk result (λ w. (S : Store) (number p len : ℕ)
-            → LineFits problem.now (Window number p len)
-            → ⟦<WindowProp<'a> as Propagator>⟧.leaves w S (Window number p len)) }
+            → LineFits problem.now None (Closing (Window number p len))
+            → ⟦<WindowProp<'a> as Propagator>⟧.leaves w S (Closing (Window number p len))) }
         ensures windows_only { IfOk result (λ w. (S : Store) (line : Line)
             → ⟦<WindowProp<'a> as Propagator>⟧.leaves w S line → IsWindowLeaf problem.now line) }
         ensures none_spent { IfOk result (λ w. (S : Store) (p : ℕ) (x : Symbol)

@@ -2,12 +2,13 @@
 ghost use Rattle.std.specs.Prelude.{◌≡◌, ℕ, ◌<◌, ◌≤◌, length, MatchOption};
 ghost use Rattle.rwsp_terms.specs.Instance.{cells};
 ghost use Rattle.rwsp_terms.specs.Rules.{rules};
-ghost use Rattle.refutation_terms.specs.declared.lines.Line.TheVariants.{Window};
+ghost use Rattle.refutation_terms.specs.declared.lines.Line.TheVariants.{Closing};
+ghost use Rattle.refutation_terms.specs.declared.lines.Leaf.TheVariants.{Window};
 ghost use Rattle.domain_store.specs.Store.{BelongsTo};
 ghost use Rattle.propagators.specs.Windows.{IsWindow, NoWindowOver};
 
 use domain_store::Domains;
-use refutation_terms::Line;
+use refutation_terms::{Leaf, Line};
 use rwsp_model::{Problem, rule_at, rule_count};
 use rwsp_terms::limits::LONGEST_WORD;
 use window_rules::bad_window_over;
@@ -23,13 +24,13 @@ pub struct WindowLeaf {
 impl WindowLeaf {
     /// The leaf as a line.
     pub fn line(self) -> Line
-        ensures { result ≡ Window self.rule self.p self.len }
+        ensures { result ≡ Closing (Window self.rule self.p self.len) }
     {
-        Line::Window {
+        Line::Closing(Leaf::Window {
             rule: self.rule,
             p: self.p,
             len: self.len,
-        }
+        })
     }
 }
 

@@ -1,5 +1,5 @@
 -- A line that fits the problem holds, or has a cause: it can't be without both.
-use Rattle.std.proofs.Common.{◌≡◌, ◌≢◌, ◌⊎◌, ◌==◌, ◌&&◌, ℕ, zero, suc, ◌+◌, ◌*◌, ◌%◌, ◌<◌, ◌≤◌, List, [], ◌∷◌, length, refl, ap, sym, ◌∙◌, subst, arith, inl, inr, false, Option, Some, None, pos, negsuc, ℤ}
+use Rattle.std.proofs.Common.{◌≡◌, ◌≢◌, ◌⊎◌, ◌==◌, ◌&&◌, ℕ, zero, suc, ◌+◌, ◌*◌, ◌%◌, ◌<◌, ◌≤◌, List, [], ◌∷◌, length, refl, ap, sym, ◌∙◌, subst, arith, inl, inr, Option, Some, None, pos, negsuc, ℤ}
 use Rattle.std.specs.Prelude.{Contains, ◌≤ℤ◌, ◌<ℤ◌, ◌+ℤ◌, ◌*ℤ◌}
 use Rattle.std.specs.List.{AllByRecursion, range_with_len}
 use Rattle.std.proofs.Math.Nat.{mul-le-mul}
@@ -21,19 +21,22 @@ use Rattle.rwsp_terms.proofs.Elements.{all_to}
 use Rattle.rwsp_model.specs.RuleNumbers.{place_of}
 use Rattle.rwsp_model.proofs.Numbering.{number_at_place, one_number}
 use Rattle.refutation_terms.specs.declared.lines.Line.{Line}
-use Rattle.refutation_terms.specs.declared.lines.Line.TheVariants.{Split, Window, Day, Dead, Bound, Few, Free, Unfinished}
+use Rattle.refutation_terms.specs.declared.lines.Line.TheVariants.{Split, Unfinished, Closing}
+use Rattle.refutation_terms.specs.declared.lines.Leaf.TheVariants.{Window, Day, Few, Words}
+use Rattle.refutation_terms.specs.declared.lines.WordClaim.TheVariants.{Dead, Light}
 use Rattle.refutation_terms.specs.declared.lines.LogRefusal.{LogRefusal}
 use Rattle.refutation_terms.specs.declared.lines.LogRefusal.TheVariants as Refusals
-use Rattle.refutation_terms.specs.Word.{Domains, weight, total}
-use Rattle.refutation_terms.specs.FreeWeekends.{free_weekends, is_free_weekend, free_weight}
-use Rattle.refutation_terms.specs.FreeLeaves.{free_total, IsTooLightFree}
-use Rattle.refutation_terms.specs.Leaf.{IsDead, IsTooLight}
+use Rattle.refutation_terms.specs.Word.{Domains, weight}
+use Rattle.refutation_terms.specs.FreeWeekends.{free_weekends, is_free_weekend}
+use Rattle.refutation_terms.specs.WordsLeaf.{worth, owed, IsTooLight}
 use Rattle.refutation_terms.specs.Tree.{is_idle}
-use Rattle.refutation_terms.specs.Log.{LineFitsFor, AreWeightsOf, HasWeight, Cites, CitesOnlyNamed, HoldsFor, ListsShortOnly}
-use Rattle.refutation_terms.specs.Escape.{ComesFirst, IsCleanOver, IsLeastClean, IsHeaviestBy, IsLeastHeaviestBy}
-use Rattle.refutation_terms.specs.Verdict.{IsLeast, IsUnnamed, IsLongIn, ListsLong, EscapesFor}
+use Rattle.refutation_terms.specs.Log.{LineFits, Cites, CitesOnlyNamed, Holds, ListsShortOnly}
+use Rattle.refutation_terms.specs.Ranges.{AreWeightsOf, HasWeight}
+use Rattle.refutation_terms.specs.Escape.{ComesFirst, IsCleanOver, IsHeaviestBy, IsLeastHeaviestBy}
+use Rattle.refutation_terms.specs.Verdict.{IsLeast, IsUnnamed, ListsLong}
+use Rattle.refutation_terms.specs.Leaves.{IsLongIn}
 use Rattle.refutation_terms.proofs.Named.{named-IsRule}
-use Rattle.refutation_checker.specs.LineVerdicts.{IsSoundFor, LineCauseFor}
+use Rattle.refutation_checker.specs.LineVerdicts.{IsSoundLine, LineCause}
 
 -- where no number is the least with a property, none has it
 pub least_number : (A : ℕ → Type 0) → ((k : ℕ) → IsLeast A k → ⊥) → (k : ℕ) → A k → ⊥
@@ -70,19 +73,15 @@ weighed_is_rule : (P : Instance) (y : List Weight) (r : Rule) → AreWeightsOf P
 weighed_is_rule P y r own c =
     subst (IsRule P) (sym c.2) (weighed_is_day P y c.0 c.1.0 (all_to (λ e. IsDay P e.day × IsSymbol P e.symbol) y own.1) c.1.1)
 
-cited_is_rule : (P : Instance) (goal : Option ℕ) (line : Line) (r : Rule) → LineFitsFor P goal line → Cites P line r → IsRule P r
+cited_is_rule : (P : Instance) (goal : Option ℕ) (line : Line) (r : Rule) → LineFits P goal line → Cites P line r → IsRule P r
 cited_is_rule P goal (Split p x) r fits c = absurd c
-cited_is_rule P goal (Window number p len) r fits c = named-IsRule P (number ∷ []) r c
-cited_is_rule P goal (Day j x over) r fits c = subst (IsRule P) (sym c) fits.0
-cited_is_rule P goal (Dead p len R) r fits c = named-IsRule P R r c
-cited_is_rule P None (Bound p turns R y) r fits (inl c) = named-IsRule P R r c
-cited_is_rule P None (Bound p turns R y) r fits (inr c) = weighed_is_rule P y r fits.3 c
-cited_is_rule P (Some goal) (Bound p turns R y) r fits c = absurd fits
+cited_is_rule P goal (Closing (Window number p len)) r fits c = named-IsRule P (number ∷ []) r c
+cited_is_rule P goal (Closing (Day j x over)) r fits c = subst (IsRule P) (sym c) fits.0
+cited_is_rule P goal (Closing (Words p R (Dead len))) r fits c = named-IsRule P R r c
+cited_is_rule P goal (Closing (Words p R (Light turns reward y))) r fits (inl c) = named-IsRule P R r c
+cited_is_rule P goal (Closing (Words p R (Light turns reward y))) r fits (inr c) = weighed_is_rule P y r fits.3 c
+cited_is_rule P goal (Closing Few) r fits c = absurd c
 cited_is_rule P goal Unfinished r fits c = absurd c
-cited_is_rule P goal Few r fits c = absurd c
-cited_is_rule P None (Free turns reward R y) r fits c = absurd fits
-cited_is_rule P (Some goal) (Free turns reward R y) r fits (inl c) = named-IsRule P R r c
-cited_is_rule P (Some goal) (Free turns reward R y) r fits (inr c) = weighed_is_rule P y r fits.3 c
 
 pub cited_is_named : (P : Instance) (named : List ℕ) (Cited : Rule → Type 0) (r : Rule) → IsRule P r → ((k : ℕ) → IsUnnamed P named Cited k → ⊥) → Cited r → Names P named r
 cited_is_named P named Cited r is none cites =
@@ -216,71 +215,52 @@ all_light P D p len R weighs t b few none u clean =
       | inl heavy ↦ (let far = enough (weighs u) b in absurd (none_weighs P D p len R weighs t b few none far.0 u clean heavy far.1))
     ]
 
-too_light : (P : Instance) (D : Domains) (p turns : ℕ) (R : List ℕ) (y : List Weight) → AllByRecursion IsWeight y → NoneWeighs P D p (turns * cells P) R (weight P y p) (pos turns *ℤ total P y) → IsTooLight P D p turns R y
-too_light P D p turns R y small none u long over clean =
-    all_light P D p (turns * cells P) R (weight P y p) (pos turns *ℤ total P y) (most (turns * cells P))
-    (λ v k. subst (λ n. weight P y p v ≤ℤ pos (most n)) k.long (weight_few P y p v small)) none u (record { long = long; over = over; clean = clean })
-
--- with a reward for each free weekend, of which a word has no more than days
+-- a word has no more free weekends than days, and is rewarded for each where the log has a goal
 
 reward_few : (w : ℤ) (m r b : ℕ) → w ≤ℤ pos m → r ≤ b → (w +ℤ pos r) ≤ℤ pos (m + b)
 reward_few w m r b h k = omega (arith, ints)
 
-free_few : (P : Instance) (y : List Weight) (reward : ℕ) (u : List Symbol) → AllByRecursion IsWeight y → free_weight P y reward 0 u ≤ℤ pos (most (length u) + reward * length u)
-free_few P y reward u small =
+without_reward : (w : ℤ) (m b : ℕ) → w ≤ℤ pos m → w ≤ℤ pos (m + b)
+without_reward w m b h = omega (arith, ints)
+
+worth_few : (P : Instance) (goal : Option ℕ) (y : List Weight) (reward p : ℕ) (u : List Symbol) → AllByRecursion IsWeight y → worth P goal y reward p u ≤ℤ pos (most (length u) + reward * length u)
+worth_few P None y reward p u small = without_reward (weight P y p u) (most (length u)) (reward * length u) (weight_few P y p u small)
+worth_few P (Some goal) y reward p u small =
     let days : free_weekends u ≤ length u = omega (arith, count_by-le-length (is_free_weekend u) (range_with_len 0 (length u)), length-range_with_len 0 (length u)) in
     let same : reward ≤ reward = omega arith in
-    reward_few (weight P y 0 u) (most (length u)) (reward * free_weekends u) (reward * length u) (weight_few P y 0 u small) (mul-le-mul same days)
+    reward_few (weight P y p u) (most (length u)) (reward * free_weekends u) (reward * length u) (weight_few P y p u small) (mul-le-mul same days)
 
-too_light_free : (P : Instance) (goal : ℕ) (D : Domains) (turns reward : ℕ) (R : List ℕ) (y : List Weight) → AllByRecursion IsWeight y → NoneWeighs P D 0 (turns * cells P) R (free_weight P y reward 0) (pos turns *ℤ free_total P y reward goal) → IsTooLightFree P goal D turns reward R y
-too_light_free P goal D turns reward R y small none u long over clean =
+too_light : (P : Instance) (goal : Option ℕ) (D : Domains) (p turns reward : ℕ) (R : List ℕ) (y : List Weight) → AllByRecursion IsWeight y → NoneWeighs P D p (turns * cells P) R (worth P goal y reward p) (pos turns *ℤ owed P goal y reward) → IsTooLight P goal D p turns reward R y
+too_light P goal D p turns reward R y small none u long over clean =
     let len : ℕ = turns * cells P in
-    all_light P D 0 len R (free_weight P y reward 0) (pos turns *ℤ free_total P y reward goal) (most len + reward * len)
-    (λ v k. subst (λ n. free_weight P y reward 0 v ≤ℤ pos (most n + reward * n)) k.long (free_few P y reward v small)) none u (record { long = long; over = over; clean = clean })
+    all_light P D p len R (worth P goal y reward p) (pos turns *ℤ owed P goal y reward) (most len + reward * len)
+    (λ v k. subst (λ n. worth P goal y reward p v ≤ℤ pos (most n + reward * n)) k.long (worth_few P goal y reward p v small)) none u (record { long = long; over = over; clean = clean })
 
 -- a line without a cause holds
 
 abbrev HasNoCause : Instance → Option ℕ → List ℕ → Domains → ℕ → Line → Type 0
-HasNoCause P goal named D n line = (why : LogRefusal) → LineCauseFor P goal named D n line why → ⊥
+HasNoCause P goal named D n line = (why : LogRefusal) → LineCause P goal named D n line why → ⊥
 
 lists_short : (P : Instance) (goal : Option ℕ) (named : List ℕ) (D : Domains) (n : ℕ) (line : Line) → HasNoCause P goal named D n line → CitesOnlyNamed P named line → ListsShortOnly P line
-lists_short P goal named D n (Dead p len R) none all = names_short P R (least_number (ListsLong P (Dead p len R)) (λ k least. none (Refusals.Long n k) (refl, all, least)))
-lists_short P goal named D n (Bound p turns R y) none all = names_short P R (least_number (ListsLong P (Bound p turns R y)) (λ k least. none (Refusals.Long n k) (refl, all, least)))
-lists_short P goal named D n (Free turns reward R y) none all = names_short P R (least_number (ListsLong P (Free turns reward R y)) (λ k least. none (Refusals.Long n k) (refl, all, least)))
+lists_short P goal named D n (Closing (Words p R claim)) none all = names_short P R (least_number (ListsLong P (Closing (Words p R claim))) (λ k least. none (Refusals.Long n k) (refl, all, least)))
 lists_short P goal named D n line none all = tt
 
-split_holds : (P : Instance) (goal : Option ℕ) (D : Domains) (p : ℕ) (x : Symbol) → is_idle P D p x.number ≡ false → HoldsFor P goal D (Split p x)
-split_holds P None D p x h = h
-split_holds P (Some goal) D p x h = h
-
-dead_holds : (P : Instance) (goal : Option ℕ) (D : Domains) (p len : ℕ) (R : List ℕ) → IsDead P D p len R → HoldsFor P goal D (Dead p len R)
-dead_holds P None D p len R h = h
-dead_holds P (Some goal) D p len R h = h
-
-dead_escapes : (P : Instance) (goal : Option ℕ) (D : Domains) (p len : ℕ) (R : List ℕ) (w : List Symbol) → IsLeastClean P D p len R w → EscapesFor P goal D (Dead p len R) w
-dead_escapes P None D p len R w h = h
-dead_escapes P (Some goal) D p len R w h = h
-
-line_holds : (P : Instance) (goal : Option ℕ) (named : List ℕ) (D : Domains) (n : ℕ) (line : Line) → LineFitsFor P goal line → HasNoCause P goal named D n line → CitesOnlyNamed P named line → ListsShortOnly P line → (HoldsFor P goal D line → ⊥) → ⊥
+line_holds : (P : Instance) (goal : Option ℕ) (named : List ℕ) (D : Domains) (n : ℕ) (line : Line) → LineFits P goal line → HasNoCause P goal named D n line → CitesOnlyNamed P named line → ListsShortOnly P line → (Holds P goal D line → ⊥) → ⊥
 line_holds P goal named D n (Split p x) fits none all short goes =
-    elim (cases_Bool (is_idle P D p x.number)) [ inl idle ↦ none (Refusals.Idle n) (refl, idle) | inr useful ↦ goes (split_holds P goal D p x useful) ]
-line_holds P goal named D n (Window number p len) fits none all short goes = none (Refusals.Fails n) (refl, all, tt, goes)
-line_holds P goal named D n (Day j x over) fits none all short goes = none (Refusals.Fails n) (refl, all, tt, goes)
-line_holds P goal named D n (Dead p len R) fits none all short goes =
-    goes (dead_holds P goal D p len R (λ u long over clean.
+    elim (cases_Bool (is_idle P D p x.number)) [ inl idle ↦ none (Refusals.Idle n) (refl, idle) | inr useful ↦ goes useful ]
+line_holds P goal named D n (Closing (Window number p len)) fits none all short goes = none (Refusals.Fails n) (refl, all, tt, goes)
+line_holds P goal named D n (Closing (Day j x over)) fits none all short goes = none (Refusals.Fails n) (refl, all, tt, goes)
+line_holds P goal named D n (Closing (Words p R (Dead len))) fits none all short goes =
+    goes (λ u long over clean.
     least_word len (IsCleanOver P D p len R) (λ w h. h.long)
-    (λ w h first. none (Refusals.Escape n w) (refl, all, short, dead_escapes P goal D p len R w (record { clean = h; least = first })))
-    u (record { long = long; over = over; clean = clean })))
-line_holds P None named D n (Bound p turns R y) fits none all short goes =
-    goes (too_light P D p turns R y (all_to IsWeight y fits.3.0.small) (λ w heavy le. none (Refusals.Escape n w) (refl, all, short, (heavy, le))))
-line_holds P (Some goal) named D n (Bound p turns R y) fits none all short goes = absurd fits
+    (λ w h first. none (Refusals.Escape n w) (refl, all, short, record { clean = h; least = first }))
+    u (record { long = long; over = over; clean = clean }))
+line_holds P goal named D n (Closing (Words p R (Light turns reward y))) fits none all short goes =
+    goes (too_light P goal D p turns reward R y (all_to IsWeight y fits.3.0.small) (λ w heavy le. none (Refusals.Escape n w) (refl, all, short, (heavy, le))))
+line_holds P goal named D n (Closing Few) fits none all short goes = none (Refusals.Fails n) (refl, all, tt, goes)
 line_holds P goal named D n Unfinished fits none all short goes = none (Refusals.Unfinished n) (refl, refl)
-line_holds P goal named D n Few fits none all short goes = none (Refusals.Fails n) (refl, all, tt, goes)
-line_holds P None named D n (Free turns reward R y) fits none all short goes = absurd fits
-line_holds P (Some goal) named D n (Free turns reward R y) fits none all short goes =
-    goes (too_light_free P goal D turns reward R y (all_to IsWeight y fits.3.0.small) (λ w heavy le. none (Refusals.Escape n w) (refl, all, short, (heavy, le))))
 
-pub line_stands : (P : Instance) (goal : Option ℕ) (named : List ℕ) (D : Domains) (n : ℕ) (line : Line) → LineFitsFor P goal line → HasNoCause P goal named D n line → (IsSoundFor P goal named D line → ⊥) → ⊥
+pub line_stands : (P : Instance) (goal : Option ℕ) (named : List ℕ) (D : Domains) (n : ℕ) (line : Line) → LineFits P goal line → HasNoCause P goal named D n line → (IsSoundLine P goal named D line → ⊥) → ⊥
 line_stands P goal named D n line fits none goes =
     let all : CitesOnlyNamed P named line = λ r c.
     cited_is_named P named (Cites P line) r (cited_is_rule P goal line r fits c) (least_number (IsUnnamed P named (Cites P line)) (λ k least. none (Refusals.Unnamed n k) (refl, least))) c in

@@ -1,98 +1,89 @@
 -- The causes of a line, by its kind and by its text.
-use Rattle.std.proofs.Common.{◌≡◌, ℕ, ◌+◌, ◌<◌, List, [], ◌∷◌, ◌++◌, length, refl, sym, ◌∙◌, subst, arith, Option, Some, None, inr}
-use Rattle.rwsp_terms.specs.declared.data.Symbol.{Symbol}
+use Rattle.std.proofs.Common.{◌≡◌, ℕ, ◌+◌, ◌<◌, List, [], ◌∷◌, ◌++◌, length, refl, sym, ◌∙◌, subst, arith, Option, inr}
 use Rattle.rwsp_terms.specs.Instance.{Instance, cells}
 use Rattle.refutation_terms.specs.declared.lines.Line.{Line}
-use Rattle.refutation_terms.specs.declared.lines.Line.TheVariants.{Split, Dead, Bound, Free}
-use Rattle.refutation_terms.specs.declared.lines.Turn.{Turn}
+use Rattle.refutation_terms.specs.declared.lines.Line.TheVariants.{Split, Closing}
+use Rattle.refutation_terms.specs.declared.lines.Leaf.TheVariants.{Words}
+use Rattle.refutation_terms.specs.declared.lines.Opening.{Opening}
+use Rattle.refutation_terms.specs.declared.lines.Opening.TheVariants.{Full}
 use Rattle.refutation_terms.specs.declared.lines.LogRefusal.{LogRefusal}
 use Rattle.refutation_terms.specs.declared.lines.LogRefusal.TheVariants as Refusals
 use Rattle.refutation_terms.specs.Word.{Domains, AreSame}
 use Rattle.refutation_terms.specs.Tree.{IsTree, domains_at}
-use Rattle.refutation_terms.specs.Log.{Holds, HoldsFor, LineFitsFor, GoalFits}
-use Rattle.refutation_terms.specs.Verdict.{SpellsFor, TreeCauseFor, SplitsIdlyFor, CauseBehindFor, header_lines_for}
-use Rattle.refutation_terms.proofs.SameDomains.{turned_round, same_idle, same_holds_for, same_escapes_for}
-use Rattle.refutation_terms.proofs.Spelled.{spelled_lines_fit_for}
+use Rattle.refutation_terms.specs.Log.{Holds, LineFits, GoalFits}
+use Rattle.refutation_terms.specs.Verdict.{Spells, TreeCause, SplitsIdly, CauseBehind, header_lines}
+use Rattle.refutation_terms.proofs.SameDomains.{turned_round, same_idle, same_holds, same_escapes}
+use Rattle.refutation_terms.proofs.Spelled.{spelled_lines_fit}
 use Rattle.domain_store.specs.Store.{Store, BelongsTo, has_domain, IsStore, HasDomains}
 use Rattle.domain_store.specs.States.{State, IsStateOf}
 use Rattle.domain_store.proofs.Idle.{idle_in_store}
-use Rattle.refutation_checker.specs.LineVerdicts.{StandsPlainly, IsPlainlySound, IsIdleSplit, PlainCause, HoldsByWordsFor, IsSoundFor, LineCauseFor}
+use Rattle.refutation_checker.specs.LineVerdicts.{StandsPlainly, IsPlainlySound, IsIdleSplit, PlainCause, HoldsByWords, IsSoundLine, LineCause}
 use Rattle.refutation_checker.specs.LineTexts.{Judging, log_of, IsSoundUnder, HasCause, IsLineRead, MayStep}
 
-pub plain_is_cause : (P : Instance) (goal : Option ℕ) (named : List ℕ) (D : Domains) (n : ℕ) (line : Line) (why : LogRefusal) → PlainCause P goal named D n line why → LineCauseFor P goal named D n line why
+pub plain_is_cause : (P : Instance) (goal : Option ℕ) (named : List ℕ) (D : Domains) (n : ℕ) (line : Line) (why : LogRefusal) → PlainCause P goal named D n line why → LineCause P goal named D n line why
 plain_is_cause P goal named D n line (Refusals.Escape i w) h = absurd h
 plain_is_cause P goal named D n line why h = h
 
 -- a line that holds in both ways holds
-pub holds_in_all : (P : Instance) (goal : Option ℕ) (D : Domains) (line : Line) → StandsPlainly P goal D line → HoldsByWordsFor P goal D line → HoldsFor P goal D line
-holds_in_all P None D (Dead p len R) h k = k
-holds_in_all P None D (Bound p turns R y) h k = k
-holds_in_all P None D (Free turns reward R y) h k = k
-holds_in_all P None D line h k = h
-holds_in_all P (Some goal) D (Dead p len R) h k = k
-holds_in_all P (Some goal) D (Bound p turns R y) h k = k
-holds_in_all P (Some goal) D (Free turns reward R y) h k = k
-holds_in_all P (Some goal) D line h k = h
+pub holds_in_all : (P : Instance) (goal : Option ℕ) (D : Domains) (line : Line) → StandsPlainly P goal D line → HoldsByWords P goal D line → Holds P goal D line
+holds_in_all P goal D (Closing (Words p R claim)) h k = k
+holds_in_all P goal D line h k = h
 
-pub sound_in_all : (P : Instance) (goal : Option ℕ) (named : List ℕ) (D : Domains) (line : Line) → IsPlainlySound P goal named D line → HoldsByWordsFor P goal D line → IsSoundFor P goal named D line
+pub sound_in_all : (P : Instance) (goal : Option ℕ) (named : List ℕ) (D : Domains) (line : Line) → IsPlainlySound P goal named D line → HoldsByWords P goal D line → IsSoundLine P goal named D line
 sound_in_all P goal named D line h k = record { named_all = h.named_all; short = h.short; holds = holds_in_all P goal D line h.stands k }
 
 -- under the same domains
 
-same_idle_split : (P : Instance) (goal : Option ℕ) (D E : Domains) (line : Line) → LineFitsFor P goal line → AreSame P D E → IsIdleSplit P D line → IsIdleSplit P E line
+same_idle_split : (P : Instance) (goal : Option ℕ) (D E : Domains) (line : Line) → LineFits P goal line → AreSame P D E → IsIdleSplit P D line → IsIdleSplit P E line
 same_idle_split P goal D E (Split p x) fits same h = sym (same_idle P D E p x.number fits.0 same) ∙ h
 same_idle_split P goal D E leaf fits same h = absurd h
 
-pub same_cause : (P : Instance) (goal : Option ℕ) (named : List ℕ) (D E : Domains) (n : ℕ) (line : Line) (why : LogRefusal) → 0 < cells P → GoalFits P None goal → LineFitsFor P goal line → AreSame P D E → LineCauseFor P goal named D n line why → LineCauseFor P goal named E n line why
+pub same_cause : (P : Instance) (goal : Option ℕ) (named : List ℕ) (D E : Domains) (n : ℕ) (line : Line) (why : LogRefusal) → 0 < cells P → GoalFits P Full goal → LineFits P goal line → AreSame P D E → LineCause P goal named D n line why → LineCause P goal named E n line why
 same_cause P goal named D E n line (Refusals.Idle i) some weeks fits same h = (h.0, same_idle_split P goal D E line fits same h.1)
 same_cause P goal named D E n line (Refusals.Fails i) some weeks fits same h =
-    (h.0, h.1, h.2, λ holds. h.3 (same_holds_for P goal E D line some weeks fits (turned_round P D E same) holds))
-same_cause P goal named D E n line (Refusals.Escape i w) some weeks fits same h = (h.0, h.1, h.2, same_escapes_for P goal D E line w some same h.3)
+    (h.0, h.1, h.2, λ holds. h.3 (same_holds P goal E D line some weeks fits (turned_round P D E same) holds))
+same_cause P goal named D E n line (Refusals.Escape i w) some weeks fits same h = (h.0, h.1, h.2, same_escapes P goal D E line w some same h.3)
 same_cause P goal named D E n line why some weeks fits same h = h
 
-pub same_sound : (P : Instance) (goal : Option ℕ) (named : List ℕ) (D E : Domains) (line : Line) → 0 < cells P → GoalFits P None goal → LineFitsFor P goal line → AreSame P D E → IsSoundFor P goal named D line → IsSoundFor P goal named E line
-same_sound P goal named D E line some weeks fits same h = record { named_all = h.named_all; short = h.short; holds = same_holds_for P goal D E line some weeks fits same h.holds }
+pub same_sound : (P : Instance) (goal : Option ℕ) (named : List ℕ) (D E : Domains) (line : Line) → 0 < cells P → GoalFits P Full goal → LineFits P goal line → AreSame P D E → IsSoundLine P goal named D line → IsSoundLine P goal named E line
+same_sound P goal named D E line some weeks fits same h = record { named_all = h.named_all; short = h.short; holds = same_holds P goal D E line some weeks fits same h.holds }
 
 -- a line that holds may be read
-split_holds : (P : Instance) (goal : Option ℕ) (D : Domains) (p : ℕ) (x : Symbol) → HoldsFor P goal D (Split p x) → Holds P D (Split p x)
-split_holds P None D p x h = h
-split_holds P (Some goal) D p x h = h
-
-pub may_step : (P : Instance) (goal : Option ℕ) (S : Store) (line : Line) → IsStore S → HasDomains S → BelongsTo P S → length S.sets ≡ cells P → LineFitsFor P goal line → HoldsFor P goal (has_domain S) line → MayStep S line
+pub may_step : (P : Instance) (goal : Option ℕ) (S : Store) (line : Line) → IsStore S → HasDomains S → BelongsTo P S → length S.sets ≡ cells P → LineFits P goal line → Holds P goal (has_domain S) line → MayStep S line
 may_step P goal S (Split p x) now tests belongs long fits h =
     let inside : p < length S.sets = omega (arith, long, fits.0) in
-    (inside, idle_in_store P (has_domain S) S p x.number now tests belongs inside (λ z. refl) ∙ split_holds P goal (has_domain S) p x h)
+    (inside, idle_in_store P (has_domain S) S p x.number now tests belongs inside (λ z. refl) ∙ h)
 may_step P goal S leaf now tests belongs long fits h = tt
 
 -- by the text of the line
 
-pub idle_text : (P : Instance) (goal : Option ℕ) (D : Domains) (bytes : List ℕ) (line : Line) → SpellsFor P goal bytes line → IsIdleSplit P D line → SplitsIdlyFor P goal D bytes
+pub idle_text : (P : Instance) (goal : Option ℕ) (D : Domains) (bytes : List ℕ) (line : Line) → Spells P goal bytes line → IsIdleSplit P D line → SplitsIdly P goal D bytes
 idle_text P goal D bytes (Split p x) spelled h = (p, x, spelled, h)
 idle_text P goal D bytes leaf spelled h = absurd h
 
-pub cause_of_text : (P : Instance) (goal : Option ℕ) (named : List ℕ) (D : Domains) (n : ℕ) (bytes : List ℕ) (line : Line) (why : LogRefusal) → SpellsFor P goal bytes line → LineCauseFor P goal named D n line why → TreeCauseFor P goal named D n bytes why
+pub cause_of_text : (P : Instance) (goal : Option ℕ) (named : List ℕ) (D : Domains) (n : ℕ) (bytes : List ℕ) (line : Line) (why : LogRefusal) → Spells P goal bytes line → LineCause P goal named D n line why → TreeCause P goal named D n bytes why
 cause_of_text P goal named D n bytes line (Refusals.Unnamed i k) spelled h = (h.0, (line, spelled, h.1))
 cause_of_text P goal named D n bytes line (Refusals.Idle i) spelled h = (h.0, idle_text P goal D bytes line spelled h.1)
 cause_of_text P goal named D n bytes line (Refusals.Long i k) spelled h = (h.0, (line, (spelled, h.1), h.2))
 cause_of_text P goal named D n bytes line (Refusals.Fails i) spelled h = (h.0, (line, (spelled, h.1), h.2, h.3))
 cause_of_text P goal named D n bytes line (Refusals.Escape i w) spelled h = (h.0, (line, (spelled, h.1), h.2, h.3))
-cause_of_text P goal named D n bytes line (Refusals.Unfinished i) spelled h = (h.0, subst (SpellsFor P goal bytes) h.1 spelled)
+cause_of_text P goal named D n bytes line (Refusals.Unfinished i) spelled h = (h.0, subst (Spells P goal bytes) h.1 spelled)
 cause_of_text P goal named D n bytes line why spelled h = absurd h
 
 -- a line that is spelled behind lines that aren't a whole tree, by what its judging found
-pub read_next : (J : Judging) (turn : Option Turn) (lines : List Line) (bytes : List ℕ) (line : Line) (w : State)
-    → SpellsFor J.problem J.goal bytes line → (IsTree lines → ⊥)
-    → IsSoundUnder J (domains_at J.problem turn lines (length lines)) line × IsStateOf J.problem turn (lines ++ line ∷ []) w
-    → IsLineRead J turn lines bytes w line
-read_next J turn lines bytes line w spelled part h =
-    let fit = spelled_lines_fit_for J.problem J.goal bytes line spelled in
+pub read_next : (J : Judging) (o : Opening) (lines : List Line) (bytes : List ℕ) (line : Line) (w : State)
+    → Spells J.problem J.goal bytes line → (IsTree lines → ⊥)
+    → IsSoundUnder J (domains_at J.problem o lines (length lines)) line × IsStateOf J.problem o (lines ++ line ∷ []) w
+    → IsLineRead J o lines bytes w line
+read_next J o lines bytes line w spelled part h =
+    let fit = spelled_lines_fit J.problem J.goal bytes line spelled in
     record { spelled = fit.1; sound = record { in_tree = part; fits = fit.0; sound = h.0 }; walked = h.1 }
 
-pub refused_next : (J : Judging) (turn : Option Turn) (lines : List Line) (bytes : List ℕ) (line : Line) (n : ℕ) (why : LogRefusal)
-    → SpellsFor J.problem J.goal bytes line → (IsTree lines → ⊥) → n ≡ header_lines_for J.goal turn + length lines + 1
-    → HasCause J (domains_at J.problem turn lines (length lines)) n line why
-    → CauseBehindFor J.problem J.goal (log_of J turn lines) bytes why
-refused_next J turn lines bytes line n why spelled part is h =
+pub refused_next : (J : Judging) (o : Opening) (lines : List Line) (bytes : List ℕ) (line : Line) (n : ℕ) (why : LogRefusal)
+    → Spells J.problem J.goal bytes line → (IsTree lines → ⊥) → n ≡ header_lines o J.goal + length lines + 1
+    → HasCause J (domains_at J.problem o lines (length lines)) n line why
+    → CauseBehind J.problem (log_of J o lines) bytes why
+refused_next J o lines bytes line n why spelled part is h =
     let P = J.problem in
-    let D = domains_at P turn lines (length lines) in
-    inr (part, subst (λ k. TreeCauseFor P J.goal J.named D k bytes why) is (cause_of_text P J.goal J.named D n bytes line why spelled h))
+    let D = domains_at P o lines (length lines) in
+    inr (part, subst (λ k. TreeCause P J.goal J.named D k bytes why) is (cause_of_text P J.goal J.named D n bytes line why spelled h))

@@ -1,69 +1,72 @@
--- Dead and bound leaves, judged apart from their log.
-use Rattle.std.proofs.Common.{ℕ, Option, Some, None, subst, IsTrue, true, false, refl, arith}
-use Rattle.std.specs.Prelude.{◌↔◌, MatchOption, IfOk, Result, Ok, Err}
+-- Leaves of words, judged apart from their log.
+use Rattle.std.proofs.Common.{◌≡◌, ◌∙◌, ap, ℕ, Option, None, subst, IsTrue, true, false, refl, arith, List, ◌<◌}
+use Rattle.std.specs.Prelude.{◌↔◌, MatchOption, IfOk, Result}
 use Rattle.std.specs.declared.alloc.AllocError.{AllocError}
 use Rattle.rwsp_terms.specs.declared.data.Symbol.{Symbol}
-use Rattle.std.proofs.Common.{List}
-use Rattle.rwsp_terms.specs.Instance.{Instance}
+use Rattle.rwsp_terms.specs.Instance.{Instance, cells}
 use Rattle.refutation_terms.specs.declared.lines.Line.{Line}
-use Rattle.refutation_terms.specs.declared.lines.Line.TheVariants.{Dead, Bound, Free}
+use Rattle.refutation_terms.specs.declared.lines.Line.TheVariants.{Split, Closing}
+use Rattle.refutation_terms.specs.declared.lines.Leaf.TheVariants.{Words}
+use Rattle.refutation_terms.specs.declared.lines.WordClaim.{WordClaim}
+use Rattle.refutation_terms.specs.declared.lines.WordClaim.TheVariants.{Dead, Light}
 use Rattle.refutation_terms.specs.Word.{Domains, AreSame}
 use Rattle.rwsp_terms.specs.Rules.{NamesShortOnly}
-use Rattle.refutation_terms.specs.Log.{LineFits, ListsShortOnly}
-use Rattle.refutation_terms.specs.Verdict.{Escapes, EscapesFor}
+use Rattle.refutation_terms.specs.declared.lines.Opening.TheVariants.{Full}
+use Rattle.refutation_terms.specs.Log.{LineFits, GoalFits, Holds, ListsShortOnly}
+use Rattle.refutation_terms.specs.Verdict.{Escapes}
 use Rattle.refutation_terms.proofs.Causes.{escaped_not_holding}
 use Rattle.refutation_terms.proofs.SameDomains.{same_holds, turned_round}
-use Rattle.refutation_checker.specs.LineVerdicts.{HasList, HasNoList, HoldsByWords, HoldsByWordsFor}
+use Rattle.domain_store.specs.Store.{Store, IsStore, BelongsTo, HasDomains, has_domain}
+use Rattle.domain_store.proofs.Idle.{positions_of}
+use Rattle.refutation_checker.specs.LineVerdicts.{HasList, HasNoList, HoldsByWords}
+use Rattle.refutation_checker.specs.LineTexts.{MayStep}
+use Rattle.refutation_checker.proofs.Judging.{may_step}
 
-pub same_by_words : (P : Instance) (D E : Domains) (line : Line) → LineFits P line → AreSame P D E → HoldsByWords P D line → HoldsByWords P E line
-same_by_words P D E (Dead p len R) fits same h = same_holds P D E (Dead p len R) (omega (arith, fits.0)) fits same h
-same_by_words P D E (Bound p turns R y) fits same h = same_holds P D E (Bound p turns R y) (omega (arith, fits.0)) fits same h
-same_by_words P D E line fits same h = tt
+pub same_by_words : (P : Instance) (goal : Option ℕ) (D E : Domains) (line : Line) → GoalFits P Full goal → LineFits P goal line → AreSame P D E → HoldsByWords P goal D line → HoldsByWords P goal E line
+same_by_words P goal D E (Closing (Words p R (Dead len))) weeks fits same h =
+    same_holds P goal D E (Closing (Words p R (Dead len))) (omega (arith, fits.0)) weeks fits same h
+same_by_words P goal D E (Closing (Words p R (Light turns reward y))) weeks fits same h =
+    same_holds P goal D E (Closing (Words p R (Light turns reward y))) (omega (arith, fits.0)) weeks fits same h
+same_by_words P goal D E line weeks fits same h = tt
 
-pub escaped_by_words : (P : Instance) (D : Domains) (line : Line) (w : List Symbol) → Escapes P D line w → HoldsByWords P D line → ⊥
-escaped_by_words P D (Dead p len R) w e h = escaped_not_holding P D (Dead p len R) w e h
-escaped_by_words P D (Bound p turns R y) w e h = escaped_not_holding P D (Bound p turns R y) w e h
-escaped_by_words P D line w e h = absurd e
-
--- a word that escapes a line of a log without a goal escapes it in each log
-escapes_for : (P : Instance) (goal : Option ℕ) (D : Domains) (line : Line) (w : List Symbol) → Escapes P D line w → EscapesFor P goal D line w
-escapes_for P None D line w e = e
-escapes_for P (Some goal) D (Free turns reward R y) w e = absurd e
-escapes_for P (Some goal) D line w e = e
-
-pub answer_for : (P : Instance) (goal : Option ℕ) (D : Domains) (line : Line) (answer : Result (Option (List Symbol)) AllocError)
-    → IfOk answer (λ found. MatchOption found (HoldsByWordsFor P goal D line) (Escapes P D line))
-    → IfOk answer (λ found. MatchOption found (HoldsByWordsFor P goal D line) (EscapesFor P goal D line))
-answer_for P goal D line (Ok None) h = h
-answer_for P goal D line (Ok (Some w)) h = escapes_for P goal D line w h
-answer_for P goal D line (Err e) h = tt
-
--- a line of a log without a goal
-pub by_words : (P : Instance) (D : Domains) (line : Line) → LineFits P line → HoldsByWordsFor P None D line → HoldsByWords P D line
-by_words P D (Free turns reward R y) fits h = absurd fits
-by_words P D line fits h = h
+pub escaped_by_words : (P : Instance) (goal : Option ℕ) (D : Domains) (line : Line) (w : List Symbol) → Escapes P goal D line w → HoldsByWords P goal D line → ⊥
+escaped_by_words P goal D (Closing (Words p R claim)) w e h = escaped_not_holding P goal D (Closing (Words p R claim)) w e h
+escaped_by_words P goal D line w e h = absurd e
 
 -- what the words say under the domains of a walk, they say under those of its lines
-pub holds_there : (P : Instance) (D E : Domains) (line : Line) → LineFits P line → AreSame P D E → HoldsByWords P D line → IsTrue true ↔ HoldsByWords P E line
-holds_there P D E line fits same h = (λ yes. same_by_words P D E line fits same h, λ there. refl)
+pub holds_there : (P : Instance) (goal : Option ℕ) (D E : Domains) (line : Line) → GoalFits P Full goal → LineFits P goal line → AreSame P D E → HoldsByWords P goal D line → IsTrue true ↔ HoldsByWords P goal E line
+holds_there P goal D E line weeks fits same h = (λ yes. same_by_words P goal D E line weeks fits same h, λ there. refl)
 
-pub fails_there : (P : Instance) (D E : Domains) (line : Line) (w : List Symbol) → LineFits P line → AreSame P D E → Escapes P D line w → IsTrue false ↔ HoldsByWords P E line
-fails_there P D E line w fits same e = (
+pub fails_there : (P : Instance) (goal : Option ℕ) (D E : Domains) (line : Line) (w : List Symbol) → GoalFits P Full goal → LineFits P goal line → AreSame P D E → Escapes P goal D line w → IsTrue false ↔ HoldsByWords P goal E line
+fails_there P goal D E line w weeks fits same e = (
   λ no. absurd (cc),
-  λ there. absurd (escaped_by_words P D line w e (same_by_words P E D line fits (turned_round P D E same) there)),
+  λ there. absurd (escaped_by_words P goal D line w e (same_by_words P goal E D line weeks fits (turned_round P D E same) there)),
 )
+
+-- a line that holds under the domains of the lines before is no idle split under those of the walk, the same ones
+pub passed_by : (P : Instance) (goal : Option ℕ) (E : Domains) (S : Store) (line : Line) → 0 < cells P → IsStore S → HasDomains S → BelongsTo P S → AreSame P E (has_domain S) → LineFits P goal line → Holds P goal E line → MayStep S line
+passed_by P goal E S (Split p x) some now tests belongs same fits h =
+    may_step P None S (Split p x) now tests belongs (positions_of P S now belongs) fits (same_holds P None E (has_domain S) (Split p x) some tt fits same h)
+passed_by P goal E S line some now tests belongs same fits h = tt
 
 -- the list of a line
 
 pub its_short_rules : (P : Instance) (line : Line) (list : List ℕ) → HasList line list → ListsShortOnly P line → NamesShortOnly P list
-its_short_rules P (Dead p len R) list has short = subst (NamesShortOnly P) has short
-its_short_rules P (Bound p turns R y) list has short = subst (NamesShortOnly P) has short
-its_short_rules P (Free turns reward R y) list has short = subst (NamesShortOnly P) has short
+its_short_rules P (Closing (Words p R claim)) list has short = subst (NamesShortOnly P) has short
 its_short_rules P line list has short = absurd has
 
 -- nothing is said by words of a line without one
-pub without_list : (P : Instance) (goal : Option ℕ) (D : Domains) (line : Line) → HasNoList line → HoldsByWordsFor P goal D line
-without_list P goal D (Dead p len R) none = absurd none
-without_list P goal D (Bound p turns R y) none = absurd none
-without_list P goal D (Free turns reward R y) none = absurd none
+pub without_list : (P : Instance) (goal : Option ℕ) (D : Domains) (line : Line) → HasNoList line → HoldsByWords P goal D line
+without_list P goal D (Closing (Words p R claim)) none = absurd none
 without_list P goal D line none = tt
+
+-- a search for a word that escapes the line has found one, or the line holds
+abbrev pub IsAnswered : Instance → Option ℕ → Domains → Line → Result (Option (List Symbol)) AllocError → Type 0
+IsAnswered P goal D line answer =
+    IfOk answer (λ found. MatchOption found (HoldsByWords P goal D line) (Escapes P goal D line))
+
+-- a leaf of words by a list that is its own
+pub with_list : (line : Line) (list R : List ℕ) (p : ℕ) (claim : WordClaim) → line ≡ Closing (Words p R claim) → HasList line list → line ≡ Closing (Words p list claim)
+with_list line list R p claim is has =
+    let same : R ≡ list = subst (λ (l : Line). HasList l list) is has in
+    is ∙ ap (λ R. Closing (Words p R claim)) same

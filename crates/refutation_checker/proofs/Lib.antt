@@ -1,5 +1,4 @@
 pub mod Lists
-pub mod GoalLines
 pub mod Lines
 pub mod Judging
 pub mod Passing
@@ -11,7 +10,6 @@ pub mod Deciding
 pub mod SomeVerdict
 pub mod LeafJudging
 pub mod ShortTails
-pub mod SomeFreeVerdict
 pub mod LastFeed
 pub mod Unread
 pub mod Starts

@@ -1,11 +1,12 @@
 -- Lines by their kinds.
-use Rattle.std.proofs.Common.{◌≡◌, ℕ, ◌≤◌, length, Option, Bool, false, IsTrue, sym, subst, arith, inl, inr}
+use Rattle.std.proofs.Common.{◌≡◌, ℕ, ◌≤◌, length, Option, None, Bool, false, IsTrue, sym, subst, arith, inl, inr}
 use Rattle.std.proofs.lemmas.Bool.{cases_lt}
 use Rattle.std.specs.Prelude.{◌↔◌}
 use Rattle.rwsp_terms.specs.Instance.{Instance}
 use Rattle.rwsp_terms.specs.declared.data.Symbol.{Symbol}
-use Rattle.refutation_terms.specs.declared.lines.Line.{Line}
-use Rattle.refutation_terms.specs.declared.lines.Line.TheVariants.{Day}
+use Rattle.refutation_terms.specs.declared.lines.Leaf.{Leaf}
+use Rattle.refutation_terms.specs.declared.lines.Line.TheVariants.{Closing}
+use Rattle.refutation_terms.specs.declared.lines.Leaf.TheVariants.{Day}
 use Rattle.refutation_terms.specs.Word.{Domains}
 use Rattle.refutation_terms.specs.Tree.{is_idle}
 use Rattle.refutation_terms.specs.Log.{Holds}
@@ -30,5 +31,5 @@ split_of_many P S p x n h is some idle =
     ]
 
 -- a day leaf
-pub day_stands : (P : Instance) (goal : Option ℕ) (D : Domains) (line : Line) (j : ℕ) (x : Symbol) (over b : Bool) → line ≡ Day j x over → (IsTrue b ↔ Holds P D (Day j x over)) → IsTrue b ↔ StandsPlainly P goal D line
-day_stands P goal D line j x over b is test = subst (λ (l : Line). IsTrue b ↔ StandsPlainly P goal D l) (sym is) test
+pub day_stands : (P : Instance) (goal : Option ℕ) (D : Domains) (leaf : Leaf) (j : ℕ) (x : Symbol) (over b : Bool) → leaf ≡ Day j x over → (IsTrue b ↔ Holds P None D (Closing (Day j x over))) → IsTrue b ↔ StandsPlainly P goal D (Closing leaf)
+day_stands P goal D leaf j x over b is test = subst (λ (l : Leaf). IsTrue b ↔ StandsPlainly P goal D (Closing l)) (sym is) test

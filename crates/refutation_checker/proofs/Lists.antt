@@ -15,12 +15,14 @@ use Rattle.rwsp_terms.proofs.Ascending.{rising}
 use Rattle.rwsp_model.specs.RuleNumbers.{IsShortNumber}
 use Rattle.rwsp_model.proofs.Numbering.{one_number}
 use Rattle.refutation_terms.specs.declared.lines.Line.{Line}
-use Rattle.refutation_terms.specs.Log.{AreRules, Cites, CitesOnlyNamed, LineFits}
-use Rattle.refutation_terms.specs.Verdict.{IsLeast, IsUnnamed, IsLongIn}
+use Rattle.refutation_terms.specs.Ranges.{AreRules}
+use Rattle.refutation_terms.specs.Log.{Cites, CitesOnlyNamed}
+use Rattle.refutation_terms.specs.Verdict.{IsLeast, IsUnnamed}
+use Rattle.refutation_terms.specs.Leaves.{IsLongIn}
 use Rattle.refutation_log.specs.Cited.{IsDayRule, IsWeighedDayRule}
 use Rattle.refutation_log.proofs.Adding.{StandsOn, weighed_steps}
-use Rattle.refutation_log.proofs.CitedRules.{TellsCited, line_numbered, rule_there}
-use Rattle.refutation_checker.specs.Outside.{IsOutside, HoldsAll, IsLeastOutside, lesser}
+use Rattle.refutation_log.proofs.CitedRules.{TellsCited, rule_there}
+use Rattle.refutation_checker.specs.Outside.{IsOutside, HoldsAll, IsLeastOutside, IsLeastUnnamed, lesser}
 
 -- the same numbers are asked for
 pub same_outside : (A B : ℕ → Type 0) (list : List ℕ) (found : Option ℕ) → ((k : ℕ) → A k ↔ B k) → IsLeastOutside A list found → IsLeastOutside B list found
@@ -111,16 +113,21 @@ all_days P items y i list found e all h =
     (same_outside (DaysBelow P items (length items)) (IsWeighedDayRule P items) list found (λ k. ((weighed_steps P items k).1, (weighed_steps P items k).0))
     (subst (λ n. IsLeastOutside (DaysBelow P items n) list found) all h))
 
--- what the search for a number outside the list says of the rules
-pub found_unnamed : (P : Instance) (named : List ℕ) (line : Line) (A : ℕ → Type 0) (found : Option ℕ) → LineFits P line → TellsCited P line A → IsLeastOutside A named found
-    → MatchOption found (CitesOnlyNamed P named line) (λ k. IsLeast (IsUnnamed P named (Cites P line)) k)
-found_unnamed P named line A None fits tells h =
-    λ r cites. let k = line_numbered P line fits r cites in (k.0, h k.0 ((tells k.0).1 (r, k.1, cites)), k.1)
-found_unnamed P named line A (Some n) fits tells h =
+-- what the search for a number outside the list says of the rules that are cited, each of which has a number
+pub found_unnamed : (P : Instance) (named : List ℕ) (Cited : Rule → Type 0) (A : ℕ → Type 0) (found : Option ℕ) → ((r : Rule) → Cited r → (k : ℕ) × (rule_of P k ≡ Some r)) → TellsCited P Cited A → IsLeastOutside A named found
+    → IsLeastUnnamed P named Cited found
+found_unnamed P named Cited A None numbered tells h =
+    λ r cites. let k = numbered r cites in (k.0, h k.0 ((tells k.0).1 (r, k.1, cites)), k.1)
+found_unnamed P named Cited A (Some n) numbered tells h =
     let here = (tells n).0 h.0.0 in (
       (here.0, here.1, here.2, λ in_it. h.0.1 (subst (Contains named) (one_number P in_it.0 n here.0 in_it.2 here.1) in_it.1)),
       λ i q. h.1 i ((tells i).1 (q.0, q.1, q.2), λ in_it. q.3 (i, in_it, q.1)),
     )
+
+-- the rules of a line by those of its leaf
+pub unnamed_by : (P : Instance) (named : List ℕ) (line : Line) (found : Option ℕ) → IsLeastUnnamed P named (Cites P line) found → MatchOption found (CitesOnlyNamed P named line) (λ k. IsLeast (IsUnnamed P named (Cites P line)) k)
+unnamed_by P named line None h = h
+unnamed_by P named line (Some k) h = h
 
 -- rules that aren't short
 

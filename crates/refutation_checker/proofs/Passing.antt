@@ -15,35 +15,38 @@ use Rattle.rwsp_terms.specs.Instance.{Instance, name_of}
 use Rattle.rwsp_terms.specs.Rules.{rule_of, Names}
 use Rattle.rwsp_model.specs.Validity.{KeepsLimits}
 use Rattle.refutation_terms.specs.declared.lines.Line.{Line}
+use Rattle.refutation_terms.specs.declared.lines.Opening.{Opening}
+use Rattle.refutation_terms.specs.declared.lines.Opening.TheVariants.{Full, Turned}
 use Rattle.refutation_terms.specs.declared.lines.Turn.{Turn}
+use Rattle.refutation_terms.specs.declared.lines.LogKind.TheVariants.{WithoutGoal}
 use Rattle.refutation_terms.specs.declared.lines.LogRefusal.{LogRefusal}
 use Rattle.refutation_terms.specs.declared.lines.LogRefusal.TheVariants as Refusals
 use Rattle.refutation_terms.specs.Tree.{IsTree, after_trees, lines_in, opening, domains_at}
-use Rattle.refutation_terms.specs.Log.{Log, Fits, FitsFor, LineFitsFor, TurnFits, TurnCites, AreRules, Passes}
-use Rattle.refutation_terms.specs.LogText.{raw, line_text, log_text, header_text, turn_text, raw_fields}
-use Rattle.refutation_terms.specs.Verdict.{BeforeTurn, IsRefusedLine, IsRefused, TurnCause, header_lines_for}
-use Rattle.refutation_terms.proofs.Spelled.{fitting_lines_are_spelled_for}
+use Rattle.refutation_terms.specs.Log.{Log, Fits, LineFits, OpeningFits, OpeningCites, GoalFits, Passes}
+use Rattle.refutation_terms.specs.Ranges.{AreRules}
+use Rattle.refutation_terms.specs.LogText.{raw, line_text, log_text, header_text, turn_text, raw_fields, lines_text}
+use Rattle.refutation_terms.specs.Verdict.{kind_by, BeforeTurn, IsRefused, TurnCause, header_lines}
+use Rattle.refutation_terms.proofs.Spelled.{fitting_lines_are_spelled}
 use Rattle.refutation_terms.proofs.Trees.{part_is_not_whole, tree_is_whole}
-use Rattle.refutation_log.specs.Printing.{lines_text}
 use Rattle.refutation_log.proofs.HeaderTexts.{turn_visible}
 use Rattle.refutation_log.proofs.LineTexts.{small_from}
 use Rattle.rwsp_model.proofs.Names.{symbol_named}
-use Rattle.refutation_log.proofs.OneText.{name_there, feedless_words, has_names}
-use Rattle.refutation_checker.proofs.Unread.{body_feedless}
+use Rattle.refutation_log.proofs.OneText.{name_there, feedless_words, body_feedless, has_names}
 use Rattle.refutation_log.proofs.PrintedTexts.{line_piece, joined_lines}
 use Rattle.domain_store.specs.States.{State, IsStateOf}
 use Rattle.domain_store.proofs.Stack.{read_is_tree}
-use Rattle.refutation_checker.specs.LineTexts.{Judging, log_of, HasCause, IsSoundNext, PassesNext, HasCauseNext}
+use Rattle.refutation_checker.specs.LineTexts.{Judging, HasCause, IsSoundNext, PassesNext, HasCauseNext}
 use Rattle.refutation_checker.specs.ChunkVerdicts.{AreSoundBehind, IsChunkRefused}
-use Rattle.refutation_checker.specs.Headers.{HasHeader, without_goal}
+use Rattle.refutation_log.specs.Headers.{GoalIsInRange}
 use Rattle.refutation_checker.specs.Turns.{IsSoundTurn, TurnFault, IsTurnFault}
-use Rattle.refutation_checker.specs.LogVerdicts.{IsPassed, IsRefusedAt, IsTreeJudged}
+use Rattle.refutation_checker.specs.LogVerdicts.{judging_of, IsPassed, IsRefusedAt, IsTreeJudged}
 use Rattle.refutation_checker.proofs.Judging.{refused_next}
-use Rattle.refutation_checker.proofs.SoundLines.{sound_joined, passes, refused}
+use Rattle.refutation_checker.proofs.SoundLines.{sound_joined, HasHeader, passes, refused}
+use Rattle.refutation_checker.proofs.HeaderFaults.{refused_at_line}
 
 -- turns
 
-pub day_named : (P : Instance) (named : List ℕ) (t : Turn) (k : ℕ) → rule_of P k ≡ Some (TheRules.Day t.day) → Contains named k → (r : Rule) → TurnCites (Some t) r → Names P named r
+pub day_named : (P : Instance) (named : List ℕ) (t : Turn) (k : ℕ) → rule_of P k ≡ Some (TheRules.Day t.day) → Contains named k → (r : Rule) → OpeningCites (Turned t) r → Names P named r
 day_named P named t k is held r cites = (k, held, is ∙ ap (λ r. Some r) (sym cites))
 
 -- fronts of a tree
@@ -55,28 +58,28 @@ no_front lines k tree less front =
     let some : after_trees 1 (take k lines) ≡ Some [] = subst (λ ls. after_trees 1 ls ≡ Some []) front.1 (tree_is_whole front.0) in
     cc
 
-pub still_part : (P : Instance) (turn : Option Turn) (lines : List Line) (w : State) → IsStateOf P turn lines w → (IsTree lines → ⊥) → w.whole ≡ false
-still_part P turn lines w state part =
+pub still_part : (P : Instance) (o : Opening) (lines : List Line) (w : State) → IsStateOf P o lines w → (IsTree lines → ⊥) → w.whole ≡ false
+still_part P o lines w state part =
     elim (cases_Bool w.whole) [
-      | inl whole ↦ absurd (part ((read_is_tree w.whole (length w.store.sets) w.store (opening P turn) w.splits lines state.read).0 whole))
+      | inl whole ↦ absurd (part ((read_is_tree w.whole (length w.store.sets) w.store (opening P o) w.splits lines state.read).0 whole))
       | inr e ↦ e
     ]
 
 -- one line more
 
 pub passed_next : (J : Judging) (g : Log) (i number : ℕ) (line : Line) (w new : State) (answer : Result (Option LogRefusal) AllocError)
-    → IsTree g.lines → LineFitsFor J.problem J.goal line → slice_get g.lines i ≡ Some line → IsPassed J g i w → number ≡ header_lines_for J.goal g.turn + i + 1
+    → IsTree g.lines → LineFits J.problem J.goal line → slice_get g.lines i ≡ Some line → IsPassed J g i w → number ≡ header_lines g.opening J.goal + i + 1
     → IfOk answer (λ found. MatchOption found (PassesNext J w line new) (HasCauseNext J w number line))
     → IfOk answer (λ found. MatchOption found (IsPassed J g (i + 1) new) (IsRefusedAt J g i))
 passed_next J g i number line w new (Ok None) tree fits here before is h =
     let front = take i g.lines in
-    let next = h g.turn front before.walked in
+    let next = h g.opening front before.walked in
     let less = slice_get_within g.lines i line here in
     let more : take (i + 1) g.lines ≡ front ++ line ∷ [] = take_more g.lines i line less ∙ ap (λ l. front ++ l ∷ []) (get_or_from_slice_get g.lines i line line here) in
-    let one : IsSoundNext J g.turn front line = record { in_tree = no_front g.lines i tree less; fits = fits; sound = next.0 } in
+    let one : IsSoundNext J g.opening front line = record { in_tree = no_front g.lines i tree less; fits = fits; sound = next.0 } in
     record {
-      walked = subst (λ ls. IsStateOf J.problem g.turn ls new) (sym more) next.1;
-      sound = subst (λ ls. AreSoundBehind J g.turn [] ls) (sym more) (sound_joined J g.turn [] front (line ∷ []) before.sound (one, tt));
+      walked = subst (λ ls. IsStateOf J.problem g.opening ls new) (sym more) next.1;
+      sound = subst (λ ls. AreSoundBehind J g.opening [] ls) (sym more) (sound_joined J g.opening [] front (line ∷ []) before.sound (one, tt));
     }
 passed_next J g i number line w new (Ok (Some why)) tree fits here before is h =
     let front = take i g.lines in
@@ -84,58 +87,59 @@ passed_next J g i number line w new (Ok (Some why)) tree fits here before is h =
       line = line;
       here = here;
       sound = before.sound;
-      cause = subst (λ n. HasCause J (domains_at J.problem g.turn front (length front)) n line why) is (h g.turn front before.walked);
+      cause = subst (λ n. HasCause J (domains_at J.problem g.opening front (length front)) n line why) is (h g.opening front before.walked);
     }
 passed_next J g i number line w new (Err e) tree fits here before is h = tt
 
 -- the text of the lines at which a log is refused
 
-lines_cut : (P : Instance) (lines : List Line) (i : ℕ) (line : Line) → slice_get lines i ≡ Some line → lines_text P lines ≡ lines_text P (take i lines) ++ (line_text P (raw P line) ++ lines_text P (drop (suc i) lines))
-lines_cut P lines i line here =
-    let f = line_piece P in
+lines_cut : (P : Instance) (goal : Option ℕ) (lines : List Line) (i : ℕ) (line : Line) → slice_get lines i ≡ Some line → lines_text P goal lines ≡ lines_text P goal (take i lines) ++ (line_text P (raw P goal line) ++ lines_text P goal (drop (suc i) lines))
+lines_cut P goal lines i line here =
+    let f = line_piece P goal in
     let before = take i lines in
     let after = drop (suc i) lines in
     let cut : drop i lines ≡ line ∷ after = drop-cons lines i line (slice_get_within lines i line here) ∙ ap (λ l. l ∷ after) (get_or_from_slice_get lines i line line here) in
-    sym (joined_lines P lines)
+    sym (joined_lines P goal lines)
     ∙ ap (flat_map f) (sym (take-append-drop i lines) ∙ ap (λ ls. before ++ ls) cut)
     ∙ flat_map-append f before (line ∷ after)
-    ∙ ap (λ t. t ++ (f line ++ flat_map f after)) (joined_lines P before)
-    ∙ ap (λ t. lines_text P before ++ (f line ++ t)) (joined_lines P after)
+    ∙ ap (λ t. t ++ (f line ++ flat_map f after)) (joined_lines P goal before)
+    ∙ ap (λ t. lines_text P goal before ++ (f line ++ t)) (joined_lines P goal after)
 
-refused_at : (J : Judging) (g : Log) (i : ℕ) (why : LogRefusal) → KeepsLimits J.problem → FitsFor J.problem J.goal g → IsTree g.lines → IsRefusedAt J g i why → IsChunkRefused J g.turn [] (lines_text J.problem g.lines) why
-refused_at J g i why limits fits tree at =
-    let P = J.problem in
+refused_at : (P : Instance) (g : Log) (i : ℕ) (why : LogRefusal) → KeepsLimits P → Fits P g → IsTree g.lines → IsRefusedAt (judging_of P g) g i why → IsChunkRefused (judging_of P g) g.opening [] (lines_text P g.goal g.lines) why
+refused_at P g i why limits fits tree at =
+    let J : Judging = judging_of P g in
     let front = take i g.lines in
-    let bytes = line_text P (raw P at.line) in
+    let bytes = line_text P (raw P g.goal at.line) in
     let less = slice_get_within g.lines i at.line at.here in
     let fit = fits.lines i at.line at.here in
     let long : length front ≡ i = length-take-le i g.lines (omega (arith, less)) in
     record {
       lines = front;
       line = bytes;
-      rest = lines_text P (drop (suc i) g.lines);
+      rest = lines_text P g.goal (drop (suc i) g.lines);
       sound = at.sound;
-      text = lines_cut P g.lines i at.line at.here ∙ sym (append_assoc (lines_text P front) bytes (lines_text P (drop (suc i) g.lines)));
-      is_line = inl (join_with_byte 32 (raw_fields P (raw P at.line)), body_feedless P at.line limits (J.goal, fit), refl);
-      cause = refused_next J g.turn front bytes at.line (header_lines_for J.goal g.turn + i + 1) why (fitting_lines_are_spelled_for P J.goal at.line (has_names P limits) fit)
-          (no_front g.lines i tree less) (ap (λ n. header_lines_for J.goal g.turn + n + 1) (sym long)) at.cause;
+      text = lines_cut P g.goal g.lines i at.line at.here ∙ sym (append_assoc (lines_text P g.goal front) bytes (lines_text P g.goal (drop (suc i) g.lines)));
+      is_line = inl (join_with_byte 32 (raw_fields P (raw P g.goal at.line)), body_feedless P g.goal at.line limits fit, refl);
+      cause = refused_next J g.opening front bytes at.line (header_lines g.opening g.goal + i + 1) why (fitting_lines_are_spelled P g.goal at.line (has_names P limits) fit)
+          (no_front g.lines i tree less) (ap (λ n. header_lines g.opening g.goal + n + 1) (sym long)) at.cause;
     }
 
-turn_line : (P : Instance) (named : List ℕ) (t : Turn) (rest : List ℕ) (why : LogRefusal) → KeepsLimits P → AreRules P named → TurnFits P (Some t) → TurnCause P named (turn_text (name_of P t.x) t.day) why → IsRefusedLine P (header_text P named (Some t) ++ rest) why
+turn_line : (P : Instance) (named : List ℕ) (t : Turn) (rest : List ℕ) (why : LogRefusal) → KeepsLimits P → AreRules P named → OpeningFits P (Turned t) → TurnCause P named (turn_text (name_of P t.x) t.day) why → IsRefused P WithoutGoal (header_text P named (Turned t) None ++ rest) why
 turn_line P named t rest why limits are fits cause =
     let name = name_of P t.x in
     let words : List (List ℕ) = codes "turn" ∷ name ∷ decimal t.day ∷ [] in
-    record {
+    refused_at_line P WithoutGoal (header_text P named (Turned t) None ++ rest) why
+    (record {
       front = BeforeTurn named;
       line = turn_text name t.day;
       rest = rest;
-      no_cause = are;
+      no_cause = (refl, are);
       whole = refl;
       is_line = inl (join_with_byte 32 words, feedless_words words (turn_visible P name t.day (small_from P limits) (name_there P t.x.number limits fits.1) fits.0), refl);
       cause = cause;
-    }
+    })
 
-turn_fault_refused : (P : Instance) (named : List ℕ) (t : Turn) (rest : List ℕ) (why : LogRefusal) → KeepsLimits P → AreRules P named → TurnFits P (Some t) → TurnFault P named t why → IsRefused P (header_text P named (Some t) ++ rest) why
+turn_fault_refused : (P : Instance) (named : List ℕ) (t : Turn) (rest : List ℕ) (why : LogRefusal) → KeepsLimits P → AreRules P named → OpeningFits P (Turned t) → TurnFault P named t why → IsRefused P WithoutGoal (header_text P named (Turned t) None ++ rest) why
 turn_fault_refused P named t rest (Refusals.Unnamed n k) limits are fits h =
     turn_line P named t rest (Refusals.Unnamed n k) limits are fits
     (h.0, (t.day, t.x, (name_of P t.x, (name_there P t.x.number limits fits.1, fits.0, refl), symbol_named P t.x limits fits.1), h.1))
@@ -144,24 +148,29 @@ turn_fault_refused P named t rest (Refusals.Turn n) limits are fits h =
     (h.0, (t.day, t.x, (name_of P t.x, (name_there P t.x.number limits fits.1, fits.0, refl), symbol_named P t.x limits fits.1), h.1, h.2))
 turn_fault_refused P named t rest why limits are fits h = absurd h
 
-pub turn_refused : (P : Instance) (named : List ℕ) (turn : Option Turn) (rest : List ℕ) (why : LogRefusal) → KeepsLimits P → AreRules P named → TurnFits P turn → IsTurnFault P named turn why → IsRefused P (header_text P named turn ++ rest) why
-turn_refused P named None rest why limits are fits h = absurd h
-turn_refused P named (Some t) rest why limits are fits h = turn_fault_refused P named t rest why limits are fits h
+pub turn_refused : (P : Instance) (named : List ℕ) (o : Opening) (goal : Option ℕ) (rest : List ℕ) (why : LogRefusal) → KeepsLimits P → AreRules P named → OpeningFits P o → GoalIsInRange P o goal → IsTurnFault P named o why → IsRefused P (kind_by goal) (header_text P named o goal ++ rest) why
+turn_refused P named Full goal rest why limits are fits range h = absurd h
+turn_refused P named (Turned t) None rest why limits are fits range h = turn_fault_refused P named t rest why limits are fits h
+turn_refused P named (Turned t) (Some goal) rest why limits are fits range h = absurd (let e : Turned t ≡ Full = range.0 in cc)
 
 -- what the judging of all lines found
-header_of : (P : Instance) (g : Log) → Fits P g → IsSoundTurn P g.named g.turn → HasHeader (without_goal P g.named) (log_text P g) g.turn (lines_text P g.lines)
-header_of P g fits turn = record { rules = fits.named; fits = fits.turn; weeks = tt; sound = turn; whole = refl }
 
-as_judged : (P : Instance) (g : Log) → Fits P g → log_of (without_goal P g.named) g.turn g.lines ≡ g
-as_judged P g fits = ap (λ (o : Option ℕ). log_of (record { problem = P; named = g.named; goal = o }) g.turn g.lines) (sym fits.is_goal)
+pub in_range : (P : Instance) (o : Opening) (goal : Option ℕ) → GoalFits P o goal → GoalIsInRange P o goal
+in_range P o None h = tt
+in_range P o (Some goal) h = (h.0, h.2)
 
-pub tree_judged : (P : Instance) (g : Log) (answer : Result (Option LogRefusal) AllocError) → KeepsLimits P → Fits P g → IsTree g.lines → IsSoundTurn P g.named g.turn
+header_of : (P : Instance) (g : Log) → Fits P g → IsSoundTurn P g.named g.opening → HasHeader (judging_of P g) (kind_by g.goal) (log_text P g) g.opening (lines_text P g.goal g.lines)
+header_of P g fits sound = record {
+  begins = record { of_kind = refl; rules = fits.named; fits = fits.opening; in_range = in_range P g.opening g.goal fits.goal; whole = refl };
+  goal_fits = fits.goal;
+  sound = sound;
+}
+
+pub tree_judged : (P : Instance) (g : Log) (answer : Result (Option LogRefusal) AllocError) → KeepsLimits P → Fits P g → IsTree g.lines → IsSoundTurn P g.named g.opening
     → IfOk answer (IsTreeJudged P g)
-    → IfOk answer (λ found. MatchOption found (Passes P g) (IsRefused P (log_text P g)))
-tree_judged P g (Ok None) limits fits tree turn h =
-    subst (λ (l : Log). Passes P l) (as_judged P g fits)
-    (passes (without_goal P g.named) (log_text P g) (lines_text P g.lines) g.turn g.lines (header_of P g fits turn) h tree)
-tree_judged P g (Ok (Some why)) limits fits tree turn h =
-    let J : Judging = without_goal P g.named in
-    refused J (log_text P g) (lines_text P g.lines) g.turn why (header_of P g fits turn) (refused_at J g h.0 why limits fits tree h.1)
-tree_judged P g (Err e) limits fits tree turn h = tt
+    → IfOk answer (λ found. MatchOption found (Passes P g) (IsRefused P (kind_by g.goal) (log_text P g)))
+tree_judged P g (Ok None) limits fits tree sound h =
+    passes (judging_of P g) (kind_by g.goal) (log_text P g) (lines_text P g.goal g.lines) g.opening g.lines (header_of P g fits sound) h tree
+tree_judged P g (Ok (Some why)) limits fits tree sound h =
+    refused (judging_of P g) (kind_by g.goal) (log_text P g) (lines_text P g.goal g.lines) g.opening why (header_of P g fits sound) (refused_at P g h.0 why limits fits tree h.1)
+tree_judged P g (Err e) limits fits tree sound h = tt

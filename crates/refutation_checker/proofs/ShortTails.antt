@@ -6,7 +6,7 @@ use Rattle.std.proofs.lemmas.List.Elements.{Contains-append_left}
 use Rattle.rwsp_terms.specs.declared.data.Symbol.{Symbol}
 use Rattle.rwsp_terms.specs.Instance.{Instance, cells, shift_count}
 use Rattle.refutation_terms.specs.Word.{Domains, Over, Clean}
-use Rattle.refutation_terms.specs.Leaf.{IsDead}
+use Rattle.refutation_terms.specs.WordsLeaf.{IsDead}
 use Rattle.refutation_terms.proofs.Windows.{clean-part}
 use Rattle.clean_words.specs.Listed.{Listed}
 use Rattle.clean_words.specs.Tails.{tail_of}

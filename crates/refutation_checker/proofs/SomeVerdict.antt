@@ -1,5 +1,5 @@
 -- No text is without a verdict.
-use Rattle.std.proofs.Common.{◌≡◌, ◌≢◌, ◌⊎◌, ℕ, zero, suc, ◌+◌, ◌<◌, List, [], ◌∷◌, ◌++◌, length, refl, ap, sym, ◌∙◌, subst, append_assoc, arith, inl, inr, Bool, true, false, Option, Some, None, pos, negsuc, ℤ, ◌==◌}
+use Rattle.std.proofs.Common.{◌≡◌, ◌≢◌, ◌⊎◌, ℕ, zero, suc, ◌+◌, ◌<◌, List, [], ◌∷◌, ◌++◌, length, refl, ap, sym, ◌∙◌, subst, append_assoc, arith, inl, inr, true, false, Option, Some, None, pos, negsuc, ℤ, ◌==◌}
 use Rattle.std.specs.Prelude.{Ok, Err, Result, ◌≤ℤ◌, ◌<ℤ◌}
 use Rattle.std.proofs.lemmas.Bool.{cases_Bool, eqb-true, eqb-false}
 use Rattle.std.proofs.lemmas.Int.{ints}
@@ -10,27 +10,35 @@ use Rattle.rwsp_terms.specs.declared.data.Rule.TheVariants as TheRules
 use Rattle.rwsp_terms.specs.Instance.{Instance, least, symbol_of, name_of}
 use Rattle.rwsp_terms.specs.Rules.{Names}
 use Rattle.refutation_terms.specs.declared.lines.Line.{Line}
+use Rattle.refutation_terms.specs.declared.lines.Opening.{Opening}
+use Rattle.refutation_terms.specs.declared.lines.Opening.TheVariants.{Full, Turned}
 use Rattle.refutation_terms.specs.declared.lines.Turn.{Turn}
+use Rattle.refutation_terms.specs.declared.lines.LogKind.{LogKind}
+use Rattle.refutation_terms.specs.declared.lines.LogKind.TheVariants.{WithoutGoal}
+use Rattle.refutation_terms.specs.declared.lines.Version.{Version}
+use Rattle.refutation_terms.specs.declared.lines.Version.TheVariants.{Version1, Version2, Free1}
 use Rattle.refutation_terms.specs.declared.lines.LogRefusal.{LogRefusal}
 use Rattle.refutation_terms.specs.declared.lines.LogRefusal.TheVariants as Refusals
 use Rattle.refutation_terms.specs.Tree.{IsTree, domains_at}
-use Rattle.refutation_terms.specs.Log.{Log, AreRules}
-use Rattle.refutation_terms.specs.LogText.{RawLine, IsWrittenFor, line_of, raw, line_text, version_text, rules_text, turn_text}
+use Rattle.refutation_terms.specs.Log.{Log}
+use Rattle.refutation_terms.specs.Ranges.{AreRules}
+use Rattle.refutation_terms.specs.LogText.{RawLine, IsWritten, line_of, raw, line_text, version_text, rules_text, turn_text, goal_text, lines_text}
 use Rattle.rwsp_text.specs.Lines.{IsNextLine}
-use Rattle.refutation_terms.specs.Verdict.{Start, Versioned, BeforeTurn, header_lines_for, Cause, CauseBehindFor, SpellsFor, SpellsTurn, IsUnnamed, IsVerdict}
-use Rattle.refutation_terms.proofs.Spelled.{spelled_lines_fit_for, symbol_of-name}
-use Rattle.refutation_log.specs.Printing.{lines_text}
-use Rattle.refutation_checker.specs.Headers.{HasHeader, IsAcceptedFor, IsRefusedFor, without_goal}
+use Rattle.refutation_terms.specs.Verdict.{kind_of, Start, Versioned, BeforeTurn, BeforeGoal, header_lines, TurnCause, CauseBehind, Spells, SpellsTurn, IsUnnamed, IsVerdict}
+use Rattle.refutation_terms.proofs.Spelled.{spelled_lines_fit, symbol_of-name}
+use Rattle.refutation_log.specs.Headers.{BeginsWithHeader}
+use Rattle.refutation_log.specs.ReadLog.{HasLogsOf}
+use Rattle.refutation_checker.specs.Turns.{IsSoundTurn}
 use Rattle.refutation_checker.specs.ChunkVerdicts.{AreSoundBehind}
 use Rattle.refutation_checker.specs.LineTexts.{Judging, log_of, IsSoundNext}
 use Rattle.refutation_checker.specs.Laws.{TextsHaveAVerdict}
 use Rattle.refutation_checker.proofs.HeaderFaults.{refused_at_line}
 use Rattle.refutation_checker.proofs.Judging.{refused_next}
-use Rattle.refutation_checker.proofs.SoundLines.{lines_joined, sound_joined, accepted, ends, refused}
+use Rattle.refutation_checker.proofs.SoundLines.{lines_joined, sound_joined, HasHeader, header_judged, accepted, ends, refused}
 use Rattle.refutation_checker.proofs.Deciding.{least_number, cited_is_named, line_stands}
 
-abbrev HasNoVerdict : Instance → List ℕ → Type 0
-HasNoVerdict P text = (verdict : Result Log LogRefusal) → IsVerdict P text verdict → ⊥
+abbrev HasNoVerdict : Instance → LogKind → List ℕ → Type 0
+HasNoVerdict P kind text = (verdict : Result Log LogRefusal) → IsVerdict P kind text verdict → ⊥
 
 -- the first line of some bytes
 pub record FirstLine (bytes : List ℕ) : Type 0 where
@@ -68,54 +76,50 @@ first_line b (c ∷ bytes) = line_with b c bytes (cases_Bool (b == 10)) (first_l
 
 -- the lines behind a header, of which some have been read
 
-text_on : (P : Instance) (body left line rest : List ℕ) (lines : List Line) (l : Line) → body ≡ lines_text P lines ++ left → left ≡ line ++ rest → line ≡ line_text P (raw P l) → body ≡ lines_text P (lines ++ l ∷ []) ++ rest
-text_on P body left line rest lines l text whole spelled =
-    let front = lines_text P lines in
-    let own = line_text P (raw P l) in
+text_on : (P : Instance) (goal : Option ℕ) (body left line rest : List ℕ) (lines : List Line) (l : Line) → body ≡ lines_text P goal lines ++ left → left ≡ line ++ rest → line ≡ line_text P (raw P goal l) → body ≡ lines_text P goal (lines ++ l ∷ []) ++ rest
+text_on P goal body left line rest lines l text whole spelled =
+    let front = lines_text P goal lines in
+    let own = line_text P (raw P goal l) in
     text
     ∙ ap (λ t. front ++ t) (whole ∙ ap (λ t. t ++ rest) (spelled ∙ sym (append-nil own)))
     ∙ sym (append_assoc front (own ++ []) rest)
-    ∙ ap (λ t. t ++ rest) (sym (lines_joined P lines (l ∷ [])))
+    ∙ ap (λ t. t ++ rest) (sym (lines_joined P goal lines (l ∷ [])))
 
-abbrev RefusesNone : Judging → Option Turn → List Line → List ℕ → Type 0
-RefusesNone J turn lines line = (why : LogRefusal) → CauseBehindFor J.problem J.goal (log_of J turn lines) line why → ⊥
+abbrev RefusesNone : Judging → Opening → List Line → List ℕ → Type 0
+RefusesNone J o lines line = (why : LogRefusal) → CauseBehind J.problem (log_of J o lines) line why → ⊥
 
-abbrev Takes : Judging → Option Turn → List Line → List ℕ → Line → Type 0
-Takes J turn lines line l = (line ≡ line_text J.problem (raw J.problem l)) × IsSoundNext J turn lines l
+abbrev Takes : Judging → Opening → List Line → List ℕ → Line → Type 0
+Takes J o lines line l = (line ≡ line_text J.problem (raw J.problem J.goal l)) × IsSoundNext J o lines l
 
 -- a line that is refused for no cause is a sound next line
-spelled_stands : (J : Judging) (turn : Option Turn) (lines : List Line) (line : List ℕ) (written : RawLine) → RefusesNone J turn lines line → ((l : Line) → Takes J turn lines line l → ⊥) → (IsTree lines → ⊥) → IsWrittenFor J.problem J.goal line written → (o : Option Line) → line_of J.problem written ≡ o → ⊥
-spelled_stands J turn lines line written none goes part w None e = none (Refusals.Name (header_lines_for J.goal turn + length lines + 1)) (inr (part, (refl, (written, w, e))))
-spelled_stands J turn lines line written none goes part w (Some l) e =
-    let n = header_lines_for J.goal turn + length lines + 1 in
-    let D = domains_at J.problem turn lines (length lines) in
-    let spells : SpellsFor J.problem J.goal line l = (written, w, e) in
-    let fits = spelled_lines_fit_for J.problem J.goal line l spells in
-    line_stands J.problem J.goal J.named D n l fits.0 (λ why c. none why (refused_next J turn lines line l n why spells part refl c))
+spelled_stands : (J : Judging) (o : Opening) (lines : List Line) (line : List ℕ) (written : RawLine) → RefusesNone J o lines line → ((l : Line) → Takes J o lines line l → ⊥) → (IsTree lines → ⊥) → IsWritten J.problem J.goal line written → (found : Option Line) → line_of J.problem written ≡ found → ⊥
+spelled_stands J o lines line written none goes part w None e = none (Refusals.Name (header_lines o J.goal + length lines + 1)) (inr (part, (refl, (written, w, e))))
+spelled_stands J o lines line written none goes part w (Some l) e =
+    let n = header_lines o J.goal + length lines + 1 in
+    let D = domains_at J.problem o lines (length lines) in
+    let spells : Spells J.problem J.goal line l = (written, w, e) in
+    let fits = spelled_lines_fit J.problem J.goal line l spells in
+    line_stands J.problem J.goal J.named D n l fits.0 (λ why c. none why (refused_next J o lines line l n why spells part refl c))
     (λ sound. goes l (fits.1, record { in_tree = part; fits = fits.0; sound = sound }))
 
-line_read : (J : Judging) (turn : Option Turn) (lines : List Line) (line : List ℕ) → RefusesNone J turn lines line → ((l : Line) → Takes J turn lines line l → ⊥) → ⊥
-line_read J turn lines line none goes =
-    let n = header_lines_for J.goal turn + length lines + 1 in
+line_read : (J : Judging) (o : Opening) (lines : List Line) (line : List ℕ) → RefusesNone J o lines line → ((l : Line) → Takes J o lines line l → ⊥) → ⊥
+line_read J o lines line none goes =
+    let n = header_lines o J.goal + length lines + 1 in
     let part : IsTree lines → ⊥ = λ t. none (Refusals.Extra n) (inl (t, refl)) in
-    none (Refusals.Form n) (inr (part, (refl, λ written w. spelled_stands J turn lines line written none goes part w (line_of J.problem written) refl)))
-
--- there is no verdict on the text of a log with this goal or none
-abbrev pub HasNoVerdictFor : Instance → Option ℕ → List ℕ → Type 0
-HasNoVerdictFor P goal text = ((g : Log) → IsAcceptedFor P goal text g → ⊥) × ((why : LogRefusal) → IsRefusedFor P goal text why → ⊥)
+    none (Refusals.Form n) (inr (part, (refl, λ written w. spelled_stands J o lines line written none goes part w (line_of J.problem written) refl)))
 
 -- the lines behind a header, some of which have been read
-lines_on : (J : Judging) (text body : List ℕ) (turn : Option Turn) → HasHeader J text turn body → HasNoVerdictFor J.problem J.goal text → (n : ℕ) (lines : List Line) (left : List ℕ) → length left < n → AreSoundBehind J turn [] lines → body ≡ lines_text J.problem lines ++ left → ⊥
-lines_on J text body turn h none zero lines left few sound e = omega (arith, few)
-lines_on J text body turn h none (suc n) lines [] few sound e =
-    let all : body ≡ lines_text J.problem lines = e ∙ append-nil (lines_text J.problem lines) in
-    let part : IsTree lines → ⊥ = λ tree. let passes = accepted J text body turn h (record { lines = lines; sound = sound; text = all; tree = (λ _. tree, λ _. refl) }) in none.0 passes.0 passes.1 in
-    none.1 Refusals.Ends (ends J text body turn h (record { lines = lines; sound = sound; text = all; tree = (λ f. absurd (cc), λ t. absurd (part t)) }))
-lines_on J text body turn h none (suc n) lines (b ∷ left) few sound e =
+lines_on : (J : Judging) (kind : LogKind) (text body : List ℕ) (o : Opening) → HasHeader J kind text o body → HasNoVerdict J.problem kind text → (n : ℕ) (lines : List Line) (left : List ℕ) → length left < n → AreSoundBehind J o [] lines → body ≡ lines_text J.problem J.goal lines ++ left → ⊥
+lines_on J kind text body o h none zero lines left few sound e = omega (arith, few)
+lines_on J kind text body o h none (suc n) lines [] few sound e =
+    let all : body ≡ lines_text J.problem J.goal lines = e ∙ append-nil (lines_text J.problem J.goal lines) in
+    let part : IsTree lines → ⊥ = λ tree. let passes = accepted J kind text body o h (record { lines = lines; sound = sound; text = all; tree = (λ _. tree, λ _. refl) }) in none (Ok passes.0) passes.1 in
+    none (Err Refusals.Ends) (ends J kind text body o h (record { lines = lines; sound = sound; text = all; tree = (λ f. absurd (cc), λ t. absurd (part t)) }))
+lines_on J kind text body o h none (suc n) lines (b ∷ left) few sound e =
     let next = first_line b left in
-    let front = lines_text J.problem lines in
-    line_read J turn lines next.line
-    (λ why c. none.1 why (refused J text body turn why h (record {
+    let front = lines_text J.problem J.goal lines in
+    line_read J o lines next.line
+    (λ why c. none (Err why) (refused J kind text body o why h (record {
       lines = lines;
       line = next.line;
       rest = next.rest;
@@ -125,14 +129,11 @@ lines_on J text body turn h none (suc n) lines (b ∷ left) few sound e =
       cause = c;
     })))
     (λ l takes.
-    lines_on J text body turn h none n (lines ++ l ∷ []) next.rest (let less = next.shorter in omega (arith, few, less)) (sound_joined J turn [] lines (l ∷ []) sound (takes.1, tt))
-    (text_on J.problem body (b ∷ left) next.line next.rest lines l e next.whole takes.0))
+    lines_on J kind text body o h none n (lines ++ l ∷ []) next.rest (let less = next.shorter in omega (arith, few, less)) (sound_joined J o [] lines (l ∷ []) sound (takes.1, tt))
+    (text_on J.problem J.goal body (b ∷ left) next.line next.rest lines l e next.whole takes.0))
 
-pub body_on : (J : Judging) (text body : List ℕ) (turn : Option Turn) → HasHeader J text turn body → HasNoVerdictFor J.problem J.goal text → ⊥
-body_on J text body turn h none = lines_on J text body turn h none (length body + 1) [] body (omega arith) tt refl
-
-none_for : (P : Instance) (text : List ℕ) → HasNoVerdict P text → HasNoVerdictFor P None text
-none_for P text none = (λ g passes. none (Ok g) passes, λ why h. none (Err why) h)
+body_on : (J : Judging) (kind : LogKind) (text body : List ℕ) (o : Opening) → HasLogsOf J.problem kind → BeginsWithHeader J.problem kind text J.named o J.goal body → IsSoundTurn J.problem J.named o → HasNoVerdict J.problem kind text → ⊥
+body_on J kind text body o has begins sound none = lines_on J kind text body o (header_judged J kind text o body has (begins, sound)) none (length body + 1) [] body (omega arith) tt refl
 
 -- the header
 
@@ -144,12 +145,22 @@ demanded_or_not (negsuc n) = inr (omega (arith, ints))
 abbrev turn_of : ℕ → Symbol → Turn
 turn_of day x = record { day = day; x = x }
 
-abbrev RefusesTurn : Instance → List ℕ → List ℕ → Type 0
-RefusesTurn P R line = (why : LogRefusal) → Cause P (BeforeTurn R) line why → ⊥
+abbrev judging : Instance → List ℕ → Option ℕ → Judging
+judging P R goal = record { problem = P; named = R; goal = goal }
 
-turn_on : (P : Instance) (text R line rest name : List ℕ) (day : ℕ) → HasNoVerdict P text → RefusesTurn P R line → AreRules P R → text ≡ (version_text true ++ rules_text R) ++ (line ++ rest) → SpellsTurn P line name day → (o : Option Symbol) → symbol_of P name ≡ o → ⊥
-turn_on P text R line rest name day none refuses rules whole spells None e = refuses (Refusals.Name 3) (refl, (name, day, spells, e))
-turn_on P text R line rest name day none refuses rules whole spells (Some x) e =
+abbrev RefusesTurn : Instance → List ℕ → List ℕ → Type 0
+RefusesTurn P R line = (why : LogRefusal) → TurnCause P R line why → ⊥
+
+-- the version and the rules
+abbrev two_lines : Version → List ℕ → List ℕ
+two_lines v R = version_text v ++ rules_text R
+
+no_turn : (P : Instance) (R : List ℕ) → IsSoundTurn P R Full
+no_turn P R = record { named_day = λ r c. absurd c; allowed = tt }
+
+turn_on : (P : Instance) (kind : LogKind) (text R line rest name : List ℕ) (day : ℕ) → WithoutGoal ≡ kind → HasLogsOf P kind → HasNoVerdict P kind text → RefusesTurn P R line → AreRules P R → text ≡ two_lines Version2 R ++ (line ++ rest) → SpellsTurn P line name day → (found : Option Symbol) → symbol_of P name ≡ found → ⊥
+turn_on P kind text R line rest name day is has none refuses rules whole spells None e = refuses (Refusals.Name 3) (refl, (name, day, spells, e))
+turn_on P kind text R line rest name day is has none refuses rules whole spells (Some x) e =
     let named : Names P R (TheRules.Day day) =
     cited_is_named P R (λ r. r ≡ TheRules.Day day) (TheRules.Day day) spells.1
     (least_number (IsUnnamed P R (λ r. r ≡ TheRules.Day day)) (λ k less. refuses (Refusals.Unnamed 3 k) (refl, (day, x, (name, spells, e), less)))) refl in
@@ -158,65 +169,90 @@ turn_on P text R line rest name day none refuses rules whole spells (Some x) e =
     elim (demanded_or_not (least P x.number day)) [
       | inr less ↦ refuses (Refusals.Turn 3) (refl, (day, x, (name, spells, e), named, less))
       | inl allowed ↦
-          body_on (without_goal P R) text rest (Some (turn_of day x))
+          body_on (judging P R None) kind text rest (Turned (turn_of day x)) has
           (record {
+            of_kind = is;
             rules = rules;
             fits = (spells.1, symbol.0);
-            weeks = tt;
-            whole = whole ∙ ap (λ t. (version_text true ++ rules_text R) ++ (t ++ rest)) own ∙ sym (append_assoc (version_text true ++ rules_text R) (turn_text (name_of P x) day) rest);
-            sound = record { named_day = λ r c. subst (Names P R) (sym c) named; allowed = allowed };
+            in_range = tt;
+            whole = whole ∙ ap (λ t. two_lines Version2 R ++ (t ++ rest)) own ∙ sym (append_assoc (two_lines Version2 R) (turn_text (name_of P x) day) rest);
           })
-          (none_for P text none)
+          (record { named_day = λ r c. subst (Names P R) (sym c) named; allowed = allowed }) none
     ]
 
-rules_on : (P : Instance) (text R rest : List ℕ) (has_turn : Bool) → HasNoVerdict P text → AreRules P R → text ≡ (version_text has_turn ++ rules_text R) ++ rest → ⊥
-rules_on P text R rest false none rules whole =
-    body_on (without_goal P R) text rest None (record { rules = rules; fits = tt; weeks = tt; whole = whole; sound = record { named_day = λ r c. absurd c; allowed = tt } }) (none_for P text none)
-rules_on P text R [] true none rules whole =
-    none (Err Refusals.Ends) (record { front = BeforeTurn R; no_cause = rules; whole = whole ∙ append-nil (version_text true ++ rules_text R); not_whole = λ t. t })
-rules_on P text R (b ∷ rest) true none rules whole =
+third_on : (P : Instance) (kind : LogKind) (text R rest : List ℕ) (v : Version) → kind_of v ≡ kind → HasLogsOf P kind → HasNoVerdict P kind text → AreRules P R → text ≡ two_lines v R ++ rest → ⊥
+third_on P kind text R rest Version1 is has none rules whole =
+    body_on (judging P R None) kind text rest Full has (record { of_kind = is; rules = rules; fits = tt; in_range = tt; whole = whole }) (no_turn P R) none
+third_on P kind text R [] Version2 is has none rules whole =
+    none (Err Refusals.Ends) (record { front = BeforeTurn R; no_cause = (is, rules); whole = whole ∙ append-nil (two_lines Version2 R); not_whole = λ t. t })
+third_on P kind text R (b ∷ rest) Version2 is has none rules whole =
     let next = first_line b rest in
-    let cut : text ≡ (version_text true ++ rules_text R) ++ (next.line ++ next.rest) = whole ∙ ap (λ t. (version_text true ++ rules_text R) ++ t) next.whole in
+    let cut : text ≡ two_lines Version2 R ++ (next.line ++ next.rest) = whole ∙ ap (λ t. two_lines Version2 R ++ t) next.whole in
     let refuses : RefusesTurn P R next.line = λ why c.
     none (Err why)
-    (refused_at_line P text why
-    (record { front = BeforeTurn R; line = next.line; rest = next.rest; no_cause = rules; whole = cut ∙ sym (append_assoc (version_text true ++ rules_text R) next.line next.rest); is_line = next.is_line; cause = c })) in
-    refuses (Refusals.Form 3) (refl, λ name day spells. turn_on P text R next.line next.rest name day none refuses rules cut spells (symbol_of P name) refl)
-
-version_on : (P : Instance) (text rest : List ℕ) (has_turn : Bool) → HasNoVerdict P text → text ≡ version_text has_turn ++ rest → ⊥
-version_on P text [] has_turn none whole =
-    none (Err Refusals.Ends) (record { front = Versioned has_turn; no_cause = tt; whole = whole ∙ append-nil (version_text has_turn); not_whole = λ t. t })
-version_on P text (b ∷ rest) has_turn none whole =
+    (refused_at_line P kind text why
+    (record { front = BeforeTurn R; line = next.line; rest = next.rest; no_cause = (is, rules); whole = cut ∙ sym (append_assoc (two_lines Version2 R) next.line next.rest); is_line = next.is_line; cause = c })) in
+    refuses (Refusals.Form 3) (refl, λ name day spells. turn_on P kind text R next.line next.rest name day is has none refuses rules cut spells (symbol_of P name) refl)
+third_on P kind text R [] Free1 is has none rules whole =
+    none (Err Refusals.Ends) (record { front = BeforeGoal R; no_cause = (is, rules); whole = whole ∙ append-nil (two_lines Free1 R); not_whole = λ t. t })
+third_on P kind text R (b ∷ rest) Free1 is has none rules whole =
+    let front : List ℕ = two_lines Free1 R in
     let next = first_line b rest in
-    let cut : text ≡ version_text has_turn ++ (next.line ++ next.rest) = whole ∙ ap (λ t. version_text has_turn ++ t) next.whole in
-    none (Err (Refusals.Form 2))
+    let cut : text ≡ front ++ (next.line ++ next.rest) = whole ∙ ap (λ t. front ++ t) next.whole in
+    none (Err (Refusals.Form 3))
     (record {
-      front = Versioned has_turn;
+      front = BeforeGoal R;
       line = next.line;
       rest = next.rest;
-      no_cause = tt;
-      whole = cut ∙ sym (append_assoc (version_text has_turn) next.line next.rest);
+      no_cause = (is, rules);
+      whole = cut ∙ sym (append_assoc front next.line next.rest);
       is_line = next.is_line;
       cause = (
         refl,
-        λ R rules own. rules_on P text R next.rest has_turn none rules (cut ∙ ap (λ t. version_text has_turn ++ (t ++ next.rest)) own ∙ sym (append_assoc (version_text has_turn) (rules_text R) next.rest)),
+        λ goal few own.
+            body_on (judging P R (Some goal)) kind text next.rest Full has
+            (record {
+              of_kind = is;
+              rules = rules;
+              fits = tt;
+              in_range = (refl, few);
+              whole = cut ∙ ap (λ t. front ++ (t ++ next.rest)) own ∙ sym (append_assoc front (goal_text goal) next.rest);
+            })
+            (no_turn P R) none,
       );
     })
 
-some_verdict_of : (P : Instance) (text : List ℕ) → HasNoVerdict P text → ⊥
-some_verdict_of P [] none = none (Err Refusals.Ends) (record { front = Start; no_cause = tt; whole = refl; not_whole = λ t. t })
-some_verdict_of P (b ∷ text) none =
+version_on : (P : Instance) (kind : LogKind) (text rest : List ℕ) (v : Version) → kind_of v ≡ kind → HasLogsOf P kind → HasNoVerdict P kind text → text ≡ version_text v ++ rest → ⊥
+version_on P kind text [] v is has none whole =
+    none (Err Refusals.Ends) (record { front = Versioned v; no_cause = (is, tt); whole = whole ∙ append-nil (version_text v); not_whole = λ t. t })
+version_on P kind text (b ∷ rest) v is has none whole =
+    let next = first_line b rest in
+    let cut : text ≡ version_text v ++ (next.line ++ next.rest) = whole ∙ ap (λ t. version_text v ++ t) next.whole in
+    none (Err (Refusals.Form 2))
+    (record {
+      front = Versioned v;
+      line = next.line;
+      rest = next.rest;
+      no_cause = (is, tt);
+      whole = cut ∙ sym (append_assoc (version_text v) next.line next.rest);
+      is_line = next.is_line;
+      cause = (
+        refl,
+        λ R rules own. third_on P kind text R next.rest v is has none rules (cut ∙ ap (λ t. version_text v ++ (t ++ next.rest)) own ∙ sym (append_assoc (version_text v) (rules_text R) next.rest)),
+      );
+    })
+
+pub some_verdict : TextsHaveAVerdict
+some_verdict P kind [] has none = none (Err Refusals.Ends) (record { front = Start; no_cause = (tt, tt); whole = refl; not_whole = λ t. t })
+some_verdict P kind (b ∷ text) has none =
     let next = first_line b text in
     none (Err (Refusals.Form 1))
     (record {
       front = Start;
       line = next.line;
       rest = next.rest;
-      no_cause = tt;
+      no_cause = (tt, tt);
       whole = next.whole;
       is_line = next.is_line;
-      cause = (refl, λ has_turn own. version_on P (b ∷ text) next.rest has_turn none (next.whole ∙ ap (λ t. t ++ next.rest) own));
+      cause = (refl, λ v is own. version_on P kind (b ∷ text) next.rest v is has none (next.whole ∙ ap (λ t. t ++ next.rest) own));
     })
-
-pub some_verdict : TextsHaveAVerdict
-some_verdict P text none = some_verdict_of P text none

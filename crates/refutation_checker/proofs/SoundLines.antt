@@ -1,124 +1,134 @@
 -- Sound lines behind others, and their texts.
-use Rattle.std.proofs.Common.{◌≡◌, ◌≢◌, ℕ, zero, suc, List, [], ◌∷◌, ◌++◌, length, take, get_or, refl, ap, sym, ◌∙◌, append_assoc, subst, arith, Option, Some, None, true, false, IsTrue, ◌&&◌, ◌==◌}
+use Rattle.std.proofs.Common.{◌≡◌, ◌≢◌, ℕ, zero, suc, List, [], ◌∷◌, ◌++◌, length, take, get_or, refl, ap, sym, ◌∙◌, append_assoc, subst, arith, Option, Some, true, false, IsTrue, ◌&&◌, ◌==◌}
 use Rattle.std.specs.Prelude.{slice_get, Result, Bool}
 use Rattle.std.proofs.lemmas.Bool.{eqb-true}
 use Rattle.std.proofs.lemmas.List.{append-nil, take_all}
 use Rattle.std.proofs.lemmas.Option.{slice_get-get_or}
 use Rattle.rwsp_terms.specs.Instance.{Instance}
-use Rattle.rwsp_terms.specs.declared.limits.TheConstants.{DAYS_OF_WEEK}
 use Rattle.rwsp_model.specs.declared.fail.Fail.{Fail}
-use Rattle.rwsp_text.specs.Lines.{IsNextLine}
 use Rattle.refutation_terms.specs.declared.lines.Line.{Line}
 use Rattle.refutation_terms.specs.declared.lines.Line.TheVariants.{Unfinished}
-use Rattle.refutation_terms.specs.declared.lines.Turn.{Turn}
+use Rattle.refutation_terms.specs.declared.lines.Opening.{Opening}
+use Rattle.refutation_terms.specs.declared.lines.LogKind.{LogKind}
 use Rattle.refutation_terms.specs.declared.lines.LogRefusal.{LogRefusal}
 use Rattle.refutation_terms.specs.declared.lines.LogRefusal.TheVariants.{Ends}
 use Rattle.refutation_terms.specs.Tree.{lines_in, IsTree, opening, lines_leave}
 use Rattle.refutation_terms.proofs.Trees.{tree_has_lines}
-use Rattle.refutation_terms.specs.Log.{Log, HoldsFor, PassesFor}
-use Rattle.refutation_terms.specs.LogText.{raw, line_text, log_text_for}
-use Rattle.refutation_terms.specs.Verdict.{Reading, IsSoundSoFarFor, CauseBehindFor}
-use Rattle.refutation_terms.specs.FreeVerdict.{ReadingFree}
-use Rattle.refutation_log.specs.Printing.{lines_text, header_text_for}
-use Rattle.refutation_log.specs.ReadLog.{BeginsWithFreeHeader}
+use Rattle.refutation_terms.specs.Log.{Log, Holds, Passes, GoalFits}
+use Rattle.refutation_terms.specs.LogText.{raw, line_text, log_text, lines_text, header_text}
+use Rattle.refutation_terms.specs.Verdict.{Reading, IsSoundSoFar, IsAccepted, IsRefused}
+use Rattle.refutation_log.specs.Headers.{BeginsWithHeader}
+use Rattle.refutation_log.specs.ReadLog.{HasLogsOf}
+use Rattle.refutation_log.proofs.HeaderLines.{goal_fits}
 use Rattle.refutation_checker.specs.Starts.{Start, StandsBehind}
-use Rattle.refutation_checker.specs.Headers.{HasHeader, IsAcceptedFor, IsRefusedFor, with_goal}
+use Rattle.refutation_checker.specs.Turns.{IsSoundTurn}
 use Rattle.refutation_checker.specs.LineTexts.{Judging, log_of, IsSoundNext}
 use Rattle.refutation_checker.specs.ChunkVerdicts.{AreSoundBehind, AreAllSound, IsChunkRefused, IsJudged}
-use Rattle.refutation_checker.proofs.HeaderFaults.{refused_at_line, refused_at_free_line}
+use Rattle.refutation_checker.proofs.HeaderFaults.{refused_at_line}
 
-pub lines_joined : (P : Instance) (a b : List Line) → lines_text P (a ++ b) ≡ lines_text P a ++ lines_text P b
-lines_joined P [] b = refl
-lines_joined P (l ∷ a) b =
-    ap (λ t. line_text P (raw P l) ++ t) (lines_joined P a b) ∙ sym (append_assoc (line_text P (raw P l)) (lines_text P a) (lines_text P b))
+pub lines_joined : (P : Instance) (goal : Option ℕ) (a b : List Line) → lines_text P goal (a ++ b) ≡ lines_text P goal a ++ lines_text P goal b
+lines_joined P goal [] b = refl
+lines_joined P goal (l ∷ a) b =
+    ap (λ t. line_text P (raw P goal l) ++ t) (lines_joined P goal a b) ∙ sym (append_assoc (line_text P (raw P goal l)) (lines_text P goal a) (lines_text P goal b))
 
-pub sound_joined : (J : Judging) (turn : Option Turn) (earlier a b : List Line) → AreSoundBehind J turn earlier a → AreSoundBehind J turn (earlier ++ a) b → AreSoundBehind J turn earlier (a ++ b)
-sound_joined J turn earlier [] b h k = subst (λ ls. AreSoundBehind J turn ls b) (append-nil earlier) k
-sound_joined J turn earlier (l ∷ a) b h k =
-    (h.0, sound_joined J turn (earlier ++ l ∷ []) a b h.1 (subst (λ ls. AreSoundBehind J turn ls b) (sym (append_assoc earlier (l ∷ []) a)) k))
+pub sound_joined : (J : Judging) (o : Opening) (earlier a b : List Line) → AreSoundBehind J o earlier a → AreSoundBehind J o (earlier ++ a) b → AreSoundBehind J o earlier (a ++ b)
+sound_joined J o earlier [] b h k = subst (λ ls. AreSoundBehind J o ls b) (append-nil earlier) k
+sound_joined J o earlier (l ∷ a) b h k =
+    (h.0, sound_joined J o (earlier ++ l ∷ []) a b h.1 (subst (λ ls. AreSoundBehind J o ls b) (sym (append_assoc earlier (l ∷ []) a)) k))
 
-pub sound_at : (J : Judging) (turn : Option Turn) (earlier lines : List Line) → AreSoundBehind J turn earlier lines → (k : ℕ) (line : Line) → slice_get lines k ≡ Some line → IsSoundNext J turn (earlier ++ take k lines) line
-sound_at J turn earlier [] h k line e = absurd (cc)
-sound_at J turn earlier (l ∷ lines) h zero line e =
-    let s : l ≡ line = cc in subst (IsSoundNext J turn (earlier ++ [])) s (subst (λ ls. IsSoundNext J turn ls l) (sym (append-nil earlier)) h.0)
-sound_at J turn earlier (l ∷ lines) h (suc k) line e =
-    subst (λ ls. IsSoundNext J turn ls line) (append_assoc earlier (l ∷ []) (take k lines)) (sound_at J turn (earlier ++ l ∷ []) lines h.1 k line e)
+pub sound_at : (J : Judging) (o : Opening) (earlier lines : List Line) → AreSoundBehind J o earlier lines → (k : ℕ) (line : Line) → slice_get lines k ≡ Some line → IsSoundNext J o (earlier ++ take k lines) line
+sound_at J o earlier [] h k line e = absurd (cc)
+sound_at J o earlier (l ∷ lines) h zero line e =
+    let s : l ≡ line = cc in subst (IsSoundNext J o (earlier ++ [])) s (subst (λ ls. IsSoundNext J o ls l) (sym (append-nil earlier)) h.0)
+sound_at J o earlier (l ∷ lines) h (suc k) line e =
+    subst (λ ls. IsSoundNext J o ls line) (append_assoc earlier (l ∷ []) (take k lines)) (sound_at J o (earlier ++ l ∷ []) lines h.1 k line e)
+
+-- the text begins with the header of a log of this kind that is refused for no cause, and the rest is its body
+pub record HasHeader (J : Judging) (kind : LogKind) (text : List ℕ) (o : Opening) (body : List ℕ) : Type 0 where
+  pub begins : BeginsWithHeader J.problem kind text J.named o J.goal body
+  pub goal_fits : GoalFits J.problem o J.goal
+  pub sound : IsSoundTurn J.problem J.named o
+
+pub header_judged : (J : Judging) (kind : LogKind) (text : List ℕ) (o : Opening) (body : List ℕ) → HasLogsOf J.problem kind → BeginsWithHeader J.problem kind text J.named o J.goal body × IsSoundTurn J.problem J.named o → HasHeader J kind text o body
+header_judged J kind text o body has h = record { begins = h.0; goal_fits = goal_fits J.problem kind o J.goal has h.0.of_kind h.0.in_range; sound = h.1 }
 
 -- sound lines behind a header
 
-pub sound_so_far : (J : Judging) (text body : List ℕ) (turn : Option Turn) (lines : List Line) → HasHeader J text turn body → AreSoundBehind J turn [] lines → IsSoundSoFarFor J.problem J.goal (log_of J turn lines)
-sound_so_far J text body turn lines header sound = record {
+pub sound_so_far : (J : Judging) (kind : LogKind) (text body : List ℕ) (o : Opening) (lines : List Line) → HasHeader J kind text o body → AreSoundBehind J o [] lines → IsSoundSoFar J.problem (log_of J o lines)
+sound_so_far J kind text body o lines header sound = record {
   grounded = record {
-    fits = record { named = header.rules; turn = header.fits; is_goal = refl; goal_fits = header.weeks; lines = λ k line e. (sound_at J turn [] lines sound k line e).fits };
-    turn = header.sound.allowed;
+    fits = record { named = header.begins.rules; opening = header.begins.fits; goal = header.goal_fits; lines = λ k line e. (sound_at J o [] lines sound k line e).fits };
+    allowed = header.sound.allowed;
     turn_named = header.sound.named_day;
-    named = λ k line r e. (sound_at J turn [] lines sound k line e).sound.named_all r;
-    short = λ k line e. (sound_at J turn [] lines sound k line e).sound.short;
+    named = λ k line r e. (sound_at J o [] lines sound k line e).sound.named_all r;
+    short = λ k line e. (sound_at J o [] lines sound k line e).sound.short;
   };
   holds = λ k line e.
-      subst (λ ls. HoldsFor J.problem J.goal (λ p z. opening J.problem turn p z && lines_leave ls p z) line) (take_all (length (take k lines)) (take k lines) (omega arith)) (sound_at J turn [] lines sound k line e).sound.holds;
+      subst (λ ls. Holds J.problem J.goal (λ p z. opening J.problem o p z && lines_leave ls p z) line) (take_all (length (take k lines)) (take k lines) (omega arith)) (sound_at J o [] lines sound k line e).sound.holds;
   in_tree = λ k less.
-      (sound_at J turn [] lines sound k (get_or lines k Unfinished) (slice_get-get_or lines k Unfinished less)).in_tree;
+      (sound_at J o [] lines sound k (get_or lines k Unfinished) (slice_get-get_or lines k Unfinished less)).in_tree;
 }
 
-pub passes : (J : Judging) (text body : List ℕ) (turn : Option Turn) (lines : List Line) → HasHeader J text turn body → AreSoundBehind J turn [] lines → IsTree lines → PassesFor J.problem J.goal (log_of J turn lines)
-passes J text body turn lines header sound tree =
-    let so = sound_so_far J text body turn lines header sound in record { grounded = so.grounded; tree = tree; holds = so.holds }
+pub passes : (J : Judging) (kind : LogKind) (text body : List ℕ) (o : Opening) (lines : List Line) → HasHeader J kind text o body → AreSoundBehind J o [] lines → IsTree lines → Passes J.problem (log_of J o lines)
+passes J kind text body o lines header sound tree =
+    let so = sound_so_far J kind text body o lines header sound in record { grounded = so.grounded; tree = tree; holds = so.holds }
 
 -- the bytes of a body behind its header
-text_for : (P : Instance) (R : List ℕ) (turn : Option Turn) (goal : Option ℕ) (lines : List Line) → header_text_for P R turn goal ++ lines_text P lines ≡ log_text_for P goal (record { named = R; turn = turn; goal = goal; lines = lines })
-text_for P R turn None lines = refl
-text_for P R turn (Some goal) lines = refl
+text_behind : (J : Judging) (kind : LogKind) (text body more : List ℕ) (o : Opening) (lines : List Line) → HasHeader J kind text o body → body ≡ lines_text J.problem J.goal lines ++ more → text ≡ log_text J.problem (log_of J o lines) ++ more
+text_behind J kind text body more o lines h e =
+    let header = header_text J.problem J.named o J.goal in
+    h.begins.whole ∙ ap (λ t. header ++ t) e ∙ sym (append_assoc header (lines_text J.problem J.goal lines) more)
 
-text_behind : (J : Judging) (text body more : List ℕ) (turn : Option Turn) (lines : List Line) → HasHeader J text turn body → body ≡ lines_text J.problem lines ++ more → text ≡ log_text_for J.problem J.goal (log_of J turn lines) ++ more
-text_behind J text body more turn lines h e =
-    let header = header_text_for J.problem J.named turn J.goal in
-    h.whole ∙ ap (λ t. header ++ t) e ∙ sym (append_assoc header (lines_text J.problem lines) more) ∙ ap (λ t. t ++ more) (text_for J.problem J.named turn J.goal lines)
-
-text_of_all : (J : Judging) (text body : List ℕ) (turn : Option Turn) (lines : List Line) → HasHeader J text turn body → body ≡ lines_text J.problem lines → text ≡ log_text_for J.problem J.goal (log_of J turn lines)
-text_of_all J text body turn lines h e =
-    h.whole ∙ ap (λ t. header_text_for J.problem J.named turn J.goal ++ t) e ∙ text_for J.problem J.named turn J.goal lines
-
--- the header of a free log has no turn
-pub free_header : (P : Instance) (text R body : List ℕ) (goal : ℕ) → P.days ≡ DAYS_OF_WEEK → BeginsWithFreeHeader P text R goal body → HasHeader (with_goal P R goal) text None body
-free_header P text R body goal week h = record { rules = h.0; fits = tt; weeks = (refl, week, h.1); sound = record { named_day = λ r c. absurd c; allowed = tt }; whole = h.2 }
+text_of_all : (J : Judging) (kind : LogKind) (text body : List ℕ) (o : Opening) (lines : List Line) → HasHeader J kind text o body → body ≡ lines_text J.problem J.goal lines → text ≡ log_text J.problem (log_of J o lines)
+text_of_all J kind text body o lines h e = h.begins.whole ∙ ap (λ t. header_text J.problem J.named o J.goal ++ t) e
 
 -- the answer to all lines below a header
-pub judged_below : (J : Judging) (turn : Option Turn) (s : Start) (body : List ℕ) (answer : Result Bool (Fail LogRefusal)) → StandsBehind J.problem J.goal turn [] s → s.bytes ≡ body → ((turn : Option Turn) → StandsBehind J.problem J.goal turn [] s → IsJudged J turn [] s.bytes answer) → IsJudged J turn [] body answer
-judged_below J turn s body answer st e judged = subst (λ b. IsJudged J turn [] b answer) e (judged turn st)
+pub judged_below : (J : Judging) (o : Opening) (s : Start) (body : List ℕ) (answer : Result Bool (Fail LogRefusal)) → StandsBehind J.problem J.goal o [] s → s.bytes ≡ body → ((o : Opening) → StandsBehind J.problem J.goal o [] s → IsJudged J o [] s.bytes answer) → IsJudged J o [] body answer
+judged_below J o s body answer st e judged = subst (λ b. IsJudged J o [] b answer) e (judged o st)
 
 -- the verdict on the text
 
-pub accepted : (J : Judging) (text body : List ℕ) (turn : Option Turn) → HasHeader J text turn body → AreAllSound J turn [] body true → (g : Log) × IsAcceptedFor J.problem J.goal text g × (g.named ≡ J.named) × (g.goal ≡ J.goal)
-accepted J text body turn h all =
-    (log_of J turn all.lines, (text_of_all J text body turn all.lines h all.text, passes J text body turn all.lines h all.sound (all.tree.0 refl)), refl, refl)
+pub accepted : (J : Judging) (kind : LogKind) (text body : List ℕ) (o : Opening) → HasHeader J kind text o body → AreAllSound J o [] body true → (g : Log) × IsAccepted J.problem kind text g × (g.named ≡ J.named) × (g.goal ≡ J.goal)
+accepted J kind text body o h all = (
+  log_of J o all.lines,
+  record {
+    of_kind = h.begins.of_kind;
+    is_text = text_of_all J kind text body o all.lines h all.text;
+    passes = passes J kind text body o all.lines h all.sound (all.tree.0 refl);
+  },
+  refl,
+  refl,
+)
 
-ends_for : (P : Instance) (goal : Option ℕ) (text : List ℕ) (g : Log) → IsSoundSoFarFor P goal g → text ≡ log_text_for P goal g → (IsTree g.lines → ⊥) → IsRefusedFor P goal text Ends
-ends_for P None text g sound whole part = record { front = Reading g; no_cause = sound; whole = whole; not_whole = part }
-ends_for P (Some goal) text g sound whole part = record { front = ReadingFree goal g; no_cause = sound; whole = whole; not_whole = part }
+pub ends : (J : Judging) (kind : LogKind) (text body : List ℕ) (o : Opening) → HasHeader J kind text o body → AreAllSound J o [] body false → IsRefused J.problem kind text Ends
+ends J kind text body o h all = record {
+  front = Reading (log_of J o all.lines);
+  no_cause = (h.begins.of_kind, sound_so_far J kind text body o all.lines h all.sound);
+  whole = text_of_all J kind text body o all.lines h all.text;
+  not_whole = λ tree. (let t : IsTrue false = all.tree.1 tree in cc);
+}
 
-pub ends : (J : Judging) (text body : List ℕ) (turn : Option Turn) → HasHeader J text turn body → AreAllSound J turn [] body false → IsRefusedFor J.problem J.goal text Ends
-ends J text body turn h all =
-    ends_for J.problem J.goal text (log_of J turn all.lines) (sound_so_far J text body turn all.lines h all.sound) (text_of_all J text body turn all.lines h all.text)
-    (λ tree. let t : IsTrue false = all.tree.1 tree in cc)
-
-refused_for : (P : Instance) (goal : Option ℕ) (text : List ℕ) (g : Log) (line rest : List ℕ) (why : LogRefusal) → IsSoundSoFarFor P goal g → text ≡ log_text_for P goal g ++ line ++ rest → IsNextLine line rest → CauseBehindFor P goal g line why → IsRefusedFor P goal text why
-refused_for P None text g line rest why sound whole next cause =
-    refused_at_line P text why (record { front = Reading g; line = line; rest = rest; no_cause = sound; whole = whole; is_line = next; cause = cause })
-refused_for P (Some goal) text g line rest why sound whole next cause =
-    refused_at_free_line P text why (record { front = ReadingFree goal g; line = line; rest = rest; no_cause = sound; whole = whole; is_line = next; cause = cause })
-
-pub refused : (J : Judging) (text body : List ℕ) (turn : Option Turn) (why : LogRefusal) → HasHeader J text turn body → IsChunkRefused J turn [] body why → IsRefusedFor J.problem J.goal text why
-refused J text body turn why h r =
-    refused_for J.problem J.goal text (log_of J turn r.lines) r.line r.rest why (sound_so_far J text body turn r.lines h r.sound)
-    (text_behind J text body (r.line ++ r.rest) turn r.lines h (r.text ∙ append_assoc (lines_text J.problem r.lines) r.line r.rest)
-    ∙ sym (append_assoc (log_text_for J.problem J.goal (log_of J turn r.lines)) r.line r.rest)) r.is_line r.cause
+pub refused : (J : Judging) (kind : LogKind) (text body : List ℕ) (o : Opening) (why : LogRefusal) → HasHeader J kind text o body → IsChunkRefused J o [] body why → IsRefused J.problem kind text why
+refused J kind text body o why h r =
+    let g : Log = log_of J o r.lines in
+    refused_at_line J.problem kind text why
+    (record {
+      front = Reading g;
+      line = r.line;
+      rest = r.rest;
+      no_cause = (h.begins.of_kind, sound_so_far J kind text body o r.lines h r.sound);
+      whole =
+          text_behind J kind text body (r.line ++ r.rest) o r.lines h (r.text ∙ append_assoc (lines_text J.problem J.goal r.lines) r.line r.rest)
+          ∙ sym (append_assoc (log_text J.problem g) r.line r.rest);
+      is_line = r.is_line;
+      cause = r.cause;
+    })
 
 no_tree : (lines : List Line) → lines ≡ [] → IsTree lines → ⊥
 no_tree lines e tree = let some = tree_has_lines tree.0 in let none : length (lines_in tree.0) ≡ 0 = ap length (tree.1 ∙ e) in omega (arith, some, none)
 
-pub nothing_below : (J : Judging) (turn : Option Turn) (body other : List ℕ) → true ≡ (length other == 0) → other ≡ body → AreAllSound J turn [] body false
-nothing_below J turn body other t e = record {
+pub nothing_below : (J : Judging) (o : Opening) (body other : List ℕ) → true ≡ (length other == 0) → other ≡ body → AreAllSound J o [] body false
+nothing_below J o body other t e = record {
   lines = [];
   sound = tt;
   text = sym (sym (none other t) ∙ e);

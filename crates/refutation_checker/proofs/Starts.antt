@@ -4,28 +4,24 @@ use Rattle.std.specs.Prelude.{MatchBool}
 use Rattle.std.proofs.Math.Seq.{drop-cons}
 use Rattle.std.proofs.lemmas.List.{append-nil, drop_all, take_more, take-append-drop, length-take-le, length-drop}
 use Rattle.rwsp_terms.specs.declared.data.Symbol.{Symbol}
-use Rattle.rwsp_terms.specs.Instance.{Instance, cells}
+use Rattle.rwsp_terms.specs.Instance.{Instance}
 use Rattle.rwsp_model.specs.Validity.{KeepsLimits}
 use Rattle.refutation_terms.specs.declared.lines.Line.{Line}
 use Rattle.refutation_terms.specs.declared.lines.Line.TheVariants.{Split, Unfinished}
-use Rattle.refutation_terms.specs.declared.lines.Turn.{Turn}
+use Rattle.refutation_terms.specs.declared.lines.Opening.{Opening}
 use Rattle.refutation_terms.specs.Tree.{IsTree, domains_at, is_idle}
-use Rattle.refutation_terms.specs.LogText.{raw, line_text}
+use Rattle.refutation_terms.specs.LogText.{raw, line_text, lines_text}
 use Rattle.rwsp_text.specs.Lines.{IsNextLine}
 use Rattle.refutation_terms.specs.Verdict.{Spells}
 use Rattle.refutation_terms.proofs.Causes.{not_unknown}
 use Rattle.refutation_log.specs.Refusals.{IsLineRefused}
 use Rattle.refutation_log.specs.declared.refusal.LineRefusal.{LineRefusal}
 use Rattle.refutation_log.specs.declared.refusal.LineRefusal.TheVariants.{Form, Name}
-use Rattle.refutation_log.proofs.Named.{spelled_fits}
 use Rattle.refutation_log.proofs.LogLines.{some_bytes}
 use Rattle.refutation_log.proofs.OneText.{has_names, one_list, is_writable}
-use Rattle.refutation_terms.proofs.Spelled.{fitting_lines_are_spelled}
-use Rattle.refutation_log.specs.Printing.{lines_text}
-use Rattle.domain_store.specs.Store.{Store, IsStore}
+use Rattle.refutation_terms.proofs.Spelled.{fitting_lines_are_spelled, spelled_lines_fit}
 use Rattle.domain_store.specs.Splits.{IsFirstSide}
 use Rattle.domain_store.specs.States.{State, IsStateOf}
-use Rattle.domain_store.proofs.Idle.{positions_of}
 use Rattle.domain_store.proofs.Moves.{leaf_is_tree}
 use Rattle.refutation_checker.specs.Starts.{Start}
 use Rattle.refutation_checker.specs.Chunks.{EndsLines, IsCutOff}
@@ -34,52 +30,45 @@ use Rattle.refutation_checker.proofs.Unread.{PassedSoFar, tree_passed}
 
 -- lines that are spelled
 
--- the text of a split spells it in any log
-spelled : (P : Instance) (bytes : List ℕ) (p : ℕ) (x : Symbol) → KeepsLimits P → IsLineText P bytes (Split p x) → Spells P bytes (Split p x)
-spelled P bytes p x limits h =
-    subst (λ b. Spells P b (Split p x)) (sym h.text) (fitting_lines_are_spelled P (Split p x) (has_names P limits) h.fits.1)
+-- the text of a split spells it
+spelled : (P : Instance) (goal : Option ℕ) (bytes : List ℕ) (p : ℕ) (x : Symbol) → KeepsLimits P → IsLineText P goal bytes (Split p x) → Spells P goal bytes (Split p x)
+spelled P goal bytes p x limits h =
+    subst (λ b. Spells P goal b (Split p x)) (sym h.text) (fitting_lines_are_spelled P goal (Split p x) (has_names P limits) h.fits)
 
-same_text : (P : Instance) (bytes : List ℕ) (line : Line) (p : ℕ) (x : Symbol) → KeepsLimits P → Spells P bytes line → IsLineText P bytes (Split p x) → line ≡ Split p x
-same_text P bytes line p x limits spells g =
-    let f = spelled_fits P bytes line spells in
-    let one : lines_text P (line ∷ []) ≡ lines_text P (Split p x ∷ []) =
-    append-nil (line_text P (raw P line)) ∙ sym f.0 ∙ g.text ∙ sym (append-nil (line_text P (raw P (Split p x)))) in
-    let same : line ∷ [] ≡ Split p x ∷ [] = one_list P (line ∷ []) (Split p x ∷ []) limits (f.1, tt) (g.fits.1, tt) one in
+same_text : (P : Instance) (goal : Option ℕ) (bytes : List ℕ) (line : Line) (p : ℕ) (x : Symbol) → KeepsLimits P → Spells P goal bytes line → IsLineText P goal bytes (Split p x) → line ≡ Split p x
+same_text P goal bytes line p x limits spells g =
+    let f = spelled_lines_fit P goal bytes line spells in
+    let one : lines_text P goal (line ∷ []) ≡ lines_text P goal (Split p x ∷ []) =
+    append-nil (line_text P (raw P goal line)) ∙ sym f.1 ∙ g.text ∙ sym (append-nil (line_text P (raw P goal (Split p x)))) in
+    let same : line ∷ [] ≡ Split p x ∷ [] = one_list P goal (line ∷ []) (Split p x ∷ []) limits (f.0, tt) (g.fits, tt) one in
     cc
 
-not_refused : (P : Instance) (bytes : List ℕ) (p : ℕ) (x : Symbol) (why : LineRefusal) → KeepsLimits P → IsLineText P bytes (Split p x) → IsLineRefused P bytes why → ⊥
-not_refused P bytes p x Form limits h refused = let s = spelled P bytes p x limits h in refused s.0 s.1
-not_refused P bytes p x Name limits h refused = not_unknown P bytes (Split p x) (is_writable P limits) (spelled P bytes p x limits h) refused
-
--- a split that was spelled is at a position
-pub split_within : (P : Instance) (w : State) (S : Store) (bytes : List ℕ) (line : Line) (p : ℕ) (x : Symbol) → S ≡ w.store → IsStore S → (turn : Option Turn) × (earlier : List Line) × IsStateOf P turn earlier w → Spells P bytes line → line ≡ Split p x → p < length w.store.sets
-split_within P w S bytes line p x is store h spells split =
-    let text = spelled_fits P bytes (Split p x) (subst (Spells P bytes) split spells) in
-    let long : length w.store.sets ≡ cells P = positions_of P w.store (subst IsStore is store) h.2.belongs in
-    omega (arith, long, text.1.0)
+not_refused : (P : Instance) (goal : Option ℕ) (bytes : List ℕ) (p : ℕ) (x : Symbol) (why : LineRefusal) → KeepsLimits P → IsLineText P goal bytes (Split p x) → IsLineRefused P goal bytes why → ⊥
+not_refused P goal bytes p x Form limits h refused = let s = spelled P goal bytes p x limits h in refused s.0 s.1
+not_refused P goal bytes p x Name limits h refused = not_unknown P goal bytes (Split p x) (is_writable P limits) (spelled P goal bytes p x limits h) refused
 
 -- entering splits
 
-pub refused_entry : (P : Instance) (u : UnreadSplit) (old new : State) (bytes : List ℕ) (why : LineRefusal) → KeepsLimits P → bytes ≡ u.line → IsLineRefused P bytes why → IsEntered P u old new false
-refused_entry P u old new bytes why limits is refused turn lines first p x state text side =
-    absurd (not_refused P bytes p x why limits (subst (λ b. IsLineText P b (Split p x)) (sym is) text) refused)
+pub refused_entry : (P : Instance) (goal : Option ℕ) (u : UnreadSplit) (old new : State) (bytes : List ℕ) (why : LineRefusal) → KeepsLimits P → bytes ≡ u.line → IsLineRefused P goal bytes why → IsEntered P goal u old new false
+refused_entry P goal u old new bytes why limits is refused o lines first p x state text side =
+    absurd (not_refused P goal bytes p x why limits (subst (λ b. IsLineText P goal b (Split p x)) (sym is) text) refused)
 
-pub no_entry : (P : Instance) (u : UnreadSplit) (old new : State) (bytes : List ℕ) (line : Line) → KeepsLimits P → bytes ≡ u.line → Spells P bytes line → ((p : ℕ) (x : Symbol) → line ≡ Split p x → ⊥) → IsEntered P u old new false
-no_entry P u old new bytes line limits is spells other turn lines first p x state text side =
-    absurd (other p x (same_text P bytes line p x limits spells (subst (λ b. IsLineText P b (Split p x)) (sym is) text)))
+pub no_entry : (P : Instance) (goal : Option ℕ) (u : UnreadSplit) (old new : State) (bytes : List ℕ) (line : Line) → KeepsLimits P → bytes ≡ u.line → Spells P goal bytes line → ((p : ℕ) (x : Symbol) → line ≡ Split p x → ⊥) → IsEntered P goal u old new false
+no_entry P goal u old new bytes line limits is spells other o lines first p x state text side =
+    absurd (other p x (same_text P goal bytes line p x limits spells (subst (λ b. IsLineText P goal b (Split p x)) (sym is) text)))
 
 same_split : (p q : ℕ) (x y : Symbol) → Split p x ≡ Split q y → (p ≡ q) × (x ≡ y)
 same_split p q x y e = (let f : p ≡ q = cc in f, let g : x ≡ y = cc in g)
 
-pub entry : (P : Instance) (u : UnreadSplit) (old new : State) (bytes : List ℕ) (line : Line) (q : ℕ) (y : Symbol) (in_second entered : Bool) → KeepsLimits P → bytes ≡ u.line → in_second ≡ u.in_second → Spells P bytes line → line ≡ Split q y
-    → ((R : Instance) (turn : Option Turn) (lines first : List Line) → IsStateOf R turn lines old → IsFirstSide in_second first → MatchBool entered (IsStateOf R turn (lines ++ Split q y ∷ first) new) (is_idle R (domains_at R turn lines (length lines)) q y.number ≡ true))
-    → IsEntered P u old new entered
-entry P u old new bytes line q y in_second entered limits is side_is spells split goes turn lines first p x state text side =
-    let same : line ≡ Split p x = same_text P bytes line p x limits spells (subst (λ b. IsLineText P b (Split p x)) (sym is) text) in
+pub entry : (P : Instance) (goal : Option ℕ) (u : UnreadSplit) (old new : State) (bytes : List ℕ) (line : Line) (q : ℕ) (y : Symbol) (in_second entered : Bool) → KeepsLimits P → bytes ≡ u.line → in_second ≡ u.in_second → Spells P goal bytes line → line ≡ Split q y
+    → ((R : Instance) (o : Opening) (lines first : List Line) → IsStateOf R o lines old → IsFirstSide in_second first → MatchBool entered (IsStateOf R o (lines ++ Split q y ∷ first) new) (is_idle R (domains_at R o lines (length lines)) q y.number ≡ true))
+    → IsEntered P goal u old new entered
+entry P goal u old new bytes line q y in_second entered limits is side_is spells split goes o lines first p x state text side =
+    let same : line ≡ Split p x = same_text P goal bytes line p x limits spells (subst (λ b. IsLineText P goal b (Split p x)) (sym is) text) in
     let parts = same_split q p y x (sym split ∙ same) in
-    subst (λ r. MatchBool entered (IsStateOf P turn (lines ++ Split r x ∷ first) new) (is_idle P (domains_at P turn lines (length lines)) r x.number ≡ true)) parts.0
-    (subst (λ (z : Symbol). MatchBool entered (IsStateOf P turn (lines ++ Split q z ∷ first) new) (is_idle P (domains_at P turn lines (length lines)) q z.number ≡ true)) parts.1
-    (goes P turn lines first state (subst (λ b. IsFirstSide b first) (sym side_is) side)))
+    subst (λ r. MatchBool entered (IsStateOf P o (lines ++ Split r x ∷ first) new) (is_idle P (domains_at P o lines (length lines)) r x.number ≡ true)) parts.0
+    (subst (λ (z : Symbol). MatchBool entered (IsStateOf P o (lines ++ Split q z ∷ first) new) (is_idle P (domains_at P o lines (length lines)) q z.number ≡ true)) parts.1
+    (goes P o lines first state (subst (λ b. IsFirstSide b first) (sym side_is) side)))
 
 pub entered_state : (b : Bool) (A B : Type 0) → b ≡ true → MatchBool b A B → A
 entered_state true A B e h = h
@@ -94,9 +83,9 @@ some_side : (b : Bool) → (first : List Line) × IsFirstSide b first
 some_side true = (Unfinished ∷ [], leaf_is_tree Unfinished tt)
 some_side false = ([], refl)
 
-pub entered_somewhere : (P : Instance) (old new : State) (q : ℕ) (y : Symbol) (in_second entered : Bool) → (turn : Option Turn) × (lines : List Line) × IsStateOf P turn lines old
-    → ((R : Instance) (turn : Option Turn) (lines first : List Line) → IsStateOf R turn lines old → IsFirstSide in_second first → MatchBool entered (IsStateOf R turn (lines ++ Split q y ∷ first) new) (is_idle R (domains_at R turn lines (length lines)) q y.number ≡ true))
-    → entered ≡ true → (turn : Option Turn) × (lines : List Line) × IsStateOf P turn lines new
+pub entered_somewhere : (P : Instance) (old new : State) (q : ℕ) (y : Symbol) (in_second entered : Bool) → (o : Opening) × (lines : List Line) × IsStateOf P o lines old
+    → ((R : Instance) (o : Opening) (lines first : List Line) → IsStateOf R o lines old → IsFirstSide in_second first → MatchBool entered (IsStateOf R o (lines ++ Split q y ∷ first) new) (is_idle R (domains_at R o lines (length lines)) q y.number ≡ true))
+    → entered ≡ true → (o : Opening) × (lines : List Line) × IsStateOf P o lines new
 entered_somewhere P old new q y in_second entered state goes is =
     let side = some_side in_second in
     (state.0, state.1 ++ Split q y ∷ side.0, entered_state entered _ _ is (goes P state.0 state.1 side.0 state.2 side.1))
@@ -108,25 +97,25 @@ still_part false n before is some = refl
 
 -- the first splits were entered
 
-pub record IntoUpTo (P : Instance) (turn : Option Turn) (lines : List Line) (left : List UnreadSplit) (w : State) : Type 0 where
+pub record IntoUpTo (P : Instance) (goal : Option ℕ) (o : Opening) (lines : List Line) (left : List UnreadSplit) (w : State) : Type 0 where
   pub front : List Line
   pub rest : List Line
   pub both : lines ≡ front ++ rest
-  pub inside : EndInside P left rest
-  pub state : IsStateOf P turn front w
+  pub inside : EndInside P goal left rest
+  pub state : IsStateOf P o front w
 
-pub record IntoSoFar (P : Instance) (start : State) (before : List UnreadSplit) (i : ℕ) (w : State) : Type 0 where
-  pub state : (turn : Option Turn) × (lines : List Line) × IsStateOf P turn lines w
+pub record IntoSoFar (P : Instance) (goal : Option ℕ) (start : State) (before : List UnreadSplit) (i : ℕ) (w : State) : Type 0 where
+  pub state : (o : Opening) × (lines : List Line) × IsStateOf P o lines w
   pub part : w.whole ≡ false
-  pub leads : (turn : Option Turn) (lines : List Line) → IsStateOf P turn [] start → EndInside P before lines → IntoUpTo P turn lines (drop i before) w
+  pub leads : (o : Opening) (lines : List Line) → IsStateOf P o [] start → EndInside P goal before lines → IntoUpTo P goal o lines (drop i before) w
 
-pub into_none : (P : Instance) (start w : State) (before : List UnreadSplit) → w ≡ start → (turn : Option Turn) × (lines : List Line) × IsStateOf P turn lines start → start.whole ≡ false → IntoSoFar P start before 0 w
-into_none P start w before is state part =
-    subst (IntoSoFar P start before 0) (sym is)
+pub into_none : (P : Instance) (goal : Option ℕ) (start w : State) (before : List UnreadSplit) → w ≡ start → (o : Opening) × (lines : List Line) × IsStateOf P o lines start → start.whole ≡ false → IntoSoFar P goal start before 0 w
+into_none P goal start w before is state part =
+    subst (IntoSoFar P goal start before 0) (sym is)
     (record {
       state = state;
       part = part;
-      leads = λ turn lines st h. record { front = []; rest = lines; both = refl; inside = h; state = st };
+      leads = λ o lines st h. record { front = []; rest = lines; both = refl; inside = h; state = st };
     })
 
 left_from : (before : List UnreadSplit) (i : ℕ) (u : UnreadSplit) → i < length before → u ≡ get_or before i u → drop i before ≡ u ∷ drop (i + 1) before
@@ -134,48 +123,48 @@ left_from before i u less is =
     let next : suc i ≡ i + 1 = omega arith in
     drop-cons before i u less ∙ ap (λ v. v ∷ drop (suc i) before) (sym is) ∙ ap (λ n. u ∷ drop n before) next
 
-pub into_more : (P : Instance) (start w w' : State) (before : List UnreadSplit) (i : ℕ) (u : UnreadSplit) → i < length before → u ≡ get_or before i u → IntoSoFar P start before i w → (turn : Option Turn) × (lines : List Line) × IsStateOf P turn lines w' → w'.whole ≡ false
-    → IsEntered P u w w' true → IntoSoFar P start before (i + 1) w'
-into_more P start w w' before i u less is so state part enters = record {
+pub into_more : (P : Instance) (goal : Option ℕ) (start w w' : State) (before : List UnreadSplit) (i : ℕ) (u : UnreadSplit) → i < length before → u ≡ get_or before i u → IntoSoFar P goal start before i w → (o : Opening) × (lines : List Line) × IsStateOf P o lines w' → w'.whole ≡ false
+    → IsEntered P goal u w w' true → IntoSoFar P goal start before (i + 1) w'
+into_more P goal start w w' before i u less is so state part enters = record {
   state = state;
   part = part;
-  leads = λ turn lines st h.
-      let up = so.leads turn lines st h in
-      let inside : EndInside P (u ∷ drop (i + 1) before) up.rest = subst (λ o. EndInside P o up.rest) (left_from before i u less is) up.inside in
+  leads = λ o lines st h.
+      let up = so.leads o lines st h in
+      let inside : EndInside P goal (u ∷ drop (i + 1) before) up.rest = subst (λ o. EndInside P goal o up.rest) (left_from before i u less is) up.inside in
       record {
         front = up.front ++ Split inside.0 inside.1 ∷ inside.2;
         rest = inside.3;
         both = up.both ∙ ap (λ ls. up.front ++ ls) inside.4 ∙ sym (append_assoc up.front (Split inside.0 inside.1 ∷ inside.2) inside.3);
         inside = inside.7;
-        state = enters turn up.front inside.2 inside.0 inside.1 up.state inside.5 inside.6;
+        state = enters o up.front inside.2 inside.0 inside.1 up.state inside.5 inside.6;
       };
 }
 
-pub into_idle : (P : Instance) (start w w' : State) (before : List UnreadSplit) (i : ℕ) (u : UnreadSplit) → i < length before → u ≡ get_or before i u → IntoSoFar P start before i w → IsEntered P u w w' false → IsInto P start before None
-into_idle P start w w' before i u less is so enters turn lines st h =
-    let up = so.leads turn lines st h in
-    let inside : EndInside P (u ∷ drop (i + 1) before) up.rest = subst (λ o. EndInside P o up.rest) (left_from before i u less is) up.inside in
+pub into_idle : (P : Instance) (goal : Option ℕ) (start w w' : State) (before : List UnreadSplit) (i : ℕ) (u : UnreadSplit) → i < length before → u ≡ get_or before i u → IntoSoFar P goal start before i w → IsEntered P goal u w w' false → IsInto P goal start before None
+into_idle P goal start w w' before i u less is so enters o lines st h =
+    let up = so.leads o lines st h in
+    let inside : EndInside P goal (u ∷ drop (i + 1) before) up.rest = subst (λ o. EndInside P goal o up.rest) (left_from before i u less is) up.inside in
     record {
       front = up.front;
       p = inside.0;
       x = inside.1;
       rest = inside.2 ++ inside.3;
       here = up.both ∙ ap (λ ls. up.front ++ ls) inside.4;
-      idle = enters turn up.front inside.2 inside.0 inside.1 up.state inside.5 inside.6;
+      idle = enters o up.front inside.2 inside.0 inside.1 up.state inside.5 inside.6;
     }
 
-pub into_all : (P : Instance) (start w : State) (before : List UnreadSplit) (i : ℕ) → length before ≤ i → IntoSoFar P start before i w → IsInto P start before (Some w)
-into_all P start w before i all so turn lines st h =
-    let up = so.leads turn lines st h in
-    let none : up.rest ≡ [] = subst (λ o. EndInside P o up.rest) (drop_all i before all) up.inside in
+pub into_all : (P : Instance) (goal : Option ℕ) (start w : State) (before : List UnreadSplit) (i : ℕ) → length before ≤ i → IntoSoFar P goal start before i w → IsInto P goal start before (Some w)
+into_all P goal start w before i all so o lines st h =
+    let up = so.leads o lines st h in
+    let none : up.rest ≡ [] = subst (λ o. EndInside P goal o up.rest) (drop_all i before all) up.inside in
     let whole : up.front ≡ lines = sym (up.both ∙ ap (λ ls. up.front ++ ls) none ∙ append-nil up.front) in
-    subst (λ ls. IsStateOf P turn ls w) whole up.state
+    subst (λ ls. IsStateOf P o ls w) whole up.state
 
 -- passing lines
 
 -- an idle split is one of all lines
-idle_in_all : (P : Instance) (turn : Option Turn) (a b : List Line) → HasIdleSplit P turn a → HasIdleSplit P turn (a ++ b)
-idle_in_all P turn a b h = record {
+idle_in_all : (P : Instance) (o : Opening) (a b : List Line) → HasIdleSplit P o a → HasIdleSplit P o (a ++ b)
+idle_in_all P o a b h = record {
   front = h.front;
   p = h.p;
   x = h.x;
@@ -184,28 +173,28 @@ idle_in_all P turn a b h = record {
   idle = h.idle;
 }
 
-pub passed_tree : (P : Instance) (start : State) (before splits after : List UnreadSplit) (all left bytes rest : List ℕ) (count : ℕ) → KeepsLimits P → PassedSoFar P before splits all left count → bytes ≢ [] → left ≡ bytes ++ rest → IsNextLine bytes rest
-    → ((earlier : List Line) (l : Line) → EndInside P splits earlier → IsLineText P bytes l → IsTree (earlier ++ l ∷ [])) → ArePassed P start before after all None
-passed_tree P start before splits after all left bytes rest count limits so some e next ends turn done lines st h fit text =
-    inl (tree_passed P before splits all left bytes rest count limits so some e next ends done lines h fit text)
+pub passed_tree : (P : Instance) (goal : Option ℕ) (start : State) (before splits after : List UnreadSplit) (all left bytes rest : List ℕ) (count : ℕ) → KeepsLimits P → PassedSoFar P goal before splits all left count → bytes ≢ [] → left ≡ bytes ++ rest → IsNextLine bytes rest
+    → ((earlier : List Line) (l : Line) → EndInside P goal splits earlier → IsLineText P goal bytes l → IsTree (earlier ++ l ∷ [])) → ArePassed P goal start before after all None
+passed_tree P goal start before splits after all left bytes rest count limits so some e next ends o done lines st h fit text =
+    inl (tree_passed P goal before splits all left bytes rest count limits so some e next ends done lines h fit text)
 
-pub passed_idle : (P : Instance) (start : State) (before splits after : List UnreadSplit) (all left : List ℕ) (count : ℕ) → PassedSoFar P before splits all left count → IsInto P start splits None → ArePassed P start before after all None
-passed_idle P start before splits after all left count so idle turn done lines st h fit text =
+pub passed_idle : (P : Instance) (goal : Option ℕ) (start : State) (before splits after : List UnreadSplit) (all left : List ℕ) (count : ℕ) → PassedSoFar P goal before splits all left count → IsInto P goal start splits None → ArePassed P goal start before after all None
+passed_idle P goal start before splits after all left count so idle o done lines st h fit text =
     let up = so.each done lines h fit text in
-    let here = idle_in_all P turn (done ++ up.done) up.rest (idle turn (done ++ up.done) st up.inside) in
-    inr (subst (HasIdleSplit P turn) (append_assoc done up.done up.rest ∙ ap (λ ls. done ++ ls) (sym up.both)) here)
+    let here = idle_in_all P o (done ++ up.done) up.rest (idle o (done ++ up.done) st up.inside) in
+    inr (subst (HasIdleSplit P o) (append_assoc done up.done up.rest ∙ ap (λ ls. done ++ ls) (sym up.both)) here)
 
 -- all lines were passed, but one of the splits that are open behind them is idle
-pub behind_idle : (P : Instance) (start : State) (before after : List UnreadSplit) (bytes : List ℕ) (count : ℕ) → ArePassed P start before after bytes (Some count) → IsInto P start after None → ArePassed P start before after bytes None
-behind_idle P start before after bytes count passed idle turn done lines st h fit text =
-    inr (idle turn (done ++ lines) st (passed done lines h fit text).1)
+pub behind_idle : (P : Instance) (goal : Option ℕ) (start : State) (before after : List UnreadSplit) (bytes : List ℕ) (count : ℕ) → ArePassed P goal start before after bytes (Some count) → IsInto P goal start after None → ArePassed P goal start before after bytes None
+behind_idle P goal start before after bytes count passed idle o done lines st h fit text =
+    inr (idle o (done ++ lines) st (passed done lines h fit text).1)
 
 -- a chunk was cut off at an end of lines
-pub cut_here : (P : Instance) (size : ℕ) (start : State) (before after : List UnreadSplit) (all : Start) (w walk : State) (bytes front back : List ℕ) (first end count : ℕ) → record { walk = w; bytes = bytes; first = first } ≡ all
+pub cut_here : (P : Instance) (goal : Option ℕ) (size : ℕ) (start : State) (before after : List UnreadSplit) (all : Start) (w walk : State) (bytes front back : List ℕ) (first end count : ℕ) → record { walk = w; bytes = bytes; first = first } ≡ all
     → front ≡ take end bytes → back ≡ drop end bytes → end ≢ length bytes → end ≤ length bytes → (0 < length bytes → 0 < end) → EndsLines bytes size end → all.bytes ≢ [] → all.first + length all.bytes < 2 ^ 31 → count ≤ length (take end bytes)
-    → (turn : Option Turn) × (lines : List Line) × IsStateOf P turn lines walk → ArePassed P start before after (take end bytes) (Some count) → IsInto P start after (Some walk)
-    → IsCutOff P size start before after all (record { walk = w; bytes = front; first = first }) (Some (record { walk = walk; bytes = back; first = first + count }))
-cut_here P size start before after all w walk bytes front back first end count view is_front is_back other within some ends more few counted state passed into =
+    → (o : Opening) × (lines : List Line) × IsStateOf P o lines walk → ArePassed P goal start before after (take end bytes) (Some count) → IsInto P goal start after (Some walk)
+    → IsCutOff P goal size start before after all (record { walk = w; bytes = front; first = first }) (Some (record { walk = walk; bytes = back; first = first + count }))
+cut_here P goal size start before after all w walk bytes front back first end count view is_front is_back other within some ends more few counted state passed into =
     let same : bytes ≡ all.bytes = ap (λ (s : Start). s.bytes) view in
     let begin : first ≡ all.first = ap (λ (s : Start). s.first) view in
     let one = some_bytes bytes (λ none. more (sym same ∙ none)) in

@@ -1,23 +1,23 @@
 -- Splits that are passed without being read.
-use Rattle.std.proofs.Common.{◌≡◌, ◌≢◌, ℕ, ◌+◌, ◌<◌, ◌≤◌, List, [], ◌∷◌, ◌++◌, length, get_or, refl, ap, sym, ◌∙◌, append_assoc, length-append, subst, arith, inl, inr, Bool, true, false, ◌==◌}
+use Rattle.std.proofs.Common.{◌≡◌, ◌≢◌, Option, Some, None, ℕ, ◌+◌, ◌<◌, ◌≤◌, List, [], ◌∷◌, ◌++◌, length, get_or, refl, ap, sym, ◌∙◌, append_assoc, length-append, subst, arith, inl, inr, Bool, true, false, ◌==◌}
 use Rattle.std.specs.Prelude.{MatchBool}
 use Rattle.std.proofs.lemmas.List.{append-nil}
 use Rattle.rwsp_terms.specs.declared.data.Symbol.{Symbol}
 use Rattle.rwsp_terms.specs.Instance.{Instance}
 use Rattle.rwsp_model.specs.Validity.{KeepsLimits}
 use Rattle.refutation_terms.specs.declared.lines.Line.{Line}
-use Rattle.refutation_terms.specs.declared.lines.Line.TheVariants.{Split}
+use Rattle.refutation_terms.specs.declared.lines.Line.TheVariants.{Split, Unfinished, Closing}
+use Rattle.refutation_terms.specs.declared.lines.Leaf.TheVariants.{Window, Day, Few, Words}
+use Rattle.refutation_terms.specs.declared.lines.WordClaim.TheVariants.{Dead, Light}
 use Rattle.refutation_terms.specs.Tree.{IsLeaf, IsTree, Node, lines_in}
-use Rattle.refutation_terms.specs.LogText.{raw, raw_fields, line_text}
+use Rattle.refutation_terms.specs.LogText.{raw, line_text, lines_text}
 use Rattle.rwsp_text.specs.Lines.{IsNextLine}
-use Rattle.refutation_log.specs.Printing.{lines_text}
-use Rattle.rwsp_text.proofs.LineLaws.{cut, join_no_feed}
-use Rattle.refutation_log.proofs.OneText.{body, has_names, is_writable}
-use Rattle.refutation_terms.proofs.Texts.{line_words}
-use Rattle.rwsp_text.specs.Lines.{HasNoFeed}
+use Rattle.rwsp_text.proofs.LineLaws.{cut}
+use Rattle.refutation_log.specs.Printing.{EachFits}
+use Rattle.refutation_log.proofs.OneText.{body, body_feedless}
 use Rattle.domain_store.specs.Splits.{IsFirstSide, NoLines}
 use Rattle.domain_store.proofs.Moves.{leaf_is_tree}
-use Rattle.refutation_checker.specs.UnreadSplits.{UnreadSplit, FitsALog, EachFits, IsLineText, LeadInto, EndInside, HasTree}
+use Rattle.refutation_checker.specs.UnreadSplits.{UnreadSplit, IsLineText, LeadInto, EndInside, HasTree}
 use Rattle.refutation_checker.proofs.LastFeed.{not_at_end}
 use Rattle.refutation_log.proofs.LogLines.{some_bytes}
 
@@ -26,9 +26,9 @@ nothing_ends [] r e = cc
 nothing_ends (x ∷ a) r e = cc
 
 -- what follows the splits may grow
-pub grows : (P : Instance) (Q R : List Line → Type 0) (more : List Line) → ((ls : List Line) → Q ls → R (ls ++ more)) → (splits : List UnreadSplit) (lines : List Line) → LeadInto P Q splits lines → LeadInto P R splits (lines ++ more)
-grows P Q R more f [] lines h = f lines h
-grows P Q R more f (u ∷ splits) lines h = (
+pub grows : (P : Instance) (goal : Option ℕ) (Q R : List Line → Type 0) (more : List Line) → ((ls : List Line) → Q ls → R (ls ++ more)) → (splits : List UnreadSplit) (lines : List Line) → LeadInto P goal Q splits lines → LeadInto P goal R splits (lines ++ more)
+grows P goal Q R more f [] lines h = f lines h
+grows P goal Q R more f (u ∷ splits) lines h = (
   h.0,
   h.1,
   h.2,
@@ -36,18 +36,18 @@ grows P Q R more f (u ∷ splits) lines h = (
   ap (λ ls. ls ++ more) h.4 ∙ ap (λ ls. Split h.0 h.1 ∷ ls) (append_assoc h.2 h.3 more),
   h.5,
   h.6,
-  grows P Q R more f splits h.3 h.7,
+  grows P goal Q R more f splits h.3 h.7,
 )
 
 -- the innermost splits may be others
-pub inmost : (P : Instance) (Q R : List Line → Type 0) (tail other : List UnreadSplit) → ((ls : List Line) → LeadInto P Q tail ls → LeadInto P R other ls) → (outer : List UnreadSplit) (lines : List Line) → LeadInto P Q (outer ++ tail) lines → LeadInto P R (outer ++ other) lines
-inmost P Q R tail other f [] lines h = f lines h
-inmost P Q R tail other f (u ∷ outer) lines h = (h.0, h.1, h.2, h.3, h.4, h.5, h.6, inmost P Q R tail other f outer h.3 h.7)
+pub inmost : (P : Instance) (goal : Option ℕ) (Q R : List Line → Type 0) (tail other : List UnreadSplit) → ((ls : List Line) → LeadInto P goal Q tail ls → LeadInto P goal R other ls) → (outer : List UnreadSplit) (lines : List Line) → LeadInto P goal Q (outer ++ tail) lines → LeadInto P goal R (outer ++ other) lines
+inmost P goal Q R tail other f [] lines h = f lines h
+inmost P goal Q R tail other f (u ∷ outer) lines h = (h.0, h.1, h.2, h.3, h.4, h.5, h.6, inmost P goal Q R tail other f outer h.3 h.7)
 
 -- splits inside splits
-nested : (P : Instance) (Q : List Line → Type 0) (tail outer : List UnreadSplit) (lines : List Line) → LeadInto P (LeadInto P Q tail) outer lines → LeadInto P Q (outer ++ tail) lines
-nested P Q tail [] lines h = h
-nested P Q tail (u ∷ outer) lines h = (h.0, h.1, h.2, h.3, h.4, h.5, h.6, nested P Q tail outer h.3 h.7)
+nested : (P : Instance) (goal : Option ℕ) (Q : List Line → Type 0) (tail outer : List UnreadSplit) (lines : List Line) → LeadInto P goal (LeadInto P goal Q tail) outer lines → LeadInto P goal Q (outer ++ tail) lines
+nested P goal Q tail [] lines h = h
+nested P goal Q tail (u ∷ outer) lines h = (h.0, h.1, h.2, h.3, h.4, h.5, h.6, nested P goal Q tail outer h.3 h.7)
 
 -- a split and its two sides are a tree
 node : (p : ℕ) (x : Symbol) (first second lines : List Line) → lines ≡ Split p x ∷ (first ++ second) → IsTree first → IsTree second → IsTree lines
@@ -55,12 +55,12 @@ node p x first second lines e f s =
     (Node p x f.0 s.0, ap (λ ls. Split p x ∷ (ls ++ lines_in s.0)) f.1 ∙ ap (λ ls. Split p x ∷ (first ++ ls)) s.1 ∙ sym e)
 
 -- the second side ends: the split is closed
-closed : (P : Instance) (u : UnreadSplit) (b : Bool) (ls : List Line) → u.in_second ≡ b → b ≡ true → LeadInto P IsTree (u ∷ []) ls → LeadInto P IsTree [] ls
-closed P u b ls e t h = node h.0 h.1 h.2 h.3 ls h.4 (subst (λ c. IsFirstSide c h.2) (e ∙ t) h.6) h.7
+closed : (P : Instance) (goal : Option ℕ) (u : UnreadSplit) (b : Bool) (ls : List Line) → u.in_second ≡ b → b ≡ true → LeadInto P goal IsTree (u ∷ []) ls → LeadInto P goal IsTree [] ls
+closed P goal u b ls e t h = node h.0 h.1 h.2 h.3 ls h.4 (subst (λ c. IsFirstSide c h.2) (e ∙ t) h.6) h.7
 
 -- the first side ends, and the second begins
-crossed : (P : Instance) (u : UnreadSplit) (ls : List Line) → u.in_second ≡ false → LeadInto P IsTree (u ∷ []) ls → EndInside P ((record { line = u.line; in_second = true }) ∷ []) ls
-crossed P u ls e h =
+crossed : (P : Instance) (goal : Option ℕ) (u : UnreadSplit) (ls : List Line) → u.in_second ≡ false → LeadInto P goal IsTree (u ∷ []) ls → EndInside P goal ((record { line = u.line; in_second = true }) ∷ []) ls
+crossed P goal u ls e h =
     let none : h.2 ≡ [] = subst (λ c. IsFirstSide c h.2) e h.6 in (
       h.0,
       h.1,
@@ -72,89 +72,92 @@ crossed P u ls e h =
       refl,
     )
 
-pub side_closed : (P : Instance) (splits outer : List UnreadSplit) (u : UnreadSplit) (lines : List Line) → splits ≡ outer ++ u ∷ [] → u.in_second ≡ true → LeadInto P IsTree splits lines → LeadInto P IsTree outer lines
-side_closed P splits outer u lines is second h =
-    subst (λ s. LeadInto P IsTree s lines) (append-nil outer)
-    (inmost P IsTree IsTree (u ∷ []) [] (λ ls. closed P u true ls second refl) outer lines (subst (λ s. LeadInto P IsTree s lines) is h))
+pub side_closed : (P : Instance) (goal : Option ℕ) (splits outer : List UnreadSplit) (u : UnreadSplit) (lines : List Line) → splits ≡ outer ++ u ∷ [] → u.in_second ≡ true → LeadInto P goal IsTree splits lines → LeadInto P goal IsTree outer lines
+side_closed P goal splits outer u lines is second h =
+    subst (λ s. LeadInto P goal IsTree s lines) (append-nil outer)
+    (inmost P goal IsTree IsTree (u ∷ []) [] (λ ls. closed P goal u true ls second refl) outer lines (subst (λ s. LeadInto P goal IsTree s lines) is h))
 
-pub side_crossed : (P : Instance) (splits outer after : List UnreadSplit) (u : UnreadSplit) (lines : List Line) → splits ≡ outer ++ u ∷ [] → u.in_second ≡ false → after ≡ outer ++ (record { line = u.line; in_second = true }) ∷ [] → LeadInto P IsTree splits lines → EndInside P after lines
-side_crossed P splits outer after u lines is first to h =
-    subst (λ s. EndInside P s lines) (sym to)
-    (inmost P IsTree NoLines (u ∷ []) ((record { line = u.line; in_second = true }) ∷ []) (λ ls. crossed P u ls first) outer lines (subst (λ s. LeadInto P IsTree s lines) is h))
+pub side_crossed : (P : Instance) (goal : Option ℕ) (splits outer after : List UnreadSplit) (u : UnreadSplit) (lines : List Line) → splits ≡ outer ++ u ∷ [] → u.in_second ≡ false → after ≡ outer ++ (record { line = u.line; in_second = true }) ∷ [] → LeadInto P goal IsTree splits lines → EndInside P goal after lines
+side_crossed P goal splits outer after u lines is first to h =
+    subst (λ s. EndInside P goal s lines) (sym to)
+    (inmost P goal IsTree NoLines (u ∷ []) ((record { line = u.line; in_second = true }) ∷ []) (λ ls. crossed P goal u ls first) outer lines (subst (λ s. LeadInto P goal IsTree s lines) is h))
 
 -- which lines begin as a split does
-pub by_letter : (P : Instance) (l : Line) (t : Bool) → (get_or (line_text P (raw P l)) 0 0 == 115) ≡ t → MatchBool t ((p : ℕ) × (x : Symbol) × (l ≡ Split p x)) (IsLeaf l)
-by_letter P (Split p x) true e = (p, x, refl)
-by_letter P (Split p x) false e = absurd (cc)
-by_letter P l true e = absurd (cc)
-by_letter P l false e = tt
+pub by_letter : (P : Instance) (goal : Option ℕ) (l : Line) (t : Bool) → (get_or (line_text P (raw P goal l)) 0 0 == 115) ≡ t → MatchBool t ((p : ℕ) × (x : Symbol) × (l ≡ Split p x)) (IsLeaf l)
+by_letter P goal (Split p x) true e = (p, x, refl)
+by_letter P goal (Split p x) false e = absurd (cc)
+by_letter P goal (Closing (Window rule p len)) true e = absurd (cc)
+by_letter P goal (Closing (Day j x over)) true e = absurd (cc)
+by_letter P goal (Closing (Words p R (Dead len))) true e = absurd (cc)
+by_letter P None (Closing (Words p R (Light turns reward y))) true e = absurd (cc)
+by_letter P (Some goal) (Closing (Words p R (Light turns reward y))) true e = absurd (cc)
+by_letter P goal (Closing Few) true e = absurd (cc)
+by_letter P goal Unfinished true e = absurd (cc)
+by_letter P goal (Closing leaf) false e = tt
+by_letter P goal Unfinished false e = tt
 
-kind_of : (P : Instance) (bytes : List ℕ) (l : Line) (t : Bool) → t ≡ (get_or bytes 0 0 == 115) → IsLineText P bytes l → MatchBool t ((p : ℕ) × (x : Symbol) × (l ≡ Split p x)) (IsLeaf l)
-kind_of P bytes l t e h = by_letter P l t (ap (λ b. get_or b 0 0 == 115) (sym h.text) ∙ sym e)
+kind_of : (P : Instance) (goal : Option ℕ) (bytes : List ℕ) (l : Line) (t : Bool) → t ≡ (get_or bytes 0 0 == 115) → IsLineText P goal bytes l → MatchBool t ((p : ℕ) × (x : Symbol) × (l ≡ Split p x)) (IsLeaf l)
+kind_of P goal bytes l t e h = by_letter P goal l t (ap (λ b. get_or b 0 0 == 115) (sym h.text) ∙ sym e)
 
-opened : (P : Instance) (bytes : List ℕ) (p : ℕ) (x : Symbol) (l : Line) (splits : List UnreadSplit) (earlier : List Line) → l ≡ Split p x → IsLineText P bytes l → EndInside P splits earlier → EndInside P (splits ++ (record { line = bytes; in_second = false }) ∷ []) (earlier ++ l ∷ [])
-opened P bytes p x l splits earlier e text h =
+opened : (P : Instance) (goal : Option ℕ) (bytes : List ℕ) (p : ℕ) (x : Symbol) (l : Line) (splits : List UnreadSplit) (earlier : List Line) → l ≡ Split p x → IsLineText P goal bytes l → EndInside P goal splits earlier → EndInside P goal (splits ++ (record { line = bytes; in_second = false }) ∷ []) (earlier ++ l ∷ [])
+opened P goal bytes p x l splits earlier e text h =
     let u : UnreadSplit = record { line = bytes; in_second = false } in
-    nested P NoLines (u ∷ []) splits (earlier ++ l ∷ [])
-    (grows P NoLines (LeadInto P NoLines (u ∷ [])) (l ∷ [])
-    (λ ls none. (p, x, [], [], ap (λ k. k ++ l ∷ []) none ∙ ap (λ k. k ∷ []) e, subst (IsLineText P bytes) e text, refl, refl)) splits earlier h)
+    nested P goal NoLines (u ∷ []) splits (earlier ++ l ∷ [])
+    (grows P goal NoLines (LeadInto P goal NoLines (u ∷ [])) (l ∷ [])
+    (λ ls none. (p, x, [], [], ap (λ k. k ++ l ∷ []) none ∙ ap (λ k. k ∷ []) e, subst (IsLineText P goal bytes) e text, refl, refl)) splits earlier h)
 
-pub split_opened : (P : Instance) (bytes : List ℕ) (t : Bool) (splits after : List UnreadSplit) (earlier : List Line) (l : Line) → t ≡ (get_or bytes 0 0 == 115) → t ≡ true → after ≡ splits ++ (record { line = bytes; in_second = false }) ∷ [] → EndInside P splits earlier → IsLineText P bytes l → EndInside P after (earlier ++ l ∷ [])
-split_opened P bytes t splits after earlier l e is_split is h text =
-    let k : (p : ℕ) × (x : Symbol) × (l ≡ Split p x) = subst (λ b. MatchBool b ((p : ℕ) × (x : Symbol) × (l ≡ Split p x)) (IsLeaf l)) is_split (kind_of P bytes l t e text) in
-    subst (λ s. EndInside P s (earlier ++ l ∷ [])) (sym is) (opened P bytes k.0 k.1 l splits earlier k.2 text h)
+pub split_opened : (P : Instance) (goal : Option ℕ) (bytes : List ℕ) (t : Bool) (splits after : List UnreadSplit) (earlier : List Line) (l : Line) → t ≡ (get_or bytes 0 0 == 115) → t ≡ true → after ≡ splits ++ (record { line = bytes; in_second = false }) ∷ [] → EndInside P goal splits earlier → IsLineText P goal bytes l → EndInside P goal after (earlier ++ l ∷ [])
+split_opened P goal bytes t splits after earlier l e is_split is h text =
+    let k : (p : ℕ) × (x : Symbol) × (l ≡ Split p x) = subst (λ b. MatchBool b ((p : ℕ) × (x : Symbol) × (l ≡ Split p x)) (IsLeaf l)) is_split (kind_of P goal bytes l t e text) in
+    subst (λ s. EndInside P goal s (earlier ++ l ∷ [])) (sym is) (opened P goal bytes k.0 k.1 l splits earlier k.2 text h)
 
-pub leaf_passed : (P : Instance) (bytes : List ℕ) (t : Bool) (splits : List UnreadSplit) (earlier : List Line) (l : Line) → t ≡ (get_or bytes 0 0 == 115) → t ≡ false → EndInside P splits earlier → IsLineText P bytes l → LeadInto P IsTree splits (earlier ++ l ∷ [])
-leaf_passed P bytes t splits earlier l e is_leaf h text =
-    let leaf : IsLeaf l = subst (λ b. MatchBool b ((p : ℕ) × (x : Symbol) × (l ≡ Split p x)) (IsLeaf l)) is_leaf (kind_of P bytes l t e text) in
-    grows P NoLines IsTree (l ∷ []) (λ ls none. subst (λ k. IsTree (k ++ l ∷ [])) (sym none) (leaf_is_tree l leaf)) splits earlier h
+pub leaf_passed : (P : Instance) (goal : Option ℕ) (bytes : List ℕ) (t : Bool) (splits : List UnreadSplit) (earlier : List Line) (l : Line) → t ≡ (get_or bytes 0 0 == 115) → t ≡ false → EndInside P goal splits earlier → IsLineText P goal bytes l → LeadInto P goal IsTree splits (earlier ++ l ∷ [])
+leaf_passed P goal bytes t splits earlier l e is_leaf h text =
+    let leaf : IsLeaf l = subst (λ b. MatchBool b ((p : ℕ) × (x : Symbol) × (l ≡ Split p x)) (IsLeaf l)) is_leaf (kind_of P goal bytes l t e text) in
+    grows P goal NoLines IsTree (l ∷ []) (λ ls none. subst (λ k. IsTree (k ++ l ∷ [])) (sym none) (leaf_is_tree l leaf)) splits earlier h
 
 -- the first line of a text of lines
 
-pub body_feedless : (P : Instance) (line : Line) → KeepsLimits P → FitsALog P line → HasNoFeed (body P line)
-body_feedless P line limits fits =
-    join_no_feed (raw_fields P (raw P line)) (line_words P fits.0 line (is_writable P limits) (has_names P limits) fits.1).1
-
-pub record HasFirst (P : Instance) (lines : List Line) (bytes left : List ℕ) : Type 0 where
+pub record HasFirst (P : Instance) (goal : Option ℕ) (lines : List Line) (bytes left : List ℕ) : Type 0 where
   pub line : Line
   pub rest : List Line
   pub here : lines ≡ line ∷ rest
-  pub text : IsLineText P bytes line
-  pub fit : EachFits P rest
-  pub below : left ≡ lines_text P rest
+  pub text : IsLineText P goal bytes line
+  pub fit : EachFits P goal rest
+  pub below : left ≡ lines_text P goal rest
 
-pub first_line : (P : Instance) (lines : List Line) (bytes left : List ℕ) → KeepsLimits P → EachFits P lines → bytes ≢ [] → bytes ++ left ≡ lines_text P lines → IsNextLine bytes left → HasFirst P lines bytes left
-first_line P [] bytes left limits fit some e next =
+pub first_line : (P : Instance) (goal : Option ℕ) (lines : List Line) (bytes left : List ℕ) → KeepsLimits P → EachFits P goal lines → bytes ≢ [] → bytes ++ left ≡ lines_text P goal lines → IsNextLine bytes left → HasFirst P goal lines bytes left
+first_line P goal [] bytes left limits fit some e next =
     let long : length (bytes ++ left) ≡ length bytes + length left = length-append bytes left in
     let none : length (bytes ++ left) ≡ 0 = ap length e in
     let one = some_bytes bytes some in
     absurd (omega (arith, long, none, one))
-first_line P (l ∷ lines) bytes left limits fit some e next =
+first_line P goal (l ∷ lines) bytes left limits fit some e next =
     elim next [
       | inl fed ↦
-          let c = cut fed.0 (body P l) left (lines_text P lines) fed.1 (body_feedless P l limits fit.0) (ap (λ b. b ++ left) (sym fed.2) ∙ e) in
+          let c = cut fed.0 (body P goal l) left (lines_text P goal lines) fed.1 (body_feedless P goal l limits fit.0) (ap (λ b. b ++ left) (sym fed.2) ∙ e) in
           record { line = l; rest = lines; here = refl; text = record { fits = fit.0; text = fed.2 ∙ ap (λ b. b ++ 10 ∷ []) c.0 }; fit = fit.1; below = c.1 }
       | inr last ↦
-          absurd (not_at_end P (l ∷ lines) [] bytes last.0 last.1 (sym e ∙ ap (λ r. bytes ++ r) last.2 ∙ append-nil bytes))
+          absurd (not_at_end P goal (l ∷ lines) [] bytes last.0 last.1 (sym e ∙ ap (λ r. bytes ++ r) last.2 ∙ append-nil bytes))
     ]
 
 -- lines that are spelled were passed, as far as what is left
 
-pub record PassedUpTo (P : Instance) (splits : List UnreadSplit) (earlier lines : List Line) (left : List ℕ) (count : ℕ) : Type 0 where
+pub record PassedUpTo (P : Instance) (goal : Option ℕ) (splits : List UnreadSplit) (earlier lines : List Line) (left : List ℕ) (count : ℕ) : Type 0 where
   pub done : List Line
   pub rest : List Line
   pub both : lines ≡ done ++ rest
-  pub fit : EachFits P rest
-  pub below : left ≡ lines_text P rest
+  pub fit : EachFits P goal rest
+  pub below : left ≡ lines_text P goal rest
   pub counted : count ≡ length done
-  pub inside : EndInside P splits (earlier ++ done)
+  pub inside : EndInside P goal splits (earlier ++ done)
 
-pub record PassedSoFar (P : Instance) (old splits : List UnreadSplit) (bytes left : List ℕ) (count : ℕ) : Type 0 where
+pub record PassedSoFar (P : Instance) (goal : Option ℕ) (old splits : List UnreadSplit) (bytes left : List ℕ) (count : ℕ) : Type 0 where
   pub few : count + length left ≤ length bytes
-  pub each : (earlier lines : List Line) → EndInside P old earlier → EachFits P lines → bytes ≡ lines_text P lines → PassedUpTo P splits earlier lines left count
+  pub each : (earlier lines : List Line) → EndInside P goal old earlier → EachFits P goal lines → bytes ≡ lines_text P goal lines → PassedUpTo P goal splits earlier lines left count
 
-pub passed_none : (P : Instance) (splits : List UnreadSplit) (bytes left : List ℕ) → left ≡ bytes → PassedSoFar P splits splits bytes left 0
-passed_none P splits bytes left e = record {
+pub passed_none : (P : Instance) (goal : Option ℕ) (splits : List UnreadSplit) (bytes left : List ℕ) → left ≡ bytes → PassedSoFar P goal splits splits bytes left 0
+passed_none P goal splits bytes left e = record {
   few = omega (arith, ap length e);
   each = λ earlier lines h fit text. record {
     done = [];
@@ -163,15 +166,15 @@ passed_none P splits bytes left e = record {
     fit = fit;
     below = e ∙ text;
     counted = refl;
-    inside = subst (EndInside P splits) (sym (append-nil earlier)) h;
+    inside = subst (EndInside P goal splits) (sym (append-nil earlier)) h;
   };
 }
 
 -- a line is passed that continues inside the splits
-pass_on : (P : Instance) (splits after : List UnreadSplit) (earlier lines : List Line) (left bytes rest : List ℕ) (count : ℕ) → KeepsLimits P → PassedUpTo P splits earlier lines left count → bytes ≢ [] → left ≡ bytes ++ rest → IsNextLine bytes rest
-    → ((earlier : List Line) (l : Line) → EndInside P splits earlier → IsLineText P bytes l → EndInside P after (earlier ++ l ∷ [])) → PassedUpTo P after earlier lines rest (count + 1)
-pass_on P splits after earlier lines left bytes rest count limits so some e next passes =
-    let f = first_line P so.rest bytes rest limits so.fit some (sym e ∙ so.below) next in
+pass_on : (P : Instance) (goal : Option ℕ) (splits after : List UnreadSplit) (earlier lines : List Line) (left bytes rest : List ℕ) (count : ℕ) → KeepsLimits P → PassedUpTo P goal splits earlier lines left count → bytes ≢ [] → left ≡ bytes ++ rest → IsNextLine bytes rest
+    → ((earlier : List Line) (l : Line) → EndInside P goal splits earlier → IsLineText P goal bytes l → EndInside P goal after (earlier ++ l ∷ [])) → PassedUpTo P goal after earlier lines rest (count + 1)
+pass_on P goal splits after earlier lines left bytes rest count limits so some e next passes =
+    let f = first_line P goal so.rest bytes rest limits so.fit some (sym e ∙ so.below) next in
     let size : length (so.done ++ f.line ∷ []) ≡ length so.done + 1 = length-append so.done (f.line ∷ []) in
     record {
       done = so.done ++ f.line ∷ [];
@@ -180,26 +183,26 @@ pass_on P splits after earlier lines left bytes rest count limits so some e next
       fit = f.fit;
       below = f.below;
       counted = omega (arith, so.counted, size);
-      inside = subst (EndInside P after) (append_assoc earlier so.done (f.line ∷ [])) (passes (earlier ++ so.done) f.line so.inside f.text);
+      inside = subst (EndInside P goal after) (append_assoc earlier so.done (f.line ∷ [])) (passes (earlier ++ so.done) f.line so.inside f.text);
     }
 
-pub passed_more : (P : Instance) (old splits after : List UnreadSplit) (all left bytes rest : List ℕ) (count : ℕ) → KeepsLimits P → PassedSoFar P old splits all left count → bytes ≢ [] → left ≡ bytes ++ rest → IsNextLine bytes rest
-    → ((earlier : List Line) (l : Line) → EndInside P splits earlier → IsLineText P bytes l → EndInside P after (earlier ++ l ∷ [])) → PassedSoFar P old after all rest (count + 1)
-passed_more P old splits after all left bytes rest count limits so some e next passes =
+pub passed_more : (P : Instance) (goal : Option ℕ) (old splits after : List UnreadSplit) (all left bytes rest : List ℕ) (count : ℕ) → KeepsLimits P → PassedSoFar P goal old splits all left count → bytes ≢ [] → left ≡ bytes ++ rest → IsNextLine bytes rest
+    → ((earlier : List Line) (l : Line) → EndInside P goal splits earlier → IsLineText P goal bytes l → EndInside P goal after (earlier ++ l ∷ [])) → PassedSoFar P goal old after all rest (count + 1)
+passed_more P goal old splits after all left bytes rest count limits so some e next passes =
     let size : length left ≡ length bytes + length rest = ap length e ∙ length-append bytes rest in
     let one = some_bytes bytes some in
     record {
       few = omega (arith, so.few, size, one);
-      each = λ earlier lines h fit text. pass_on P splits after earlier lines left bytes rest count limits (so.each earlier lines h fit text) some e next passes;
+      each = λ earlier lines h fit text. pass_on P goal splits after earlier lines left bytes rest count limits (so.each earlier lines h fit text) some e next passes;
     }
 
 -- the tree ends with a line
-pub tree_passed : (P : Instance) (old splits : List UnreadSplit) (all left bytes rest : List ℕ) (count : ℕ) → KeepsLimits P → PassedSoFar P old splits all left count → bytes ≢ [] → left ≡ bytes ++ rest → IsNextLine bytes rest
-    → ((earlier : List Line) (l : Line) → EndInside P splits earlier → IsLineText P bytes l → IsTree (earlier ++ l ∷ []))
-    → (earlier lines : List Line) → EndInside P old earlier → EachFits P lines → all ≡ lines_text P lines → HasTree (earlier ++ lines)
-tree_passed P old splits all left bytes rest count limits so some e next ends earlier lines h fit text =
+pub tree_passed : (P : Instance) (goal : Option ℕ) (old splits : List UnreadSplit) (all left bytes rest : List ℕ) (count : ℕ) → KeepsLimits P → PassedSoFar P goal old splits all left count → bytes ≢ [] → left ≡ bytes ++ rest → IsNextLine bytes rest
+    → ((earlier : List Line) (l : Line) → EndInside P goal splits earlier → IsLineText P goal bytes l → IsTree (earlier ++ l ∷ []))
+    → (earlier lines : List Line) → EndInside P goal old earlier → EachFits P goal lines → all ≡ lines_text P goal lines → HasTree (earlier ++ lines)
+tree_passed P goal old splits all left bytes rest count limits so some e next ends earlier lines h fit text =
     let up = so.each earlier lines h fit text in
-    let f = first_line P up.rest bytes rest limits up.fit some (sym e ∙ up.below) next in (
+    let f = first_line P goal up.rest bytes rest limits up.fit some (sym e ∙ up.below) next in (
       (earlier ++ up.done) ++ f.line ∷ [],
       f.rest,
       ap (λ ls. earlier ++ ls) (up.both ∙ ap (λ ls. up.done ++ ls) f.here)
@@ -208,16 +211,16 @@ tree_passed P old splits all left bytes rest count limits so some e next ends ea
     )
 
 -- all lines were passed
-pub passed_all : (P : Instance) (old splits : List UnreadSplit) (all left : List ℕ) (count : ℕ) → PassedSoFar P old splits all left count → left ≡ []
-    → (earlier lines : List Line) → EndInside P old earlier → EachFits P lines → all ≡ lines_text P lines → (count ≡ length lines) × EndInside P splits (earlier ++ lines)
-passed_all P old splits all left count so none earlier lines h fit text =
+pub passed_all : (P : Instance) (goal : Option ℕ) (old splits : List UnreadSplit) (all left : List ℕ) (count : ℕ) → PassedSoFar P goal old splits all left count → left ≡ []
+    → (earlier lines : List Line) → EndInside P goal old earlier → EachFits P goal lines → all ≡ lines_text P goal lines → (count ≡ length lines) × EndInside P goal splits (earlier ++ lines)
+passed_all P goal old splits all left count so none earlier lines h fit text =
     let up = so.each earlier lines h fit text in
-    let whole : lines ≡ up.done = up.both ∙ ap (λ ls. up.done ++ ls) (no_lines P up.rest (sym up.below ∙ none)) ∙ append-nil up.done in
-    (up.counted ∙ ap length (sym whole), subst (λ ls. EndInside P splits (earlier ++ ls)) (sym whole) up.inside)
+    let whole : lines ≡ up.done = up.both ∙ ap (λ ls. up.done ++ ls) (no_lines P goal up.rest (sym up.below ∙ none)) ∙ append-nil up.done in
+    (up.counted ∙ ap length (sym whole), subst (λ ls. EndInside P goal splits (earlier ++ ls)) (sym whole) up.inside)
   where
-    no_lines : (P : Instance) (ls : List Line) → lines_text P ls ≡ [] → ls ≡ []
-    no_lines P [] e = refl
-    no_lines P (l ∷ ls) e = absurd (nothing_ends (body P l) (lines_text P ls) (sym e))
+    no_lines : (P : Instance) (goal : Option ℕ) (ls : List Line) → lines_text P goal ls ≡ [] → ls ≡ []
+    no_lines P goal [] e = refl
+    no_lines P goal (l ∷ ls) e = absurd (nothing_ends (body P goal l) (lines_text P goal ls) (sym e))
 
 -- what follows a line is shorter than what began with it
 pub shorter : (left line rest : List ℕ) → line ≢ [] → left ≡ line ++ rest → length rest < length left

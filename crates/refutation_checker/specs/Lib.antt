@@ -5,7 +5,6 @@ pub mod ShortWords
 pub mod Turns
 pub mod LogVerdicts
 pub mod ChunkVerdicts
-pub mod Headers
 pub mod Laws
 pub mod UnreadSplits
 pub mod Starts

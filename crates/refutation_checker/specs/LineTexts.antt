@@ -3,11 +3,11 @@ use Rattle.std.specs.Prelude.{◌≡◌, ◌↔◌, Bool, IsTrue, ℕ, ◌+◌, 
 use Rattle.rwsp_terms.specs.declared.data.Symbol.{Symbol}
 use Rattle.rwsp_terms.specs.Instance.{Instance}
 use Rattle.refutation_terms.specs.declared.lines.Line.{Line}
-use Rattle.refutation_terms.specs.declared.lines.Turn.{Turn}
+use Rattle.refutation_terms.specs.declared.lines.Opening.{Opening}
 use Rattle.refutation_terms.specs.Tree.{IsTree, domains_at}
 use Rattle.refutation_terms.specs.Word.{Domains}
-use Rattle.refutation_terms.specs.Log.{Log, LineFitsFor}
-use Rattle.refutation_terms.specs.Verdict.{CauseBehindFor, EscapesFor, header_lines_for}
+use Rattle.refutation_terms.specs.Log.{Log, LineFits}
+use Rattle.refutation_terms.specs.Verdict.{CauseBehind, Escapes, header_lines}
 use Rattle.refutation_terms.specs.LogText.{raw, line_text}
 use Rattle.refutation_terms.specs.declared.lines.Line.TheVariants.{Split}
 use Rattle.refutation_terms.specs.declared.lines.LogRefusal.{LogRefusal}
@@ -17,7 +17,7 @@ use Rattle.refutation_log.specs.declared.refusal.LineRefusal.TheVariants as Line
 use Rattle.domain_store.specs.Store.{Store}
 use Rattle.domain_store.specs.Splits.{is_idle_in}
 use Rattle.domain_store.specs.States.{State, IsStateOf}
-use Rattle.refutation_checker.specs.LineVerdicts.{HoldsByWords, HoldsByWordsFor, IsSoundFor, LineCauseFor}
+use Rattle.refutation_checker.specs.LineVerdicts.{HoldsByWords, IsSoundLine, LineCause}
 
 -- the problem of a judge, the rules that the header names, and the goal of the log if it has one
 pub record Judging : Type 0 where
@@ -25,70 +25,70 @@ pub record Judging : Type 0 where
   pub named : List ℕ
   pub goal : Option ℕ
 
--- the log with such a header, this turn and these lines
-abbrev pub log_of : Judging → Option Turn → List Line → Log
-log_of J turn lines = record { named = J.named; turn = turn; goal = J.goal; lines = lines }
+-- the log with such a header, this opening and these lines
+abbrev pub log_of : Judging → Opening → List Line → Log
+log_of J o lines = record { named = J.named; opening = o; goal = J.goal; lines = lines }
 
 -- the line has no cause under these domains
 abbrev pub IsSoundUnder : Judging → Domains → Line → Type 0
-IsSoundUnder J D line = IsSoundFor J.problem J.goal J.named D line
+IsSoundUnder J D line = IsSoundLine J.problem J.goal J.named D line
 
 -- the lowest cause to refuse it there as text line n
 abbrev pub HasCause : Judging → Domains → ℕ → Line → LogRefusal → Type 0
-HasCause J D n line why = LineCauseFor J.problem J.goal J.named D n line why
+HasCause J D n line why = LineCause J.problem J.goal J.named D n line why
 
 -- as far as words tell, the line holds there
 abbrev pub HoldsByWordsUnder : Judging → Domains → Line → Type 0
-HoldsByWordsUnder J D line = HoldsByWordsFor J.problem J.goal D line
+HoldsByWordsUnder J D line = HoldsByWords J.problem J.goal D line
 
 -- this word escapes it there
 abbrev pub EscapesUnder : Judging → Domains → Line → List Symbol → Type 0
-EscapesUnder J D line w = EscapesFor J.problem J.goal D line w
+EscapesUnder J D line w = Escapes J.problem J.goal D line w
 
--- whether a leaf holds by words behind whatever lines the walk had read, in a log without a goal
-abbrev pub TellsLeaf : Instance → State → Line → Bool → Type 0
-TellsLeaf P w leaf told =
-    (turn : Option Turn) (lines : List Line) → IsStateOf P turn lines w
-    → IsTrue told ↔ HoldsByWords P (domains_at P turn lines (length lines)) leaf
+-- whether a leaf holds by words behind whatever lines the walk had read
+abbrev pub TellsLeaf : Judging → State → Line → Bool → Type 0
+TellsLeaf J w leaf told =
+    (o : Opening) (lines : List Line) → IsStateOf J.problem o lines w
+    → IsTrue told ↔ HoldsByWordsUnder J (domains_at J.problem o lines (length lines)) leaf
 
 -- the line behind these is refused for no cause
-pub record IsSoundNext (J : Judging) (turn : Option Turn) (lines : List Line) (line : Line) : Type 0 where
+pub record IsSoundNext (J : Judging) (o : Opening) (lines : List Line) (line : Line) : Type 0 where
   pub in_tree : IsTree lines → ⊥
-  pub fits : LineFitsFor J.problem J.goal line
-  pub sound : IsSoundUnder J (domains_at J.problem turn lines (length lines)) line
+  pub fits : LineFits J.problem J.goal line
+  pub sound : IsSoundUnder J (domains_at J.problem o lines (length lines)) line
 
 -- the bytes are the text of such a line, which is this one, and the walk has read it
-pub record IsLineRead (J : Judging) (turn : Option Turn) (lines : List Line) (bytes : List ℕ) (w : State)
+pub record IsLineRead (J : Judging) (o : Opening) (lines : List Line) (bytes : List ℕ) (w : State)
     (line : Line) : Type 0 where
-  pub spelled : bytes ≡ line_text J.problem (raw J.problem line)
-  pub sound : IsSoundNext J turn lines line
-  pub walked : IsStateOf J.problem turn (lines ++ line ∷ []) w
+  pub spelled : bytes ≡ line_text J.problem (raw J.problem J.goal line)
+  pub sound : IsSoundNext J o lines line
+  pub walked : IsStateOf J.problem o (lines ++ line ∷ []) w
 
 -- whatever lines the walk had read, the bytes are the text of this line, which is refused for no cause there, and the
 -- walk has read it too
 abbrev pub ReadsNext : Judging → State → List ℕ → State → Line → Type 0
 ReadsNext J old bytes new line =
-    (turn : Option Turn) (lines : List Line) → IsStateOf J.problem turn lines old → IsLineRead J turn lines bytes new line
+    (o : Opening) (lines : List Line) → IsStateOf J.problem o lines old → IsLineRead J o lines bytes new line
 
 -- whatever lines it had read, the bytes are refused there for this cause, as text line n
 abbrev pub RefusesNext : Judging → State → List ℕ → ℕ → LogRefusal → Type 0
 RefusesNext J old bytes n why =
-    (turn : Option Turn) (lines : List Line) → IsStateOf J.problem turn lines old
-    → n ≡ header_lines_for J.goal turn + length lines + 1
-    → CauseBehindFor J.problem J.goal (log_of J turn lines) bytes why
+    (o : Opening) (lines : List Line) → IsStateOf J.problem o lines old
+    → n ≡ header_lines o J.goal + length lines + 1
+    → CauseBehind J.problem (log_of J o lines) bytes why
 
 -- whatever lines it had read, this line has no cause there, and the walk has read it too
 abbrev pub PassesNext : Judging → State → Line → State → Type 0
 PassesNext J old line new =
-    (turn : Option Turn) (lines : List Line) → IsStateOf J.problem turn lines old
-    → IsSoundUnder J (domains_at J.problem turn lines (length lines)) line
-    × IsStateOf J.problem turn (lines ++ line ∷ []) new
+    (o : Opening) (lines : List Line) → IsStateOf J.problem o lines old
+    → IsSoundUnder J (domains_at J.problem o lines (length lines)) line
+    × IsStateOf J.problem o (lines ++ line ∷ []) new
 
 -- whatever lines it had read, this line has this cause there, as text line n
 abbrev pub HasCauseNext : Judging → State → ℕ → Line → LogRefusal → Type 0
 HasCauseNext J old n line why =
-    (turn : Option Turn) (lines : List Line) → IsStateOf J.problem turn lines old
-    → HasCause J (domains_at J.problem turn lines (length lines)) n line why
+    (o : Opening) (lines : List Line) → IsStateOf J.problem o lines old
+    → HasCause J (domains_at J.problem o lines (length lines)) n line why
 
 -- a leaf, or a split that isn't idle under the domains of the store
 abbrev pub MayStep : Store → Line → Type 0

@@ -2,23 +2,21 @@
 use Rattle.std.specs.Prelude.{◌≡◌, ℕ, List, true, Option}
 use Rattle.rwsp_terms.specs.Instance.{Instance}
 use Rattle.refutation_terms.specs.declared.lines.Line.{Line}
-use Rattle.refutation_terms.specs.declared.lines.Line.TheVariants.{Split, Dead, Bound, Few, Free, Unfinished}
+use Rattle.refutation_terms.specs.declared.lines.Line.TheVariants.{Split, Unfinished, Closing}
+use Rattle.refutation_terms.specs.declared.lines.Leaf.TheVariants.{Words}
 use Rattle.refutation_terms.specs.declared.lines.LogRefusal.{LogRefusal}
 use Rattle.refutation_terms.specs.declared.lines.LogRefusal.TheVariants as Refusals
 use Rattle.refutation_terms.specs.Word.{Domains}
-use Rattle.refutation_terms.specs.Leaf.{IsDead, IsTooLight}
+use Rattle.refutation_terms.specs.WordsLeaf.{WordsHold}
 use Rattle.refutation_terms.specs.Tree.{is_idle}
-use Rattle.refutation_terms.specs.Log.{Cites, Holds, HoldsFor, ListsShortOnly, CitesOnlyNamed}
-use Rattle.refutation_terms.specs.Verdict.{IsLeast, IsUnnamed, ListsLong, IsPlainLeaf, EscapesFor}
+use Rattle.refutation_terms.specs.Log.{Cites, Holds, ListsShortOnly, CitesOnlyNamed}
+use Rattle.refutation_terms.specs.Verdict.{IsLeast, IsUnnamed, ListsLong, IsPlainLeaf, Escapes}
 
--- a split that isn't idle, or a window, a day or a few leaf that holds in a log with this goal or none. Nothing is said
--- of leaves that are judged by words
+-- a split that isn't idle, or a leaf that isn't one of words and holds, in a log with this goal or none. Nothing is
+-- said of leaves of words
 abbrev pub StandsPlainly : Instance → Option ℕ → Domains → Line → Type 0
-StandsPlainly P goal D (Dead p len R) = Unit {0}
-StandsPlainly P goal D (Bound p turns R y) = Unit {0}
-StandsPlainly P goal D (Free turns reward R y) = Unit {0}
-StandsPlainly P goal D Few = HoldsFor P goal D Few
-StandsPlainly P goal D line = Holds P D line
+StandsPlainly P goal D (Closing (Words p R claim)) = Unit {0}
+StandsPlainly P goal D line = Holds P goal D line
 
 -- the line has no cause but a word that escapes it
 pub record IsPlainlySound (P : Instance) (goal : Option ℕ) (named : List ℕ) (D : Domains) (line : Line) : Type 0 where
@@ -38,7 +36,7 @@ PlainCause P goal named D n line (Refusals.Idle i) = (i ≡ n) × IsIdleSplit P 
 PlainCause P goal named D n line (Refusals.Long i k) = (i ≡ n) × CitesOnlyNamed P named line
     × IsLeast (ListsLong P line) k
 PlainCause P goal named D n line (Refusals.Fails i) = (i ≡ n) × CitesOnlyNamed P named line × IsPlainLeaf line
-    × (HoldsFor P goal D line → ⊥)
+    × (Holds P goal D line → ⊥)
 PlainCause P goal named D n line (Refusals.Unfinished i) = (i ≡ n) × (line ≡ Unfinished)
 PlainCause P goal named D n line why = ⊥
 
@@ -50,37 +48,27 @@ IsPlainFailure n leaf why = why ≡ Refusals.Fails n
 
 -- the line lists these rules
 abbrev pub HasList : Line → List ℕ → Type 0
-HasList (Dead p len R) list = R ≡ list
-HasList (Bound p turns R y) list = R ≡ list
-HasList (Free turns reward R y) list = R ≡ list
+HasList (Closing (Words p R claim)) list = R ≡ list
 HasList line list = ⊥
 
 -- the line is none that lists rules
 abbrev pub HasNoList : Line → Type 0
-HasNoList (Dead p len R) = ⊥
-HasNoList (Bound p turns R y) = ⊥
-HasNoList (Free turns reward R y) = ⊥
+HasNoList (Closing (Words p R claim)) = ⊥
 HasNoList line = Unit {0}
 
--- a dead or a bound leaf that holds. Nothing is said of other lines
-abbrev pub HoldsByWords : Instance → Domains → Line → Type 0
-HoldsByWords P D (Dead p len R) = IsDead P D p len R
-HoldsByWords P D (Bound p turns R y) = IsTooLight P D p turns R y
-HoldsByWords P D line = Unit {0}
-
--- the same of a log with this goal or none, where a free leaf is judged by words too
-abbrev pub HoldsByWordsFor : Instance → Option ℕ → Domains → Line → Type 0
-HoldsByWordsFor P goal D (Free turns reward R y) = HoldsFor P goal D (Free turns reward R y)
-HoldsByWordsFor P goal D line = HoldsByWords P D line
+-- a leaf of words that holds in a log with this goal or none. Nothing is said of other lines
+abbrev pub HoldsByWords : Instance → Option ℕ → Domains → Line → Type 0
+HoldsByWords P goal D (Closing (Words p R claim)) = WordsHold P goal D p R claim
+HoldsByWords P goal D line = Unit {0}
 
 -- the line has no cause in a log with this goal or none
-pub record IsSoundFor (P : Instance) (goal : Option ℕ) (named : List ℕ) (D : Domains) (line : Line) : Type 0 where
+pub record IsSoundLine (P : Instance) (goal : Option ℕ) (named : List ℕ) (D : Domains) (line : Line) : Type 0 where
   pub named_all : CitesOnlyNamed P named line
   pub short : ListsShortOnly P line
-  pub holds : HoldsFor P goal D line
+  pub holds : Holds P goal D line
 
 -- the lowest cause to refuse the line as text line n
-abbrev pub LineCauseFor : Instance → Option ℕ → List ℕ → Domains → ℕ → Line → LogRefusal → Type 0
-LineCauseFor P goal named D n line (Refusals.Escape i w) =
-    (i ≡ n) × CitesOnlyNamed P named line × ListsShortOnly P line × EscapesFor P goal D line w
-LineCauseFor P goal named D n line why = PlainCause P goal named D n line why
+abbrev pub LineCause : Instance → Option ℕ → List ℕ → Domains → ℕ → Line → LogRefusal → Type 0
+LineCause P goal named D n line (Refusals.Escape i w) =
+    (i ≡ n) × CitesOnlyNamed P named line × ListsShortOnly P line × Escapes P goal D line w
+LineCause P goal named D n line why = PlainCause P goal named D n line why

@@ -2,8 +2,8 @@
 use Rattle.std.specs.Prelude.{◌≡◌, ℕ, ◌+◌, List, length, Option}
 use Rattle.rwsp_terms.specs.Instance.{Instance}
 use Rattle.refutation_terms.specs.declared.lines.Line.{Line}
-use Rattle.refutation_terms.specs.declared.lines.Turn.{Turn}
-use Rattle.refutation_terms.specs.Verdict.{header_lines_for}
+use Rattle.refutation_terms.specs.declared.lines.Opening.{Opening}
+use Rattle.refutation_terms.specs.Verdict.{header_lines}
 use Rattle.domain_store.specs.States.{State, IsStateOf}
 
 -- the bytes of some lines of a text, the number of the first of them, and the walk in front of it
@@ -13,7 +13,7 @@ pub record Start : Type 0 where
   pub first : ℕ
 
 -- the walk and the number are those behind these lines of a log with this goal or none
-pub record StandsBehind (P : Instance) (goal : Option ℕ) (turn : Option Turn) (earlier : List Line)
+pub record StandsBehind (P : Instance) (goal : Option ℕ) (o : Opening) (earlier : List Line)
     (s : Start) : Type 0 where
-  pub state : IsStateOf P turn earlier s.walk
-  pub counted : s.first ≡ header_lines_for goal turn + length earlier + 1
+  pub state : IsStateOf P o earlier s.walk
+  pub counted : s.first ≡ header_lines o goal + length earlier + 1

@@ -1,19 +1,21 @@
 -- The turn of a header, judged.
-use Rattle.std.specs.Prelude.{◌≡◌, ℕ, List, Option, None, Some, pos, ◌<ℤ◌}
+use Rattle.std.specs.Prelude.{◌≡◌, ℕ, List, pos, ◌<ℤ◌}
 use Rattle.rwsp_terms.specs.declared.data.Rule.{Rule}
 use Rattle.rwsp_terms.specs.declared.data.Rule.TheVariants as TheRules
 use Rattle.rwsp_terms.specs.Instance.{Instance, least}
 use Rattle.rwsp_terms.specs.Rules.{Names}
+use Rattle.refutation_terms.specs.declared.lines.Opening.{Opening}
+use Rattle.refutation_terms.specs.declared.lines.Opening.TheVariants.{Full, Turned}
 use Rattle.refutation_terms.specs.declared.lines.Turn.{Turn}
 use Rattle.refutation_terms.specs.declared.lines.LogRefusal.{LogRefusal}
 use Rattle.refutation_terms.specs.declared.lines.LogRefusal.TheVariants as Refusals
-use Rattle.refutation_terms.specs.Log.{TurnCites, IsAllowed}
+use Rattle.refutation_terms.specs.Log.{OpeningCites, IsAllowed}
 use Rattle.refutation_terms.specs.Verdict.{IsLeast, IsUnnamed}
 
--- the day of the turn is named, and some week must hold its symbol there
-pub record IsSoundTurn (P : Instance) (named : List ℕ) (turn : Option Turn) : Type 0 where
-  pub named_day : (r : Rule) → TurnCites turn r → Names P named r
-  pub allowed : IsAllowed P turn
+-- the day of the turn, if the log has one, is named, and some week must hold its symbol there
+pub record IsSoundTurn (P : Instance) (named : List ℕ) (o : Opening) : Type 0 where
+  pub named_day : (r : Rule) → OpeningCites o r → Names P named r
+  pub allowed : IsAllowed P o
 
 -- the lowest cause to refuse a turn, whose line is the third
 abbrev pub TurnFault : Instance → List ℕ → Turn → LogRefusal → Type 0
@@ -23,6 +25,6 @@ TurnFault P named t (Refusals.Turn i) = (i ≡ 3) × Names P named (TheRules.Day
 TurnFault P named t why = ⊥
 
 -- the same where there may be no turn
-abbrev pub IsTurnFault : Instance → List ℕ → Option Turn → LogRefusal → Type 0
-IsTurnFault P named None why = ⊥
-IsTurnFault P named (Some t) why = TurnFault P named t why
+abbrev pub IsTurnFault : Instance → List ℕ → Opening → LogRefusal → Type 0
+IsTurnFault P named Full why = ⊥
+IsTurnFault P named (Turned t) why = TurnFault P named t why

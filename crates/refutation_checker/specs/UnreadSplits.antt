@@ -1,15 +1,14 @@
 -- Splits whose lines were passed without being read, and the lines that lead into them.
 use Rattle.std.specs.Prelude.{◌≡◌, ◌⊎◌, ℕ, List, [], ◌∷◌, ◌++◌, length, Bool, true, MatchBool, Option, Some, None}
-use Rattle.std.specs.List.{AllByRecursion}
 use Rattle.rwsp_terms.specs.declared.data.Symbol.{Symbol}
 use Rattle.rwsp_terms.specs.Instance.{Instance}
 use Rattle.refutation_terms.specs.declared.lines.Line.{Line}
 use Rattle.refutation_terms.specs.declared.lines.Line.TheVariants.{Split}
-use Rattle.refutation_terms.specs.declared.lines.Turn.{Turn}
-use Rattle.refutation_terms.specs.Log.{LineFitsFor}
+use Rattle.refutation_terms.specs.declared.lines.Opening.{Opening}
+use Rattle.refutation_terms.specs.Log.{LineFits}
 use Rattle.refutation_terms.specs.Tree.{IsTree, domains_at, is_idle}
-use Rattle.refutation_terms.specs.LogText.{raw, line_text}
-use Rattle.refutation_log.specs.Printing.{lines_text}
+use Rattle.refutation_terms.specs.LogText.{raw, line_text, lines_text}
+use Rattle.refutation_log.specs.Printing.{EachFits}
 use Rattle.domain_store.specs.Splits.{IsFirstSide, NoLines}
 use Rattle.domain_store.specs.States.{State, IsStateOf}
 
@@ -18,91 +17,85 @@ pub record UnreadSplit : Type 0 where
   pub line : List ℕ
   pub in_second : Bool
 
--- the line fits the problem in a log with some goal or none
-abbrev pub FitsALog : Instance → Line → Type 0
-FitsALog P line = (goal : Option ℕ) × LineFitsFor P goal line
-
--- each line does
-abbrev pub EachFits : Instance → List Line → Type 0
-EachFits P lines = AllByRecursion (FitsALog P) lines
-
--- the bytes are the text of this line, which fits the problem
-pub record IsLineText (P : Instance) (bytes : List ℕ) (line : Line) : Type 0 where
-  pub fits : FitsALog P line
-  pub text : bytes ≡ line_text P (raw P line)
+-- the bytes are the text of this line, which fits the problem, in a log with this goal or none
+pub record IsLineText (P : Instance) (goal : Option ℕ) (bytes : List ℕ) (line : Line) : Type 0 where
+  pub fits : LineFits P goal line
+  pub text : bytes ≡ line_text P (raw P goal line)
 
 -- the lines lead into these splits, the outermost first, and there are followed by lines as Q says
-abbrev pub LeadInto : Instance → (List Line → Type 0) → List UnreadSplit → List Line → Type 0
-LeadInto P Q [] lines = Q lines
-LeadInto P Q (u ∷ splits) lines =
+abbrev pub LeadInto : Instance → Option ℕ → (List Line → Type 0) → List UnreadSplit → List Line → Type 0
+LeadInto P goal Q [] lines = Q lines
+LeadInto P goal Q (u ∷ splits) lines =
     (p : ℕ) × (x : Symbol) × (first : List Line) × (rest : List Line)
-    × (lines ≡ Split p x ∷ (first ++ rest)) × IsLineText P u.line (Split p x) × IsFirstSide u.in_second first
-    × LeadInto P Q splits rest
+    × (lines ≡ Split p x ∷ (first ++ rest)) × IsLineText P goal u.line (Split p x) × IsFirstSide u.in_second first
+    × LeadInto P goal Q splits rest
 
 -- they end there, where the next tree begins
-abbrev pub EndInside : Instance → List UnreadSplit → List Line → Type 0
-EndInside P splits lines = LeadInto P NoLines splits lines
+abbrev pub EndInside : Instance → Option ℕ → List UnreadSplit → List Line → Type 0
+EndInside P goal splits lines = LeadInto P goal NoLines splits lines
 
 -- behind lines that end inside splits a line was passed: they end inside other splits with it, or are a whole tree
 abbrev pub IsLinePassed : List UnreadSplit → List UnreadSplit → List ℕ → Bool → Type 0
 IsLinePassed before after bytes more =
-    (P : Instance) (earlier : List Line) (line : Line) → EndInside P before earlier → IsLineText P bytes line
-    → MatchBool more (EndInside P after (earlier ++ line ∷ [])) (IsTree (earlier ++ line ∷ []))
+    (P : Instance) (goal : Option ℕ) (earlier : List Line) (line : Line) → EndInside P goal before earlier
+    → IsLineText P goal bytes line
+    → MatchBool more (EndInside P goal after (earlier ++ line ∷ [])) (IsTree (earlier ++ line ∷ []))
 
 -- a front of the lines is a whole tree
 abbrev pub HasTree : List Line → Type 0
 HasTree lines = (front : List Line) × (rest : List Line) × (lines ≡ front ++ rest) × IsTree front
 
 -- one of the lines is an idle split
-pub record HasIdleSplit (P : Instance) (turn : Option Turn) (lines : List Line) : Type 0 where
+pub record HasIdleSplit (P : Instance) (o : Opening) (lines : List Line) : Type 0 where
   pub front : List Line
   pub p : ℕ
   pub x : Symbol
   pub rest : List Line
   pub here : lines ≡ front ++ Split p x ∷ rest
-  pub idle : is_idle P (domains_at P turn front (length front)) p x.number ≡ true
+  pub idle : is_idle P (domains_at P o front (length front)) p x.number ≡ true
 
 -- a line that follows these lines is none that is refused first
-abbrev pub IsEndedOrIdle : Instance → Option Turn → List Line → Type 0
-IsEndedOrIdle P turn lines = HasTree lines ⊎ HasIdleSplit P turn lines
+abbrev pub IsEndedOrIdle : Instance → Opening → List Line → Type 0
+IsEndedOrIdle P o lines = HasTree lines ⊎ HasIdleSplit P o lines
 
 -- some lines end inside these splits, and a walk started in front of the first of them: then either one is an idle
 -- split, or this walk is behind them
-abbrev pub IsInto : Instance → State → List UnreadSplit → Option State → Type 0
-IsInto P start splits None = (turn : Option Turn) (lines : List Line) → IsStateOf P turn [] start
-    → EndInside P splits lines → HasIdleSplit P turn lines
-IsInto P start splits (Some w) = (turn : Option Turn) (lines : List Line) → IsStateOf P turn [] start
-    → EndInside P splits lines → IsStateOf P turn lines w
+abbrev pub IsInto : Instance → Option ℕ → State → List UnreadSplit → Option State → Type 0
+IsInto P goal start splits None = (o : Opening) (lines : List Line) → IsStateOf P o [] start
+    → EndInside P goal splits lines → HasIdleSplit P o lines
+IsInto P goal start splits (Some w) = (o : Opening) (lines : List Line) → IsStateOf P o [] start
+    → EndInside P goal splits lines → IsStateOf P o lines w
 
 -- the bytes were passed behind lines that end inside splits. If they are the text of lines that fit, then either no
 -- line behind them is the first that is refused, or they are `count` lines, and end inside other splits
-abbrev pub ArePassed : Instance → State → List UnreadSplit → List UnreadSplit → List ℕ → Option ℕ → Type 0
-ArePassed P start before after bytes None =
-    (turn : Option Turn) (done lines : List Line) → IsStateOf P turn [] start → EndInside P before done
-    → EachFits P lines → bytes ≡ lines_text P lines → IsEndedOrIdle P turn (done ++ lines)
-ArePassed P start before after bytes (Some count) =
-    (done lines : List Line) → EndInside P before done → EachFits P lines → bytes ≡ lines_text P lines
-    → (count ≡ length lines) × EndInside P after (done ++ lines)
+abbrev pub ArePassed : Instance → Option ℕ → State → List UnreadSplit → List UnreadSplit → List ℕ → Option ℕ → Type 0
+ArePassed P goal start before after bytes None =
+    (o : Opening) (done lines : List Line) → IsStateOf P o [] start → EndInside P goal before done
+    → EachFits P goal lines → bytes ≡ lines_text P goal lines → IsEndedOrIdle P o (done ++ lines)
+ArePassed P goal start before after bytes (Some count) =
+    (done lines : List Line) → EndInside P goal before done → EachFits P goal lines → bytes ≡ lines_text P goal lines
+    → (count ≡ length lines) × EndInside P goal after (done ++ lines)
 
 -- bytes were passed; where that says how many lines they are, the walk is behind them too
-abbrev pub IsBehind : Instance → State → List UnreadSplit → List UnreadSplit → List ℕ → Option (ℕ × State) → Type 0
-IsBehind P start before after bytes None = ArePassed P start before after bytes None
-IsBehind P start before after bytes (Some next) =
-    ArePassed P start before after bytes (Some next.0) × IsInto P start after (Some next.1)
+abbrev pub IsBehind : Instance → Option ℕ → State → List UnreadSplit → List UnreadSplit → List ℕ
+    → Option (ℕ × State) → Type 0
+IsBehind P goal start before after bytes None = ArePassed P goal start before after bytes None
+IsBehind P goal start before after bytes (Some next) =
+    ArePassed P goal start before after bytes (Some next.0) × IsInto P goal start after (Some next.1)
 
 -- a walk goes by a split, and by its first side if that was passed too; or it is an idle split
 abbrev pub AreEntered : ℕ → Symbol → Bool → State → State → Bool → Type 0
 AreEntered p x in_second old new entered =
-    (P : Instance) (turn : Option Turn) (lines first : List Line) → IsStateOf P turn lines old
+    (P : Instance) (o : Opening) (lines first : List Line) → IsStateOf P o lines old
     → IsFirstSide in_second first → MatchBool entered
-    (IsStateOf P turn (lines ++ Split p x ∷ first) new)
-    (is_idle P (domains_at P turn lines (length lines)) p x.number ≡ true)
+    (IsStateOf P o (lines ++ Split p x ∷ first) new)
+    (is_idle P (domains_at P o lines (length lines)) p x.number ≡ true)
 
 -- a walk goes by the line of a split, if it is spelled, and by its first side if that was passed too; or it is an idle
 -- split
-abbrev pub IsEntered : Instance → UnreadSplit → State → State → Bool → Type 0
-IsEntered P u old new entered =
-    (turn : Option Turn) (lines first : List Line) (p : ℕ) (x : Symbol) → IsStateOf P turn lines old
-    → IsLineText P u.line (Split p x) → IsFirstSide u.in_second first
-    → MatchBool entered (IsStateOf P turn (lines
-    ++ Split p x ∷ first) new) (is_idle P (domains_at P turn lines (length lines)) p x.number ≡ true)
+abbrev pub IsEntered : Instance → Option ℕ → UnreadSplit → State → State → Bool → Type 0
+IsEntered P goal u old new entered =
+    (o : Opening) (lines first : List Line) (p : ℕ) (x : Symbol) → IsStateOf P o lines old
+    → IsLineText P goal u.line (Split p x) → IsFirstSide u.in_second first
+    → MatchBool entered (IsStateOf P o (lines
+    ++ Split p x ∷ first) new) (is_idle P (domains_at P o lines (length lines)) p x.number ≡ true)

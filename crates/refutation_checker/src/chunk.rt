@@ -1,7 +1,7 @@
 // The lines of a chunk, judged one after the other.
 ghost use Rattle.std.specs.Prelude.{◌+◌, ◌^◌, ◌<◌, List, length, Option};
 ghost use Rattle.refutation_terms.specs.declared.lines.Line.{Line};
-ghost use Rattle.refutation_terms.specs.declared.lines.Turn.{Turn};
+ghost use Rattle.refutation_terms.specs.declared.lines.Opening.{Opening};
 ghost use Rattle.domain_store.specs.States.{IsStateOf};
 ghost use Rattle.refutation_checker.specs.Chunks.{IsJudgeable};
 ghost use Rattle.refutation_checker.specs.ChunkVerdicts.{IsAnswerTo};
@@ -36,7 +36,7 @@ fn judge_lines(
     bytes: &[u8],
     first: u32,
 ) -> Result<bool, Fail<LogRefusal>>
-    requires state { (turn : Option Turn) × (lines : List Line) × IsStateOf judge.old.problem turn lines walk.old }
+    requires state { (o : Opening) × (lines : List Line) × IsStateOf judge.old.problem o lines walk.old }
     requires few { first + length bytes.now < 2 ^ 31 }
     ensures { IsAnswerTo judge.old (record { walk = walk.old; bytes = bytes.now; first = first }) result }
 {

@@ -8,7 +8,7 @@ ghost use Rattle.std.specs.Int.{div_ceil};
 ghost use Rattle.rwsp_terms.specs.declared.data.Symbol.{Symbol as TheSymbol};
 ghost use Rattle.refutation_terms.specs.declared.lines.Line.{Line as TheLine};
 ghost use Rattle.refutation_terms.specs.declared.lines.Line.TheVariants.{Split};
-ghost use Rattle.refutation_terms.specs.declared.lines.Turn.{Turn};
+ghost use Rattle.refutation_terms.specs.declared.lines.Opening.{Opening};
 ghost use Rattle.refutation_terms.specs.Tree.{is_idle};
 ghost use Rattle.domain_store.specs.States.{IsStateOf};
 ghost use Rattle.refutation_checker.specs.Chunks.{IsCutOff, AreAllChunks, IsJudgeable, IsFew, line_count};
@@ -63,19 +63,20 @@ fn split_of(line: &Line) -> Option<(u32, Symbol)>
 fn enter(
     alloc: Global,
     problem: &Problem,
+    goal: Option<u32>,
     walk: &mut Walk,
     split: &UnreadSplit,
 ) -> Result<bool, AllocError>
-    requires state { (turn : Option Turn) × (lines : List TheLine) × IsStateOf problem.now turn lines walk.old }
+    requires state { (o : Opening) × (lines : List TheLine) × IsStateOf problem.now o lines walk.old }
     requires part { walk.old.whole ≡ false }
     ensures part { IfOk result (λ entered. entered ≡ true → walk.new.whole ≡ false) }
     ensures state { IfOk result (λ entered. entered ≡ true →
-        (turn : Option Turn) × (lines : List TheLine) × IsStateOf problem.now turn lines walk.new) }
-    ensures entered { IfOk result (IsEntered problem.now split.now walk.old walk.new) }
+        (o : Opening) × (lines : List TheLine) × IsStateOf problem.now o lines walk.new) }
+    ensures entered { IfOk result (IsEntered problem.now goal split.now walk.old walk.new) }
 {
     problem.prove_limits();
     walk.domains().prove_facts();
-    let line = match read_line(alloc, problem, split.line) {
+    let line = match read_line(alloc, problem, goal, split.line) {
         Ok(line) => line,
         Err(Fail::Memory) => return Err(AllocError),
         Err(Fail::Refused(_)) => return Ok(false),
@@ -93,18 +94,19 @@ fn enter(
 fn walk_into(
     alloc: Global,
     problem: &Problem,
+    goal: Option<u32>,
     start: &Walk,
     splits: &[UnreadSplit],
 ) -> Result<Option<Walk>, AllocError>
-    requires state { (turn : Option Turn) × (lines : List TheLine) × IsStateOf problem.now turn lines start.now }
+    requires state { (o : Opening) × (lines : List TheLine) × IsStateOf problem.now o lines start.now }
     requires part { start.now.whole ≡ false }
     ensures state { IfOk result (λ found. IfSome found (λ walk.
-        (turn : Option Turn) × (lines : List TheLine) × IsStateOf problem.now turn lines walk)) }
-    ensures into { IfOk result (IsInto problem.now start.now splits.now) }
+        (o : Opening) × (lines : List TheLine) × IsStateOf problem.now o lines walk)) }
+    ensures into { IfOk result (IsInto problem.now goal start.now splits.now) }
 {
     let mut walk = start.copy()?;
     for split in splits {
-        if !enter(alloc, problem, &mut walk, split)? {
+        if !enter(alloc, problem, goal, &mut walk, split)? {
             return Ok(None);
         }
     }
@@ -115,17 +117,18 @@ fn walk_into(
 fn are_too_many(
     alloc: Global,
     problem: &Problem,
+    goal: Option<u32>,
     start: &Walk,
     splits: &[UnreadSplit],
 ) -> Result<bool, AllocError>
-    requires state { (turn : Option Turn) × (lines : List TheLine) × IsStateOf problem.now turn lines start.now }
+    requires state { (o : Opening) × (lines : List TheLine) × IsStateOf problem.now o lines start.now }
     requires part { start.now.whole ≡ false }
-    ensures { IfOk result (λ many. many ≡ true → IsInto problem.now start.now splits.now None) }
+    ensures { IfOk result (λ many. many ≡ true → IsInto problem.now goal start.now splits.now None) }
 {
     if splits.len() <= MOST_OPEN {
         return Ok(false);
     }
-    let found = walk_into(alloc, problem, start, splits)?;
+    let found = walk_into(alloc, problem, goal, start, splits)?;
     Ok(found.is_none())
 }
 
@@ -134,15 +137,16 @@ fn are_too_many(
 fn pass_lines<'a>(
     alloc: Global,
     problem: &Problem,
+    goal: Option<u32>,
     start: &Walk,
     splits: &mut Vec<UnreadSplit<'a>>,
     bytes: &'a [u8],
 ) -> Result<Option<u32>, AllocError>
-    requires state { (turn : Option Turn) × (lines : List TheLine) × IsStateOf problem.now turn lines start.now }
+    requires state { (o : Opening) × (lines : List TheLine) × IsStateOf problem.now o lines start.now }
     requires part { start.now.whole ≡ false }
     requires few { length bytes.now < 2 ^ 31 }
     ensures few { IfOk result (λ passed. IfSome passed (λ count. count ≤ length bytes.now)) }
-    ensures passed { IfOk result (ArePassed problem.now start.now splits.old.items splits.new.items bytes.now) }
+    ensures passed { IfOk result (ArePassed problem.now goal start.now splits.old.items splits.new.items bytes.now) }
 {
     problem.prove_limits();
     let mut reader = LineReader::new(bytes);
@@ -151,7 +155,7 @@ fn pass_lines<'a>(
         if !pass_line(splits, line)? {
             return Ok(None);
         }
-        if are_too_many(alloc, problem, start, splits)? {
+        if are_too_many(alloc, problem, goal, start, splits)? {
             return Ok(None);
         }
         count += 1;
@@ -164,22 +168,23 @@ fn pass_lines<'a>(
 fn walk_behind<'a>(
     alloc: Global,
     problem: &Problem,
+    goal: Option<u32>,
     start: &Walk,
     splits: &mut Vec<UnreadSplit<'a>>,
     bytes: &'a [u8],
 ) -> Result<Option<(u32, Walk)>, AllocError>
-    requires state { (turn : Option Turn) × (lines : List TheLine) × IsStateOf problem.now turn lines start.now }
+    requires state { (o : Opening) × (lines : List TheLine) × IsStateOf problem.now o lines start.now }
     requires part { start.now.whole ≡ false }
     requires few { length bytes.now < 2 ^ 31 }
     ensures few { IfOk result (λ found. IfSome found (λ next. next.0 ≤ length bytes.now)) }
     ensures state { IfOk result (λ found. IfSome found (λ next.
-        (turn : Option Turn) × (lines : List TheLine) × IsStateOf problem.now turn lines next.1)) }
-    ensures behind { IfOk result (IsBehind problem.now start.now splits.old.items splits.new.items bytes.now) }
+        (o : Opening) × (lines : List TheLine) × IsStateOf problem.now o lines next.1)) }
+    ensures behind { IfOk result (IsBehind problem.now goal start.now splits.old.items splits.new.items bytes.now) }
 {
-    let Some(count) = pass_lines(alloc, problem, start, splits, bytes)? else {
+    let Some(count) = pass_lines(alloc, problem, goal, start, splits, bytes)? else {
         return Ok(None);
     };
-    match walk_into(alloc, problem, start, splits)? {
+    match walk_into(alloc, problem, goal, start, splits)? {
         Some(walk) => Ok(Some((count, walk))),
         None => Ok(None),
     }
@@ -188,27 +193,28 @@ fn walk_behind<'a>(
 // Cuts a chunk of `size` lines off the front, and gives what is left; None where no further chunk is needed, and then
 // the chunk has all lines.
 fn cut_off<'a>(
-    alloc: Global,
     problem: &Problem,
+    goal: Option<u32>,
     start: &Walk,
     splits: &mut Vec<UnreadSplit<'a>>,
     all: Chunk<'a>,
     size: usize,
 ) -> Result<(Chunk<'a>, Option<Chunk<'a>>), AllocError>
-    requires state { (turn : Option Turn) × (lines : List TheLine) × IsStateOf problem.now turn lines start.now }
+    requires state { (o : Opening) × (lines : List TheLine) × IsStateOf problem.now o lines start.now }
     requires part { start.now.whole ≡ false }
     requires few { all.first + length all.bytes < 2 ^ 31 }
     requires some { all.bytes ≢ [] }
     requires size { 1 ≤ size }
     ensures { IfOk result
-        (λ cut. IsCutOff problem.now size start.now splits.old.items splits.new.items all.entry cut.0 cut.1) }
+        (λ cut. IsCutOff problem.now goal size start.now splits.old.items splits.new.items all.entry cut.0 cut.1) }
 {
     let bytes = all.bytes;
     let end = lines_end(bytes, size);
     if end == bytes.len() {
         return Ok((all, None));
     }
-    match walk_behind(alloc, problem, start, splits, &bytes[..end])? {
+    let alloc = *splits.allocator();
+    match walk_behind(alloc, problem, goal, start, splits, &bytes[..end])? {
         None => Ok((all, None)),
         Some((count, walk)) => {
             let (lines, below) = bytes.split_at(end);
@@ -246,6 +252,7 @@ fn numbered(chunk: Chunk, number: u32) -> Chunk
 fn chunks_of<'a>(
     alloc: Global,
     problem: &Problem,
+    goal: Option<u32>,
     start: &Walk,
     all: Chunk<'a>,
     size: usize,
@@ -255,7 +262,7 @@ fn chunks_of<'a>(
     requires part { all.walk.whole ≡ false }
     requires some { all.bytes ≢ [] }
     requires size { 1 ≤ size }
-    ensures chunks { IfOk result (λ v. AreAllChunks problem.now size all.entry v.items) }
+    ensures chunks { IfOk result (λ v. AreAllChunks problem.now goal size all.entry v.items) }
     ensures each { IfOk result (λ v. All (IsJudgeable problem.now) v.items) }
     ensures few { IfOk result (λ v. IsFew (length v.items) size all.entry.bytes) }
 {
@@ -264,7 +271,7 @@ fn chunks_of<'a>(
     let mut rest = Some(all);
     while let Some(lines) = rest {
         let number = chunks.len() as u32 + 1;
-        let (chunk, below) = cut_off(alloc, problem, start, &mut splits, lines, size)?;
+        let (chunk, below) = cut_off(problem, goal, start, &mut splits, lines, size)?;
         chunks.push(numbered(chunk, number))?;
         rest = below;
     }
@@ -276,6 +283,7 @@ fn chunks_of<'a>(
 pub fn chunks_for<'a>(
     alloc: Global,
     problem: &Problem,
+    goal: Option<u32>,
     all: Chunk<'a>,
     workers: u32,
 ) -> Result<Vec<Chunk<'a>>, AllocError>
@@ -284,11 +292,11 @@ pub fn chunks_for<'a>(
     requires some { all.bytes ≢ [] }
     requires workers { 1 ≤ workers }
     ensures chunks { IfOk result (λ v.
-        AreAllChunks problem.now (div_ceil (line_count all.entry.bytes) workers) all.entry v.items) }
+        AreAllChunks problem.now goal (div_ceil (line_count all.entry.bytes) workers) all.entry v.items) }
     ensures each { IfOk result (λ v. All (IsJudgeable problem.now) v.items) }
     ensures few { IfOk result (λ v. length v.items ≤ workers) }
 {
     let size = count_lines(all.bytes).div_ceil(workers as usize);
     let start = all.walk.copy()?;
-    chunks_of(alloc, problem, &start, all, size)
+    chunks_of(alloc, problem, goal, &start, all, size)
 }

@@ -1,43 +1,34 @@
 // The header of a log's text, judged.
-ghost use Rattle.std.specs.Prelude.{◌≡◌, ◌≤◌};
 ghost use Rattle.rwsp_model.specs.Refusals.{MatchAnswer};
-ghost use Rattle.refutation_terms.specs.Verdict.{IsRefused, header_lines_for};
-ghost use Rattle.refutation_checker.specs.Headers.{HasHeader, without_goal};
+ghost use Rattle.refutation_terms.specs.Verdict.{IsRefused};
+ghost use Rattle.refutation_log.specs.Headers.{BeginsWithHeader};
+ghost use Rattle.refutation_checker.specs.Turns.{IsSoundTurn};
 
 use crate::turn::turn_refusal;
-use refutation_log::{FREE_HEADER_LINES, Header, lines_of_header, read_header};
-use refutation_terms::{LogRefusal, Turn};
+use refutation_log::{Header, read_header};
+use refutation_terms::{LogKind, LogRefusal};
 use rwsp_model::{Fail, Problem};
 use std::alloc::Global;
 
-/// The header of a text, where it is refused for no cause.
+/// The header of a text, as one of a log of this kind, where it is refused for no cause.
 pub fn judge_header<'a>(
     alloc: Global,
     problem: &Problem,
+    kind: LogKind,
     bytes: &'a [u8],
 ) -> Result<Header<'a>, Fail<LogRefusal>>
     ensures { MatchAnswer result
-        (λ h. HasHeader (without_goal problem.now h.named) bytes.now h.turn h.body.now)
-        (IsRefused problem.now bytes.now) }
+        (λ h. BeginsWithHeader problem.now kind bytes.now h.named h.opening h.goal h.body.now
+        × IsSoundTurn problem.now h.named h.opening)
+        (IsRefused problem.now kind bytes.now) }
 {
     problem.prove_limits();
-    let header = match read_header(alloc, problem, bytes) {
+    let header = match read_header(alloc, problem, kind, bytes) {
         Ok(header) => header,
         Err(fail) => return Err(fail),
     };
-    match turn_refusal(problem, &header.named, header.turn) {
+    match turn_refusal(problem, &header.named, header.opening) {
         None => Ok(header),
         Some(why) => Err(Fail::Refused(why)),
-    }
-}
-
-/// The number of lines of the header of a log with this goal or none.
-pub fn header_lines(goal: Option<u32>, turn: Option<Turn>) -> u32
-    ensures value { result ≡ header_lines_for goal turn }
-    ensures few { result ≤ 3 }
-{
-    match goal {
-        None => lines_of_header(turn),
-        Some(_) => FREE_HEADER_LINES,
     }
 }

@@ -1,8 +1,9 @@
 // The lines of a log's tree, judged one after the other.
 ghost use Rattle.std.specs.Prelude.{◌≡◌, List, Option, IfOk, IsTrue, MatchOption, false};
 ghost use Rattle.refutation_terms.specs.declared.lines.Line.{Line};
-ghost use Rattle.refutation_terms.specs.declared.lines.Turn.{Turn};
-ghost use Rattle.refutation_terms.specs.Log.{LineFitsFor, ListsShortOnly};
+ghost use Rattle.refutation_terms.specs.declared.lines.Opening.{Opening};
+ghost use Rattle.refutation_terms.specs.declared.lines.Opening.TheVariants.{Full};
+ghost use Rattle.refutation_terms.specs.Log.{LineFits, ListsShortOnly};
 ghost use Rattle.rwsp_model.specs.Refusals.{MatchAnswer};
 ghost use Rattle.domain_store.specs.Store.{BelongsTo, has_domain};
 ghost use Rattle.domain_store.specs.States.{IsStateOf};
@@ -15,8 +16,8 @@ use crate::short_words::is_plainly_dead;
 use crate::word_leaves::{escape_of, list_of};
 use clean_words::{Automaton, TailRules};
 use domain_store::{Domains, Walk};
-use refutation_log::{LineRefusal, read_line_for};
-use refutation_terms::{Line, LogRefusal};
+use refutation_log::{LineRefusal, read_line};
+use refutation_terms::{Leaf, Line, LogRefusal, WordClaim};
 use rwsp_model::{Fail, Problem};
 use rwsp_terms::{RuleList, Word};
 use std::alloc::{AllocError, Global};
@@ -32,7 +33,7 @@ pub struct Judging<'a> {
 }
 
 impl<'a> Model for Judging<'a> {
-    ghost use Rattle.std.specs.Prelude.{None};
+    ghost use Rattle.refutation_terms.specs.declared.lines.Opening.TheVariants.{Full};
     ghost use Rattle.refutation_terms.specs.Log.{GoalFits};
     ghost use Rattle.refutation_checker.specs.LineTexts.{Judging};
 
@@ -40,11 +41,11 @@ impl<'a> Model for Judging<'a> {
 
     ghost view = { λ j. record { problem = j.problem.now; named = j.named.now; goal = j.goal } };
 
-    ghost invariant = { λ j. GoalFits j.problem.now None j.goal };
+    ghost invariant = { λ j. GoalFits j.problem.now Full j.goal };
 }
 
-/// Judges lines of a log with a goal or none, under the rules that its header names. What was made for the list of a line
-/// serves the next lines with the same list: tail rules at once, and the automaton where it was needed.
+/// Judges lines of a log with a goal or none, under the rules that its header names. What was made for the list of a
+/// line serves the next lines with the same list: tail rules at once, and the automaton where it was needed.
 #[derive(Drop)]
 pub struct Judge<'a> {
     problem: &'a Problem,
@@ -55,7 +56,8 @@ pub struct Judge<'a> {
 }
 
 impl<'a> Model for Judge<'a> {
-    ghost use Rattle.std.specs.Prelude.{◌≡◌, IfSome, None};
+    ghost use Rattle.std.specs.Prelude.{◌≡◌, IfSome};
+    ghost use Rattle.refutation_terms.specs.declared.lines.Opening.TheVariants.{Full};
     ghost use Rattle.refutation_terms.specs.Log.{GoalFits};
     ghost use Rattle.refutation_checker.specs.LineTexts.{Judging};
 
@@ -64,7 +66,7 @@ impl<'a> Model for Judge<'a> {
     ghost view = { λ j. record { problem = j.problem.now; named = j.named.now; goal = j.goal } };
 
     ghost invariant = { λ j. IfSome j.tails (λ tails. tails.problem ≡ j.problem.now)
-        × GoalFits j.problem.now None j.goal
+        × GoalFits j.problem.now Full j.goal
         × IfSome j.automaton (λ automaton. automaton.problem ≡ j.problem.now) };
 }
 
@@ -92,7 +94,7 @@ impl<'a> Judge<'a> {
         bytes: &[u8],
         number: u32,
     ) -> Result<Line, Fail<LogRefusal>>
-        requires state { (turn : Option Turn) × (lines : List Line) × IsStateOf self.old.problem turn lines walk.old }
+        requires state { (o : Opening) × (lines : List Line) × IsStateOf self.old.problem o lines walk.old }
         ensures same { self.new ≡ self.old }
         ensures read { MatchAnswer result
             (ReadsNext self.old walk.old bytes.now walk.new)
@@ -101,7 +103,7 @@ impl<'a> Judge<'a> {
         if walk.is_whole() {
             return Err(Fail::Refused(LogRefusal::Extra(number)));
         }
-        let line = match read_line_for(alloc, self.problem, self.goal, bytes) {
+        let line = match read_line(alloc, self.problem, self.goal, bytes) {
             Ok(line) => line,
             Err(Fail::Memory) => return Err(Fail::Memory),
             Err(Fail::Refused(why)) => return Err(Fail::Refused(spelling_refusal(why, number))),
@@ -128,9 +130,9 @@ impl<'a> Judge<'a> {
         line: &Line,
         number: u32,
     ) -> Result<Option<LogRefusal>, AllocError>
-        requires state { (turn : Option Turn) × (lines : List Line) × IsStateOf self.old.problem turn lines walk.old }
+        requires state { (o : Opening) × (lines : List Line) × IsStateOf self.old.problem o lines walk.old }
         requires part { walk.old.whole ≡ false }
-        requires line { LineFitsFor self.old.problem self.old.goal line.now }
+        requires line { LineFits self.old.problem self.old.goal line.now }
         ensures same { self.new ≡ self.old }
         ensures passed { IfOk result (λ found. MatchOption found
             (PassesNext self.old walk.old line.now walk.new)
@@ -154,7 +156,7 @@ impl<'a> Judge<'a> {
         number: u32,
     ) -> Result<Option<LogRefusal>, AllocError>
         requires domains { BelongsTo self.old.problem doms.now }
-        requires line { LineFitsFor self.old.problem self.old.goal line.now }
+        requires line { LineFits self.old.problem self.old.goal line.now }
         ensures same { self.new ≡ self.old }
         ensures cause { IfOk result (λ found. MatchOption found
             (IsSoundUnder self.old (has_domain doms.now) line.now)
@@ -169,8 +171,7 @@ impl<'a> Judge<'a> {
         }
     }
 
-    // The word that escapes a dead, a bound or a free leaf; None exactly where the leaf holds, and for
-    // other lines.
+    // The word that escapes a leaf of words; None exactly where the leaf holds, and for other lines.
     pub fn leaf_escape(
         &mut self,
         alloc: Global,
@@ -178,7 +179,7 @@ impl<'a> Judge<'a> {
         line: &Line,
     ) -> Result<Option<Word>, AllocError>
         requires domains { BelongsTo self.old.problem doms.now }
-        requires line { LineFitsFor self.old.problem self.old.goal line.now }
+        requires line { LineFits self.old.problem self.old.goal line.now }
         requires short { ListsShortOnly self.old.problem line.now }
         ensures same { self.new ≡ self.old }
         ensures escape { IfOk result (λ found. MatchOption found
@@ -206,13 +207,19 @@ impl<'a> Judge<'a> {
         line: &Line,
     ) -> Result<bool, AllocError>
         requires domains { BelongsTo self.old.problem doms.now }
-        requires line { LineFitsFor self.old.problem self.old.goal line.now }
+        requires line { LineFits self.old.problem self.old.goal line.now }
         requires short { ListsShortOnly self.old.problem line.now }
         ensures same { self.new ≡ self.old }
         ensures plain { IfOk result (λ plain. IsTrue plain
             → HoldsByWordsUnder self.old (has_domain doms.now) line.now) }
     {
-        let Line::Dead { p, len, rules } = line else {
+        let Line::Closing(leaf) = line else {
+            return Ok(false);
+        };
+        let Leaf::Words { p, rules, claim } = leaf else {
+            return Ok(false);
+        };
+        let WordClaim::Dead { len } = claim else {
             return Ok(false);
         };
         let tails = tails_of(alloc, self.problem, self.tails.take(), rules)?;

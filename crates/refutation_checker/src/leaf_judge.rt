@@ -1,9 +1,10 @@
 // Single lines of a log whose other lines are known to hold.
-ghost use Rattle.std.specs.Prelude.{◌≡◌, ◌∷◌, [], ◌++◌, List, length, Option, false, IfOk};
+ghost use Rattle.std.specs.Prelude.{◌≡◌, ◌∷◌, [], ◌++◌, ℕ, List, length, Option, false, IfOk};
 ghost use Rattle.refutation_terms.specs.declared.lines.Line.{Line};
-ghost use Rattle.refutation_terms.specs.declared.lines.Turn.{Turn};
+ghost use Rattle.refutation_terms.specs.declared.lines.Opening.{Opening};
+ghost use Rattle.refutation_terms.specs.declared.lines.Opening.TheVariants.{Full};
 ghost use Rattle.refutation_terms.specs.Tree.{domains_at};
-ghost use Rattle.refutation_terms.specs.Log.{LineFits, ListsShortOnly, Holds};
+ghost use Rattle.refutation_terms.specs.Log.{GoalFits, LineFits, ListsShortOnly, Holds};
 ghost use Rattle.domain_store.specs.States.{IsStateOf};
 ghost use Rattle.refutation_checker.specs.LineTexts.{TellsLeaf};
 
@@ -16,45 +17,47 @@ use rwsp_terms::RuleList;
 use std::alloc::{AllocError, Global};
 use std::marker::Model;
 
-/// Judges dead and bound leaves apart from the other lines of their log. What was made for the list of one leaf serves
-/// the next leaves with the same list.
+/// Judges leaves of words apart from the other lines of their log, which has a goal or none. What was made for the list
+/// of one leaf serves the next leaves with the same list.
 #[derive(Drop)]
 pub struct LeafJudge<'a> {
     judge: Judge<'a>,
 }
 
 impl<'a> Model for LeafJudge<'a> {
-    ghost use Rattle.std.specs.Prelude.{◌≡◌, None};
-    ghost use Rattle.rwsp_terms.specs.Instance.{Instance};
+    ghost use Rattle.refutation_terms.specs.declared.lines.Opening.TheVariants.{Full};
+    ghost use Rattle.refutation_terms.specs.Log.{GoalFits};
+    ghost use Rattle.refutation_checker.specs.LineTexts.{Judging};
 
-    ghost Value = { Instance };
+    ghost Value = { Judging };
 
-    ghost view = { λ j. j.judge.problem };
+    ghost view = { λ j. j.judge };
 
-    ghost invariant = { λ j. j.judge.goal ≡ None };
+    ghost invariant = { λ j. GoalFits j.judge.problem Full j.judge.goal };
 }
 
 impl<'a> LeafJudge<'a> {
-    /// A judge of leaves of this problem, in a log that names these rules.
-    pub fn new(problem: &'a Problem, named: &'a RuleList) -> LeafJudge<'a>
-        ensures { result ≡ problem.now }
+    /// A judge of leaves of a log for this problem that names these rules, with this goal or none.
+    pub fn new(problem: &'a Problem, named: &'a RuleList, goal: Option<u32>) -> LeafJudge<'a>
+        requires { GoalFits problem.now Full goal }
+        ensures { result ≡ record { problem = problem.now; named = named.now; goal = goal } }
     {
         let judging = Judging {
             problem,
             named,
-            goal: None,
+            goal,
         };
         let judge = Judge::new(&judging);
         drop(judging);
         LeafJudge { judge }
     }
 
-    /// Whether the leaf holds as the next line behind those that the walk has read. Of lines that are neither a dead
-    /// nor a bound leaf this says nothing.
+    /// Whether the leaf holds as the next line behind those that the walk has read. Of lines that are no leaf of words
+    /// this says nothing.
     pub fn holds(&mut self, alloc: Global, walk: &Walk, leaf: &Line) -> Result<bool, AllocError>
-        requires state { (turn : Option Turn) × (lines : List Line) × IsStateOf self.old turn lines walk.now }
-        requires fits { LineFits self.old leaf.now }
-        requires short { ListsShortOnly self.old leaf.now }
+        requires state { (o : Opening) × (lines : List Line) × IsStateOf self.old.problem o lines walk.now }
+        requires fits { LineFits self.old.problem self.old.goal leaf.now }
+        requires short { ListsShortOnly self.old.problem leaf.now }
         ensures same { self.new ≡ self.old }
         ensures holds { IfOk result (TellsLeaf self.old walk.now leaf.now) }
     {
@@ -68,11 +71,11 @@ impl<'a> LeafJudge<'a> {
 /// The walk reads a line that is known to hold there, which isn't judged.
 pub fn go_past(walk: &mut Walk, problem: &Problem, line: &Line) -> Result<(), AllocError>
     requires part { walk.old.whole ≡ false }
-    requires fits { LineFits problem.now line.now }
-    requires holds { (turn : Option Turn) × (lines : List Line) × IsStateOf problem.now turn lines walk.old ×
-        Holds problem.now (domains_at problem.now turn lines (length lines)) line.now }
-    ensures { IfOk result (λ _. (turn : Option Turn) (lines : List Line) →
-        IsStateOf problem.now turn lines walk.old → IsStateOf problem.now turn (lines ++ line.now ∷ []) walk.new) }
+    requires holds { (goal : Option ℕ) × LineFits problem.now goal line.now
+        × ((o : Opening) × (lines : List Line) × IsStateOf problem.now o lines walk.old
+        × Holds problem.now goal (domains_at problem.now o lines (length lines)) line.now) }
+    ensures { IfOk result (λ _. (o : Opening) (lines : List Line) →
+        IsStateOf problem.now o lines walk.old → IsStateOf problem.now o (lines ++ line.now ∷ []) walk.new) }
 {
     problem.prove_limits();
     walk.domains().prove_facts();

@@ -1,5 +1,5 @@
-//! The verdict on a refutation's log: that it passes, or its first line that is refused, with the cause. A long log is cut
-//! into chunks for several workers.
+//! The verdict on a refutation's log: that it passes, or its first line that is refused, with the cause. A long log is
+//! cut into chunks for several workers.
 #![tactic(auto)]
 
 mod chunk;
@@ -24,9 +24,9 @@ mod word_leaves;
 mod workers;
 
 pub use chunk_starts::chunks_for;
-pub use laws::{texts_have_a_free_verdict, texts_have_a_verdict};
+pub use laws::texts_have_a_verdict;
 pub use leaf_judge::{LeafJudge, go_past};
 pub use log_check::check_log;
 pub use potential_bounds::{Gate, NoGate};
 pub use text_chunk::Chunk;
-pub use verdict::{PassedGoal, check, check_free_with, check_with};
+pub use verdict::{PassedLog, UncheckedLog, check, check_with};

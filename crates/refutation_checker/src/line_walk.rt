@@ -2,7 +2,7 @@
 ghost use Rattle.std.specs.Prelude.{◌≡◌, ◌∷◌, [], ◌++◌, List, Option, IfOk, false};
 ghost use Rattle.rwsp_terms.specs.Instance.{Instance};
 ghost use Rattle.refutation_terms.specs.declared.lines.Line.{Line};
-ghost use Rattle.refutation_terms.specs.declared.lines.Turn.{Turn};
+ghost use Rattle.refutation_terms.specs.declared.lines.Opening.{Opening};
 ghost use Rattle.domain_store.specs.States.{IsStateOf};
 ghost use Rattle.refutation_checker.specs.LineTexts.{MayStep};
 
@@ -14,8 +14,8 @@ use std::alloc::AllocError;
 pub fn step(walk: &mut Walk, line: &Line) -> Result<(), AllocError>
     requires part { walk.old.whole ≡ false }
     requires useful { MayStep walk.old.store line.now }
-    ensures { IfOk result (λ _. (P : Instance) (turn : Option Turn) (lines : List Line) →
-        IsStateOf P turn lines walk.old → IsStateOf P turn (lines ++ line.now ∷ []) walk.new) }
+    ensures { IfOk result (λ _. (P : Instance) (o : Opening) (lines : List Line) →
+        IsStateOf P o lines walk.old → IsStateOf P o (lines ++ line.now ∷ []) walk.new) }
 {
     match line {
         Line::Split { p, x } => walk.read_split(*p, *x),

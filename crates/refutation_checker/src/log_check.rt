@@ -2,25 +2,25 @@
 ghost use Rattle.std.specs.Prelude.{◌≡◌, ℕ, ◌+◌, ◌<◌, ◌≤◌, length, IfOk, MatchOption};
 ghost use Rattle.rwsp_model.specs.Refusals.{MatchAnswer};
 ghost use Rattle.refutation_terms.specs.Tree.{IsTree};
-ghost use Rattle.refutation_terms.specs.Log.{Fits, FitsFor, Passes};
+ghost use Rattle.refutation_terms.specs.Log.{Fits, Passes};
 ghost use Rattle.refutation_terms.specs.LogText.{log_text};
-ghost use Rattle.refutation_terms.specs.Verdict.{IsRefused};
+ghost use Rattle.refutation_terms.specs.Verdict.{kind_by, IsRefused};
 ghost use Rattle.refutation_checker.specs.LogVerdicts.{AreSoundTo, IsPassed, IsRefusedAt, IsTreeJudged};
 
-use crate::header::header_lines;
 use crate::judge::{Judge, Judging};
 use crate::turn::turn_refusal;
 use domain_store::Walk;
-use refutation_log::Log;
+use refutation_log::{Log, lines_of_header};
 use refutation_terms::LogRefusal;
 use rwsp_model::{Fail, Problem};
 use std::alloc::{AllocError, Global};
 
-/// The verdict on the text of a log, without its text.
+/// The verdict on the text of a log as one of its kind, without its text.
 pub fn check_log(alloc: Global, problem: &Problem, log: &Log) -> Result<(), Fail<LogRefusal>>
     requires { Fits problem.now log.now }
     ensures { MatchAnswer result
-        (λ _. Passes problem.now log.now) (IsRefused problem.now (log_text problem.now log.now)) }
+        (λ _. Passes problem.now log.now)
+        (IsRefused problem.now (kind_by log.now.goal) (log_text problem.now log.now)) }
 {
     match log_refusal(alloc, problem, log) {
         Ok(None) => Ok(()),
@@ -37,11 +37,11 @@ fn log_refusal(
 ) -> Result<Option<LogRefusal>, AllocError>
     requires { Fits problem.now log.now }
     ensures { IfOk result
-        (λ found. MatchOption found (Passes problem.now log.now) (IsRefused problem.now
-        (log_text problem.now log.now))) }
+        (λ found. MatchOption found (Passes problem.now log.now)
+        (IsRefused problem.now (kind_by log.now.goal) (log_text problem.now log.now))) }
 {
     problem.prove_limits();
-    if let Some(why) = turn_refusal(problem, log.named(), log.turn()) {
+    if let Some(why) = turn_refusal(problem, log.named(), log.opening()) {
         return Ok(Some(why));
     }
     tree_refusal(alloc, problem, log)
@@ -58,11 +58,11 @@ fn tree_refusal(
     ensures refusal { IfOk result (IsTreeJudged problem.now log.now) }
 {
     let lines = log.lines();
-    let mut walk = Walk::new(alloc, problem, log.turn())?;
+    let mut walk = Walk::new(alloc, problem, log.opening())?;
     let judging = Judging {
         problem,
         named: log.named(),
-        goal: None,
+        goal: log.goal(),
     };
     let mut judge = Judge::new(&judging);
     drop(judging);
@@ -81,7 +81,8 @@ fn first_refusal(
     count: usize,
 ) -> Result<Option<LogRefusal>, AllocError>
     requires count { count ≤ length log.now.lines }
-    requires fits { FitsFor judge.old.problem judge.old.goal log.now }
+    requires fits { Fits judge.old.problem log.now }
+    requires goal { judge.old.goal ≡ log.now.goal }
     requires before { IsPassed judge.old log.now 0 walk.old }
     ensures { IfOk result (λ found. MatchOption found
         (AreSoundTo judge.old log.now count)
@@ -104,7 +105,8 @@ fn pass_at(
     i: usize,
 ) -> Result<Option<LogRefusal>, AllocError>
     requires place { i < length log.now.lines }
-    requires fits { FitsFor judge.old.problem judge.old.goal log.now }
+    requires fits { Fits judge.old.problem log.now }
+    requires goal { judge.old.goal ≡ log.now.goal }
     requires before { IsPassed judge.old log.now i walk.old }
     ensures same { judge.new ≡ judge.old }
     ensures passed { IfOk result (λ found. MatchOption found
@@ -112,6 +114,6 @@ fn pass_at(
         (IsRefusedAt judge.old log.now i)) }
 {
     let lines = log.lines();
-    let number = header_lines(log.goal(), log.turn()) + i as u32 + 1;
+    let number = lines_of_header(log.opening(), log.goal()) + i as u32 + 1;
     judge.pass(alloc, walk, &lines[i], number)
 }

@@ -2,10 +2,12 @@
 ghost use Rattle.std.specs.Prelude.{◌≡◌, ◌≤◌, ◌<◌, ◌↔◌, ℕ, length, Option, IsTrue, MatchOption};
 ghost use Rattle.rwsp_terms.specs.Rules.{rules, NamesShortOnly};
 ghost use Rattle.rwsp_model.specs.RuleNumbers.{IsShortNumber};
-ghost use Rattle.refutation_terms.specs.Log.{AreRules, LineFitsFor, ListsShortOnly};
-ghost use Rattle.refutation_terms.specs.Verdict.{IsLeast, IsLongIn, ListsLong};
+ghost use Rattle.refutation_terms.specs.Ranges.{AreRules};
+ghost use Rattle.refutation_terms.specs.Log.{LineFits, ListsShortOnly};
+ghost use Rattle.refutation_terms.specs.Verdict.{IsLeast, ListsLong};
+ghost use Rattle.refutation_terms.specs.Leaves.{IsLongIn};
 
-use refutation_terms::Line;
+use refutation_terms::{Leaf, Line};
 use rwsp_model::{Problem, is_short, rule_at};
 use rwsp_terms::RuleList;
 
@@ -36,19 +38,16 @@ fn least_long(problem: &Problem, list: &RuleList) -> Option<u32>
 /// The number of the least rule in the list of a leaf that isn't short; None where all are short, and for
 /// lines without a list. Goes along the list once.
 pub fn long_rule(problem: &Problem, line: &Line) -> Option<u32>
-    requires { (goal : Option ℕ) × LineFitsFor problem.now goal line.now }
+    requires { (goal : Option ℕ) × LineFits problem.now goal line.now }
     ensures { MatchOption result
         (ListsShortOnly problem.now line.now)
         (λ k. IsLeast (ListsLong problem.now line.now) k) }
 {
-    match line {
-        Line::Dead { rules, .. } => least_long(problem, rules),
-        Line::Bound { rules, .. } => least_long(problem, rules),
-        Line::Free { rules, .. } => least_long(problem, rules),
-        Line::Split { .. }
-        | Line::Window { .. }
-        | Line::Day { .. }
-        | Line::Few
-        | Line::Unfinished => None,
+    let Line::Closing(leaf) = line else {
+        return None;
+    };
+    match leaf {
+        Leaf::Words { rules, .. } => least_long(problem, rules),
+        _ => None,
     }
 }

@@ -2,7 +2,7 @@
 ghost use Rattle.std.specs.Prelude.{ℕ, ◌+◌, ◌<◌, ◌≤◌, length, slice_index_or, IsTrue, IfOk, OnOk};
 ghost use Rattle.rwsp_terms.specs.Instance.{cells, shift_count};
 ghost use Rattle.rwsp_terms.specs.declared.limits.TheConstants.{LONGEST_WORD};
-ghost use Rattle.refutation_terms.specs.Leaf.{IsDead};
+ghost use Rattle.refutation_terms.specs.WordsLeaf.{IsDead};
 ghost use Rattle.domain_store.specs.Store.{BelongsTo, has_domain};
 ghost use Rattle.clean_words.specs.declared.tail.Tail.{Tail};
 ghost use Rattle.refutation_checker.specs.ShortWords.{GoOn, HaveAll};

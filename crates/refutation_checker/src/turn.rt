@@ -1,17 +1,17 @@
 // The turn of a header, judged.
-ghost use Rattle.std.specs.Prelude.{Some, MatchOption};
-ghost use Rattle.refutation_terms.specs.Log.{TurnFits};
+ghost use Rattle.std.specs.Prelude.{MatchOption};
+ghost use Rattle.refutation_terms.specs.Log.{OpeningFits};
 ghost use Rattle.refutation_checker.specs.Turns.{IsSoundTurn, TurnFault, IsTurnFault};
 
-use refutation_terms::{LogRefusal, Turn};
+use refutation_terms::{LogRefusal, Opening, Turn};
 use rwsp_model::{Problem, number_of};
 use rwsp_terms::{Rule, RuleList};
 
 // Why the turn of line 3 is refused: the rule of its day isn't named, or no week must hold its
 // symbol then.
 fn turn_fault(problem: &Problem, named: &RuleList, turn: Turn) -> Option<LogRefusal>
-    requires { TurnFits problem.now (Some turn) }
-    ensures { MatchOption result (IsSoundTurn problem.now named.now (Some turn))
+    requires { OpeningFits problem.now (Opening.Turned turn) }
+    ensures { MatchOption result (IsSoundTurn problem.now named.now (Opening.Turned turn))
         (TurnFault problem.now named.now turn) }
 {
     let day = number_of(problem, Rule::Day(turn.day));
@@ -25,12 +25,13 @@ fn turn_fault(problem: &Problem, named: &RuleList, turn: Turn) -> Option<LogRefu
 }
 
 /// The cause of a turn, whose line is the third; None where there is none, and for no turn.
-pub fn turn_refusal(problem: &Problem, named: &RuleList, turn: Option<Turn>) -> Option<LogRefusal>
-    requires { TurnFits problem.now turn }
-    ensures { MatchOption result (IsSoundTurn problem.now named.now turn) (IsTurnFault problem.now named.now turn) }
+pub fn turn_refusal(problem: &Problem, named: &RuleList, opening: Opening) -> Option<LogRefusal>
+    requires { OpeningFits problem.now opening }
+    ensures { MatchOption result (IsSoundTurn problem.now named.now opening)
+        (IsTurnFault problem.now named.now opening) }
 {
-    match turn {
-        Some(turn) => turn_fault(problem, named, turn),
-        None => None,
+    match opening {
+        Opening::Full => None,
+        Opening::Turned(turn) => turn_fault(problem, named, turn),
     }
 }

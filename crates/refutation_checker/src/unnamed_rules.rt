@@ -1,12 +1,15 @@
 // The least rule that a line cites and the header doesn't name.
 ghost use Rattle.std.specs.Prelude.{◌≡◌, ◌⊎◌, ℕ, Contains, Option, MatchOption};
 ghost use Rattle.rwsp_terms.specs.Instance.{IsDay};
-ghost use Rattle.refutation_terms.specs.Log.{Cites, CitesOnlyNamed, LineFitsFor, WeightsFit};
+ghost use Rattle.refutation_terms.specs.Leaves.{LeafFits, LeafCites};
+ghost use Rattle.refutation_terms.specs.WordsLeaf.{WordsFit, WordsCite};
+ghost use Rattle.refutation_terms.specs.Log.{Cites, CitesOnlyNamed, LineFits};
+ghost use Rattle.refutation_terms.specs.Ranges.{WeightsFit};
 ghost use Rattle.refutation_terms.specs.Verdict.{IsLeast, IsUnnamed};
 ghost use Rattle.refutation_log.specs.Cited.{IsDayRule, IsWeighedDayRule};
-ghost use Rattle.refutation_checker.specs.Outside.{IsLeastOutside, lesser};
+ghost use Rattle.refutation_checker.specs.Outside.{IsLeastOutside, IsLeastUnnamed, lesser};
 
-use refutation_terms::Line;
+use refutation_terms::{Leaf, Line, WordClaim};
 use rwsp_model::{Problem, number_of};
 use rwsp_terms::{Rule, RuleList, Weights};
 
@@ -85,17 +88,42 @@ fn least_of_words(
 ///
 /// Each number that the line cites is looked up in the list, which costs the logarithm of the list's length.
 pub fn unnamed_rule(problem: &Problem, named: &RuleList, line: &Line) -> Option<u32>
-    requires { (goal : Option ℕ) × LineFitsFor problem.now goal line.now }
+    requires { (goal : Option ℕ) × LineFits problem.now goal line.now }
     ensures { MatchOption result
         (CitesOnlyNamed problem.now named.now line.now)
         (λ k. IsLeast (IsUnnamed problem.now named.now (Cites problem.now line.now)) k) }
 {
     match line {
-        Line::Split { .. } | Line::Few | Line::Unfinished => None,
-        Line::Window { rule, .. } => outside(*rule, named),
-        Line::Day { day, .. } => day_outside(problem, *day, named),
-        Line::Dead { rules, .. } => least_outside(rules, named),
-        Line::Bound { rules, weights, .. } => least_of_words(problem, rules, weights, named),
-        Line::Free { rules, weights, .. } => least_of_words(problem, rules, weights, named),
+        Line::Split { .. } | Line::Unfinished => None,
+        Line::Closing(leaf) => unnamed_in_leaf(problem, named, leaf),
+    }
+}
+
+// The same of a leaf.
+fn unnamed_in_leaf(problem: &Problem, named: &RuleList, leaf: &Leaf) -> Option<u32>
+    requires { (goal : Option ℕ) × LeafFits problem.now goal leaf.now }
+    ensures { IsLeastUnnamed problem.now named.now (LeafCites problem.now leaf.now) result }
+{
+    match leaf {
+        Leaf::Few => None,
+        Leaf::Window { rule, .. } => outside(*rule, named),
+        Leaf::Day { day, .. } => day_outside(problem, *day, named),
+        Leaf::Words { rules, claim, .. } => unnamed_in_words(problem, named, rules, claim),
+    }
+}
+
+// The same of the list and the claim of a leaf of words.
+fn unnamed_in_words(
+    problem: &Problem,
+    named: &RuleList,
+    rules: &RuleList,
+    claim: &WordClaim,
+) -> Option<u32>
+    requires { (goal : Option ℕ) × (p : ℕ) × WordsFit problem.now goal p rules.now claim.now }
+    ensures { IsLeastUnnamed problem.now named.now (WordsCite problem.now rules.now claim.now) result }
+{
+    match claim {
+        WordClaim::Dead { .. } => least_outside(rules, named),
+        WordClaim::Light { weights, .. } => least_of_words(problem, rules, weights, named),
     }
 }

@@ -1,28 +1,43 @@
 // The verdict on the text of a log, with a goal or without.
-ghost use Rattle.std.specs.Prelude.{◌≡◌, ◌≤◌, length, [], IfOk, false, Some};
-ghost use Rattle.rwsp_terms.specs.declared.limits.TheConstants.{LONGEST_LOG, MOST_WORKERS, DAYS_OF_WEEK};
+ghost use Rattle.std.specs.Prelude.{◌≡◌, ◌≤◌, length, [], IfOk, false};
+ghost use Rattle.rwsp_terms.specs.declared.limits.TheConstants.{LONGEST_LOG, MOST_WORKERS};
 ghost use Rattle.rwsp_model.specs.Refusals.{MatchAnswer};
-ghost use Rattle.refutation_terms.specs.Log.{Log as LogValue, TurnFits};
+ghost use Rattle.refutation_terms.specs.Log.{Log as LogValue, OpeningFits};
 ghost use Rattle.refutation_terms.specs.Verdict.{IsAccepted, IsRefused};
-ghost use Rattle.refutation_terms.specs.FreeVerdict.{IsFreeAccepted, IsFreeRefused};
+ghost use Rattle.refutation_log.specs.ReadLog.{HasLogsOf};
 ghost use Rattle.refutation_checker.specs.Starts.{StandsBehind};
 
 use crate::Chunk;
 use crate::chunk::judge_chunk;
-use crate::header::{header_lines, judge_header};
+use crate::header::judge_header;
 use crate::judge::Judging;
 use crate::workers::judge_by_workers;
 use domain_store::Walk;
 use potential_bounds::Gate;
-use refutation_log::read_free_header;
-use refutation_terms::{LogRefusal, Turn};
+use refutation_log::{Header, lines_of_header};
+use refutation_terms::{LogKind, LogRefusal, Opening};
 use rwsp_model::{Fail, Problem};
 use rwsp_terms::RuleList;
 use std::alloc::{AllocError, Global};
 use std::thread::Threads;
 
-/// The verdict on a text: the rules that its header names where it is the text of a log that passes, else the first
-/// line with a cause to refuse it, and on that line the lowest cause.
+/// A text that is said to be that of a log of this kind.
+#[derive(Clone, Copy)]
+pub struct UncheckedLog<'a> {
+    pub kind: LogKind,
+    pub bytes: &'a [u8],
+}
+
+/// What a log that passes shows: no roster meets these rules, or where it has a goal none that does has as many free
+/// weekends.
+#[derive(Drop)]
+pub struct PassedLog {
+    pub named: RuleList,
+    pub goal: Option<u32>,
+}
+
+/// The verdict on a text as a log of a kind: what it shows where it is the text of a log that passes, else the first
+/// line with a cause to refuse it, and on that line the lowest cause. Logs with a goal are for weeks of seven days.
 ///
 /// The lines below the header are cut into chunks of equal length, of which the last may be shorter: at most one for
 /// each worker, and fewer where there are fewer lines. The gate is passed once for each chunk, before its first line;
@@ -31,107 +46,74 @@ pub fn check_with<R: Threads + Sync, G: Gate>(
     rt: &R,
     alloc: Global,
     problem: &Problem,
-    bytes: &[u8],
+    log: UncheckedLog<'_>,
     workers: u32,
     gate: &G,
-) -> Result<RuleList, Fail<LogRefusal>>
-    requires long { length bytes.now ≤ LONGEST_LOG }
+) -> Result<PassedLog, Fail<LogRefusal>>
+    requires kind { HasLogsOf problem.now log.kind }
+    requires long { length log.bytes.now ≤ LONGEST_LOG }
     requires workers { (1 ≤ workers) × (workers ≤ MOST_WORKERS) }
     ensures { MatchAnswer result
-        (λ named. (g : LogValue) × IsAccepted problem.now bytes.now g × (g.named ≡ named))
-        (IsRefused problem.now bytes.now) }
+        (λ passed. (g : LogValue) × IsAccepted problem.now log.entry.kind log.entry.bytes.now g
+        × (g.named ≡ passed.named) × (g.goal ≡ passed.goal))
+        (IsRefused problem.now log.entry.kind log.entry.bytes.now) }
 {
-    let header = match judge_header(alloc, problem, bytes) {
+    let header = match judge_header(alloc, problem, log.kind, log.bytes) {
         Ok(header) => header,
         Err(fail) => return Err(fail),
     };
-    let Ok(lines) = lines_below(alloc, problem, None, header.turn, header.body) else {
+    let Ok(lines) = lines_below(alloc, problem, &header) else {
         return Err(Fail::Memory);
     };
     let judging = Judging {
         problem,
         named: &header.named,
-        goal: None,
+        goal: header.goal,
     };
     let judged = judge_by_workers(rt, alloc, &judging, lines, workers, gate);
     drop(judging);
     match judged {
-        Ok(true) => Ok(header.named),
+        Ok(true) => Ok(PassedLog {
+            named: header.named,
+            goal: header.goal,
+        }),
         Ok(false) => Err(Fail::Refused(LogRefusal::Ends)),
         Err(fail) => Err(fail),
     }
 }
 
 /// The same verdict, worked out on one thread.
-pub fn check(alloc: Global, problem: &Problem, bytes: &[u8]) -> Result<RuleList, Fail<LogRefusal>>
-    requires { length bytes.now ≤ LONGEST_LOG }
+pub fn check(
+    alloc: Global,
+    problem: &Problem,
+    kind: LogKind,
+    bytes: &[u8],
+) -> Result<PassedLog, Fail<LogRefusal>>
+    requires kind { HasLogsOf problem.now kind }
+    requires long { length bytes.now ≤ LONGEST_LOG }
     ensures { MatchAnswer result
-        (λ named. (g : LogValue) × IsAccepted problem.now bytes.now g × (g.named ≡ named))
-        (IsRefused problem.now bytes.now) }
+        (λ passed. (g : LogValue) × IsAccepted problem.now kind bytes.now g
+        × (g.named ≡ passed.named) × (g.goal ≡ passed.goal))
+        (IsRefused problem.now kind bytes.now) }
 {
-    let header = match judge_header(alloc, problem, bytes) {
+    let header = match judge_header(alloc, problem, kind, bytes) {
         Ok(header) => header,
         Err(fail) => return Err(fail),
     };
-    let Ok(lines) = lines_below(alloc, problem, None, header.turn, header.body) else {
+    let Ok(lines) = lines_below(alloc, problem, &header) else {
         return Err(Fail::Memory);
     };
     let judging = Judging {
         problem,
         named: &header.named,
-        goal: None,
+        goal: header.goal,
     };
     let judged = judge_chunk(alloc, &judging, lines);
     drop(judging);
     match judged {
-        Ok(true) => Ok(header.named),
-        Ok(false) => Err(Fail::Refused(LogRefusal::Ends)),
-        Err(fail) => Err(fail),
-    }
-}
-
-/// What a free log that passes shows: no roster that meets these rules has as many free weekends as the goal.
-#[derive(Drop)]
-pub struct PassedGoal {
-    pub goal: u32,
-    pub named: RuleList,
-}
-
-/// The same verdict on the text of a free log. Only for weeks of seven days.
-pub fn check_free_with<R: Threads + Sync, G: Gate>(
-    rt: &R,
-    alloc: Global,
-    problem: &Problem,
-    bytes: &[u8],
-    workers: u32,
-    gate: &G,
-) -> Result<PassedGoal, Fail<LogRefusal>>
-    requires days { problem.now.days ≡ DAYS_OF_WEEK }
-    requires long { length bytes.now ≤ LONGEST_LOG }
-    requires workers { (1 ≤ workers) × (workers ≤ MOST_WORKERS) }
-    ensures { MatchAnswer result
-        (λ passed. (g : LogValue) × IsFreeAccepted problem.now bytes.now g × (g.named ≡ passed.named)
-        × (g.goal ≡ Some passed.goal))
-        (IsFreeRefused problem.now bytes.now) }
-{
-    let header = match read_free_header(alloc, problem, bytes) {
-        Ok(header) => header,
-        Err(fail) => return Err(fail),
-    };
-    let Ok(lines) = lines_below(alloc, problem, Some(header.goal), None, header.body) else {
-        return Err(Fail::Memory);
-    };
-    let judging = Judging {
-        problem,
-        named: &header.named,
-        goal: Some(header.goal),
-    };
-    let judged = judge_by_workers(rt, alloc, &judging, lines, workers, gate);
-    drop(judging);
-    match judged {
-        Ok(true) => Ok(PassedGoal {
-            goal: header.goal,
+        Ok(true) => Ok(PassedLog {
             named: header.named,
+            goal: header.goal,
         }),
         Ok(false) => Err(Fail::Refused(LogRefusal::Ends)),
         Err(fail) => Err(fail),
@@ -142,21 +124,19 @@ pub fn check_free_with<R: Threads + Sync, G: Gate>(
 fn lines_below<'a>(
     alloc: Global,
     problem: &Problem,
-    goal: Option<u32>,
-    turn: Option<Turn>,
-    bytes: &'a [u8],
+    header: &Header<'a>,
 ) -> Result<Chunk<'a>, AllocError>
-    requires fits { TurnFits problem.now turn }
-    ensures start { IfOk result (λ lines. StandsBehind problem.now goal turn [] lines) }
+    requires fits { OpeningFits problem.now header.now.opening }
+    ensures start { IfOk result (λ lines. StandsBehind problem.now header.now.goal header.now.opening [] lines) }
     ensures part { IfOk result (λ lines. lines.walk.whole ≡ false) }
-    ensures bytes { IfOk result (λ lines. lines.bytes ≡ bytes.now) }
+    ensures bytes { IfOk result (λ lines. lines.bytes ≡ header.now.body.now) }
     ensures first { IfOk result (λ lines. lines.first ≤ 4) }
 {
-    let walk = Walk::new(alloc, problem, turn)?;
+    let walk = Walk::new(alloc, problem, header.opening)?;
     Ok(Chunk {
         number: 1,
         walk,
-        bytes,
-        first: header_lines(goal, turn) + 1,
+        bytes: header.body,
+        first: lines_of_header(header.opening, header.goal) + 1,
     })
 }

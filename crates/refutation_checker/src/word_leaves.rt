@@ -1,29 +1,28 @@
 // Leaves that are judged by the words that are clean for their list of rules.
-ghost use Rattle.std.specs.Prelude.{◌<◌, ◌≤◌, IfOk, MatchOption, None};
+ghost use Rattle.std.specs.Prelude.{◌<◌, ◌≤◌, IfOk, MatchOption};
 ghost use Rattle.rwsp_terms.specs.Instance.{cells};
 ghost use Rattle.rwsp_terms.specs.declared.limits.TheConstants.{LONGEST_WORD};
-ghost use Rattle.refutation_terms.specs.Leaf.{IsDead};
+ghost use Rattle.refutation_terms.specs.declared.lines.Opening.TheVariants.{Full};
+ghost use Rattle.refutation_terms.specs.WordsLeaf.{IsDead, WordsFit, WordsHold, WordsEscape};
 ghost use Rattle.refutation_terms.specs.Escape.{IsLeastClean};
-ghost use Rattle.refutation_terms.specs.Log.{GoalFits, LineFitsFor};
-ghost use Rattle.refutation_terms.specs.Verdict.{EscapesFor};
+ghost use Rattle.refutation_terms.specs.Log.{GoalFits, LineFits};
+ghost use Rattle.refutation_terms.specs.Verdict.{Escapes};
 ghost use Rattle.domain_store.specs.Store.{BelongsTo, has_domain};
-ghost use Rattle.refutation_checker.specs.LineVerdicts.{HasNoList, HasList, HoldsByWordsFor};
+ghost use Rattle.refutation_checker.specs.LineVerdicts.{HasNoList, HasList, HoldsByWords};
 
 use clean_words::{Automaton, CleanWords, escape};
 use domain_store::Domains;
-use potential_bounds::{FreeClaim, bound_escape, free_escape};
-use refutation_terms::Line;
+use potential_bounds::{Claim, claim_escape};
+use refutation_terms::{Leaf, Line, WordClaim};
 use rwsp_terms::{RuleList, Word};
 use std::alloc::{AllocError, Global};
 
-/// The list of rules of a dead, a bound or a free leaf; None for other lines.
+/// The list of rules of a leaf of words; None for other lines.
 pub fn list_of(line: &Line) -> Option<&RuleList>
     ensures { MatchOption result (HasNoList line.now) (λ list. HasList line.now list.now) }
 {
     match line {
-        Line::Dead { rules, .. } => Some(rules),
-        Line::Bound { rules, .. } => Some(rules),
-        Line::Free { rules, .. } => Some(rules),
+        Line::Closing(Leaf::Words { rules, .. }) => Some(rules),
         _ => None,
     }
 }
@@ -38,39 +37,54 @@ pub fn escape_of(
     line: &Line,
 ) -> Result<Option<Word>, AllocError>
     requires domains { BelongsTo automaton.now.problem doms.now }
-    requires goal { GoalFits automaton.now.problem None goal }
-    requires line { LineFitsFor automaton.now.problem goal line.now }
+    requires goal { GoalFits automaton.now.problem Full goal }
+    requires line { LineFits automaton.now.problem goal line.now }
     requires list { HasList line.now automaton.now.rules }
     ensures { IfOk result (λ found. MatchOption found
-        (HoldsByWordsFor automaton.now.problem goal (has_domain doms.now) line.now)
-        (EscapesFor automaton.now.problem goal (has_domain doms.now) line.now)) }
+        (HoldsByWords automaton.now.problem goal (has_domain doms.now) line.now)
+        (Escapes automaton.now.problem goal (has_domain doms.now) line.now)) }
 {
-    match line {
-        Line::Dead { p, len, .. } => dead_escape(alloc, automaton, doms, *p, *len),
-        Line::Bound {
-            p,
-            turns,
-            weights,
-            ..
-        } => bound_escape(alloc, automaton, doms, *p, *turns, weights),
-        Line::Free {
+    let Line::Closing(leaf) = line else {
+        return Ok(None);
+    };
+    match leaf {
+        Leaf::Words { p, claim, .. } => words_escape(alloc, automaton, doms, goal, *p, claim),
+        _ => Ok(None),
+    }
+}
+
+// The word that escapes what is claimed of the words from position `p` on.
+fn words_escape(
+    alloc: Global,
+    automaton: &Automaton,
+    doms: &Domains,
+    goal: Option<u32>,
+    p: u32,
+    claim: &WordClaim,
+) -> Result<Option<Word>, AllocError>
+    requires domains { BelongsTo automaton.now.problem doms.now }
+    requires goal { GoalFits automaton.now.problem Full goal }
+    requires fits { WordsFit automaton.now.problem goal p automaton.now.rules claim.now }
+    ensures { let P = automaton.now.problem in let D = has_domain doms.now in let R = automaton.now.rules in
+        IfOk result (λ found. MatchOption found
+        (WordsHold P goal D p R claim.now) (WordsEscape P goal D p R claim.now)) }
+{
+    match claim {
+        WordClaim::Dead { len } => dead_escape(alloc, automaton, doms, p, *len),
+        WordClaim::Light {
             turns,
             reward,
             weights,
-            ..
-        } => match goal {
-            Some(goal) => {
-                let claim = FreeClaim {
-                    goal,
-                    turns: *turns,
-                    reward: *reward,
-                    weights,
-                };
-                free_escape(alloc, automaton, doms, claim)
-            }
-            None => Ok(None),
-        },
-        _ => Ok(None),
+        } => {
+            let light = Claim {
+                goal,
+                position: p,
+                turns: *turns,
+                reward: *reward,
+                weights,
+            };
+            claim_escape(alloc, automaton, doms, light)
+        }
     }
 }
 

@@ -1,7 +1,7 @@
 // The lines of a log, judged by several workers.
 ghost use Rattle.std.specs.Prelude.{◌≡◌, ◌≤◌, [], Option, false};
 ghost use Rattle.rwsp_terms.specs.declared.limits.TheConstants.{MOST_WORKERS};
-ghost use Rattle.refutation_terms.specs.declared.lines.Turn.{Turn};
+ghost use Rattle.refutation_terms.specs.declared.lines.Opening.{Opening};
 ghost use Rattle.refutation_checker.specs.Starts.{StandsBehind};
 ghost use Rattle.refutation_checker.specs.Chunks.{IsJudgeable};
 ghost use Rattle.refutation_checker.specs.ChunkVerdicts.{IsAnswerTo, IsJudged, joined_from};
@@ -30,8 +30,8 @@ pub fn judge_by_workers<R: Threads + Sync, G: Gate>(
     requires start { IsJudgeable judging.now.problem all }
     requires part { all.walk.whole ≡ false }
     requires workers { (1 ≤ workers) × (workers ≤ MOST_WORKERS) }
-    ensures { (turn : Option Turn) → StandsBehind judging.now.problem judging.now.goal turn [] all.entry →
-        IsJudged judging.now turn [] all.entry.bytes result }
+    ensures { (o : Opening) → StandsBehind judging.now.problem judging.now.goal o [] all.entry →
+        IsJudged judging.now o [] all.entry.bytes result }
 {
     if all.bytes.is_empty() {
         return Ok(false);
@@ -39,7 +39,7 @@ pub fn judge_by_workers<R: Threads + Sync, G: Gate>(
     if workers == 1 {
         return judge_behind_gate(alloc, judging, gate, all);
     }
-    let Ok(chunks) = chunks_for(alloc, judging.problem, all, workers) else {
+    let Ok(chunks) = chunks_for(alloc, judging.problem, judging.goal, all, workers) else {
         return Err(Fail::Memory);
     };
     let answers = thread::map_vec(

@@ -1,5 +1,5 @@
 -- The numbers of the rules that a line cites.
-use Rattle.std.proofs.Common.{◌≡◌, ◌≢◌, ℕ, zero, suc, ◌+◌, ◌<◌, ◌≤◌, List, [], ◌∷◌, length, get_or, refl, ap, sym, ◌∙◌, subst, arith, ◌⊎◌, inl, inr, ⊎_elim, Some, None, Bool, true, false, pos}
+use Rattle.std.proofs.Common.{◌≡◌, ◌≢◌, ℕ, zero, suc, ◌+◌, ◌<◌, ◌≤◌, List, [], ◌∷◌, length, get_or, refl, ap, sym, ◌∙◌, subst, arith, ◌⊎◌, inl, inr, ⊎_elim, Option, Some, Bool, true, false, pos}
 use Rattle.std.specs.Prelude.{Contains, ◌↔◌, slice_get, AllPairs, Result, OnOk, OnErr}
 use Rattle.std.proofs.lemmas.Option.{slice_get-get_or, same_Some}
 use Rattle.std.proofs.lemmas.List.Elements.{All-contains}
@@ -7,7 +7,6 @@ use Rattle.std.proofs.lemmas.Bool.{false_from_ne_true}
 use Rattle.rwsp_terms.specs.declared.data.Weight.{Weight}
 use Rattle.rwsp_terms.specs.declared.data.Rule.{Rule}
 use Rattle.rwsp_terms.specs.declared.data.Rule.TheVariants.{Day, MaxOff}
-use Rattle.rwsp_terms.specs.declared.data.Symbol.{Symbol}
 use Rattle.rwsp_terms.specs.Instance.{Instance, IsDay}
 use Rattle.rwsp_terms.specs.Rules.{rule_of, rules, Names}
 use Rattle.rwsp_terms.specs.Weights.{ComesBefore, weight_at, AreWeights, IsWeight}
@@ -16,31 +15,32 @@ use Rattle.rwsp_terms.proofs.Ascending.{Contains-cons, Contains-first, weight_pa
 use Rattle.rwsp_model.proofs.Numbering.{one_number, number_at_place}
 use Rattle.rwsp_model.specs.RuleNumbers.{place_of}
 use Rattle.refutation_terms.specs.declared.lines.Line.{Line}
-use Rattle.refutation_terms.specs.declared.lines.Line.TheVariants.{Window, Day as DayLeaf, Dead, Bound, Free}
-use Rattle.refutation_terms.specs.declared.lines.Turn.{Turn}
-use Rattle.refutation_terms.specs.Log.{LineFits, Cites, TurnCites, HasWeight, AreRules, WeightsFit}
-use Rattle.refutation_log.specs.Printing.{FitsSomeLog}
-use Rattle.refutation_log.specs.Cited.{Adds, AddsSome, IsCited, IsDayRule, IsWeighedDayRule}
+use Rattle.refutation_terms.specs.declared.lines.Line.TheVariants.{Closing}
+use Rattle.refutation_terms.specs.declared.lines.Leaf.TheVariants.{Window, Day as DayLeaf, Words}
+use Rattle.refutation_terms.specs.declared.lines.WordClaim.{WordClaim}
+use Rattle.refutation_terms.specs.declared.lines.WordClaim.TheVariants.{Dead, Light}
+use Rattle.refutation_terms.specs.declared.lines.Opening.{Opening}
+use Rattle.refutation_terms.specs.declared.lines.Opening.TheVariants.{Full, Turned}
+use Rattle.refutation_terms.specs.Ranges.{AreRules, WeightsFit, HasWeight}
+use Rattle.refutation_terms.specs.WindowLeaf.{WindowFits, WindowCites}
+use Rattle.refutation_terms.specs.WordsLeaf.{WordsFit, WordsCite}
+use Rattle.refutation_terms.specs.Log.{LineFits, Cites, OpeningFits, OpeningCites}
+use Rattle.refutation_log.specs.Cited.{Adds, AddsSome, IsCited, IsDayRule, IsWeighedDayRule, ListAndClaimFit}
 use Rattle.refutation_log.proofs.Adding.{on_ok, on_err, adds_same, some_same}
-use Rattle.refutation_log.proofs.Named.{fits_some}
 
 pub rule_there : (P : Instance) (k : ℕ) → 0 < k → k ≤ length (rules P) → (r : Rule) × (rule_of P k ≡ Some r)
 rule_there P zero some within = absurd (omega (arith, some))
 rule_there P (suc k) some within = (get_or (rules P) k MaxOff, slice_get-get_or (rules P) k MaxOff (omega (arith, within)))
 
--- A k is what makes k the number of a rule that the line cites
-abbrev pub TellsCited : Instance → Line → (ℕ → Type 0) → Type 0
-TellsCited P line A = (k : ℕ) → A k ↔ IsCited P (Cites P line) k
-
-pub cited_along : (P : Instance) (line base : Line) (A : ℕ → Type 0) → line ≡ base → (LineFits P base → TellsCited P base A) → LineFits P line → TellsCited P line A
-cited_along P line base A e f fits =
-    subst (λ (l : Line). TellsCited P l A) (sym e) (f (subst (LineFits P) e fits))
+-- A k is what makes k the number of a rule that is cited
+abbrev pub TellsCited : Instance → (Rule → Type 0) → (ℕ → Type 0) → Type 0
+TellsCited P Cited A = (k : ℕ) → A k ↔ IsCited P Cited k
 
 in_one : (n k : ℕ) → Contains (n ∷ []) k → k ≡ n
 in_one n k c =
     ⊎_elim (λ (no : Contains [] k). absurd (omega (arith, no.1))) (λ (e : k ≡ n). e) (Contains-cons n [] k c)
 
-pub window_cited : (P : Instance) (number p len : ℕ) → LineFits P (Window number p len) → TellsCited P (Window number p len) (λ k. k ≡ number)
+pub window_cited : (P : Instance) (number p len : ℕ) → WindowFits P number p len → TellsCited P (WindowCites P number) (λ k. k ≡ number)
 window_cited P number p len fits k = (
   λ e. let r = rule_there P number fits.0 fits.1 in (r.0, ap (rule_of P) e ∙ r.1, (number, Contains-first number [] number refl, r.1)),
   λ q. one_number P k q.2.0 q.0 q.1 q.2.2 ∙ in_one number q.2.0 q.2.1,
@@ -55,14 +55,11 @@ named_cited P R k are c =
 cited_named : (P : Instance) (R : List ℕ) (k : ℕ) (r : Rule) → rule_of P k ≡ Some r → Names P R r → Contains R k
 cited_named P R k r e named = subst (Contains R) (one_number P named.0 k r named.2 e) named.1
 
-pub dead_cited : (P : Instance) (p len : ℕ) (R : List ℕ) → LineFits P (Dead p len R) → TellsCited P (Dead p len R) (Contains R)
-dead_cited P p len R fits k = (λ c. named_cited P R k fits.2 c, λ q. cited_named P R k q.0 q.1 q.2)
+pub listed_cited : (P : Instance) (R : List ℕ) → AreRules P R → TellsCited P (Names P R) (Contains R)
+listed_cited P R are k = (λ c. named_cited P R k are c, λ q. cited_named P R k q.0 q.1 q.2)
 
-pub day_cited : (P : Instance) (j : ℕ) (x : Symbol) (over : Bool) → LineFits P (DayLeaf j x over) → TellsCited P (DayLeaf j x over) (IsDayRule P j)
-day_cited P j x over fits k = (λ e. (Day j, e, refl), λ q. q.1 ∙ ap (λ (r : Rule). Some r) q.2)
-
-pub turn_cited : (P : Instance) (t : Turn) (k : ℕ) → IsDayRule P t.day k ↔ IsCited P (TurnCites (Some t)) k
-turn_cited P t k = (λ e. (Day t.day, e, refl), λ q. q.1 ∙ ap (λ (r : Rule). Some r) q.2)
+pub day_cited : (P : Instance) (j : ℕ) → TellsCited P (λ r. r ≡ Day j) (IsDayRule P j)
+day_cited P j k = (λ e. (Day j, e, refl), λ q. q.1 ∙ ap (λ (r : Rule). Some r) q.2)
 
 -- weights
 
@@ -112,11 +109,15 @@ has_weight P y m e are is =
     let small : IsWeight e = subst IsWeight at.1 (are.small m e at.0) in
     (e.symbol.number, λ z. small.2 (sym w ∙ z))
 
+-- what makes a number that of a rule of the list or of a day of the weights
+abbrev pub ListedOrWeighed : Instance → List ℕ → List Weight → ℕ → Type 0
+ListedOrWeighed P R y k = Contains R k ⊎ IsWeighedDayRule P y k
+
 -- rules and weights make the rules of a list, and of the days of the weights
-abbrev ListsOrWeighs : Instance → List ℕ → List Weight → Rule → Type 0
+abbrev pub ListsOrWeighs : Instance → List ℕ → List Weight → Rule → Type 0
 ListsOrWeighs P R y r = Names P R r ⊎ ((j : ℕ) × HasWeight y j × (r ≡ Day j))
 
-weighed_cited : (P : Instance) (R : List ℕ) (y : List Weight) → AreRules P R → AreWeights y → (k : ℕ) → (Contains R k ⊎ IsWeighedDayRule P y k) ↔ IsCited P (ListsOrWeighs P R y) k
+pub weighed_cited : (P : Instance) (R : List ℕ) (y : List Weight) → AreRules P R → AreWeights y → TellsCited P (ListsOrWeighs P R y) (ListedOrWeighed P R y)
 weighed_cited P R y are small k = (
   λ h. ⊎_elim
       (λ (c : Contains R k). let q = named_cited P R k are c in (q.0, q.1, inl q.2))
@@ -130,26 +131,19 @@ weighed_cited P R y are small k = (
       q.2,
 )
 
--- what makes a number that of a rule of the list or of a day of the weights
-abbrev pub ListedOrWeighed : Instance → List ℕ → List Weight → ℕ → Type 0
-ListedOrWeighed P R y k = Contains R k ⊎ IsWeighedDayRule P y k
+-- the numbers that are added are those of the rules that are cited
+pub adds_cited : {T E : Type 0} (P : Instance) (Cited : Rule → Type 0) (A : ℕ → Type 0) (r : Result T E) (old new : List ℕ) → TellsCited P Cited A → OnOk r (Adds old new A) → OnOk r (Adds old new (IsCited P Cited))
+adds_cited P Cited A r old new tells = on_ok r (Adds old new A) (Adds old new (IsCited P Cited)) (λ h. adds_same old new A (IsCited P Cited) h tells)
 
-pub bound_cited : (P : Instance) (p turns : ℕ) (R : List ℕ) (y : List Weight) → LineFits P (Bound p turns R y) → TellsCited P (Bound p turns R y) (ListedOrWeighed P R y)
-bound_cited P p turns R y fits k = weighed_cited P R y fits.2 fits.3.0 k
+pub adds_some_cited : {T E : Type 0} (P : Instance) (Cited : Rule → Type 0) (A : ℕ → Type 0) (r : Result T E) (old new : List ℕ) → TellsCited P Cited A → OnErr r (AddsSome old new A) → OnErr r (AddsSome old new (IsCited P Cited))
+adds_some_cited P Cited A r old new tells = on_err r (AddsSome old new A) (AddsSome old new (IsCited P Cited)) (λ h. some_same old new A (IsCited P Cited) h tells)
 
-pub free_cited : (P : Instance) (turns reward : ℕ) (R : List ℕ) (y : List Weight) → FitsSomeLog P (Free turns reward R y) → TellsCited P (Free turns reward R y) (ListedOrWeighed P R y)
-free_cited P turns reward R y fits k = weighed_cited P R y fits.2 fits.3.0 k
-
--- the numbers that are added are those that a line cites, of a log with a goal or without
-cited_in_some : (P : Instance) (line base : Line) (A : ℕ → Type 0) → line ≡ base → (FitsSomeLog P base → TellsCited P base A) → FitsSomeLog P line → TellsCited P line A
-cited_in_some P line base A e f fits =
-    subst (λ (l : Line). TellsCited P l A) (sym e) (f (subst (FitsSomeLog P) e fits))
-
-pub adds_cited : {T E : Type 0} (P : Instance) (line base : Line) (A : ℕ → Type 0) (r : Result T E) (old new : List ℕ) → line ≡ base → (FitsSomeLog P base → TellsCited P base A) → FitsSomeLog P line → OnOk r (Adds old new A) → OnOk r (Adds old new (IsCited P (Cites P line)))
-adds_cited P line base A r old new e tells fits = on_ok r (Adds old new A) (Adds old new (IsCited P (Cites P line))) (λ h. adds_same old new A (IsCited P (Cites P line)) h (cited_in_some P line base A e tells fits))
-
-pub adds_some_cited : {T E : Type 0} (P : Instance) (line base : Line) (A : ℕ → Type 0) (r : Result T E) (old new : List ℕ) → line ≡ base → (FitsSomeLog P base → TellsCited P base A) → FitsSomeLog P line → OnErr r (AddsSome old new A) → OnErr r (AddsSome old new (IsCited P (Cites P line)))
-adds_some_cited P line base A r old new e tells fits = on_err r (AddsSome old new A) (AddsSome old new (IsCited P (Cites P line))) (λ h. some_same old new A (IsCited P (Cites P line)) h (cited_in_some P line base A e tells fits))
+-- where nothing is cited, nothing is added
+pub adds_none : (P : Instance) (Cited : Rule → Type 0) (old new : List ℕ) → ((r : Rule) → Cited r → ⊥) → new ≡ old → Adds old new (IsCited P Cited)
+adds_none P Cited old new none e k = (
+  λ c. inl (subst (λ R. Contains R k) e c),
+  λ h. ⊎_elim (λ (c : Contains old k). subst (λ R. Contains R k) (sym e) c) (λ (q : IsCited P Cited k). absurd (none q.0 q.2)) h,
+)
 
 -- names
 
@@ -179,16 +173,20 @@ weighed_numbered P R y fit r c =
     day_numbered P d.0 r (subst (IsDay P) e.4 day) d.2)
     c
 
-pub some_numbered : (P : Instance) (line : Line) → FitsSomeLog P line → (r : Rule) → Cites P line r → (k : ℕ) × (rule_of P k ≡ Some r)
-some_numbered P (Window number p len) fits r c = (c.0, c.2)
-some_numbered P (DayLeaf j x over) fits r c = day_numbered P j r fits.0 c
-some_numbered P (Dead p len R) fits r c = (c.0, c.2)
-some_numbered P (Bound p turns R y) fits r c = weighed_numbered P R y fits.3.1 r c
-some_numbered P (Free turns reward R y) fits r c = weighed_numbered P R y fits.3.1 r c
-some_numbered P line fits r c = absurd c
+pub list_and_claim_fit : (P : Instance) (goal : Option ℕ) (p : ℕ) (R : List ℕ) (claim : WordClaim) → WordsFit P goal p R claim → ListAndClaimFit P R claim
+list_and_claim_fit P goal p R (Dead len) fits = fits.2
+list_and_claim_fit P goal p R (Light turns reward y) fits = (fits.2, fits.3)
 
-pub line_numbered : (P : Instance) (line : Line) → LineFits P line → (r : Rule) → Cites P line r → (k : ℕ) × (rule_of P k ≡ Some r)
-line_numbered P line fits = some_numbered P line (fits_some P None line fits)
+words_numbered : (P : Instance) (goal : Option ℕ) (p : ℕ) (R : List ℕ) (claim : WordClaim) → WordsFit P goal p R claim → (r : Rule) → WordsCite P R claim r → (k : ℕ) × (rule_of P k ≡ Some r)
+words_numbered P goal p R (Dead len) fits r c = (c.0, c.2)
+words_numbered P goal p R (Light turns reward y) fits r c = weighed_numbered P R y fits.3.1 r c
 
-pub turn_numbered : (P : Instance) (t : Turn) → IsDay P t.day → (r : Rule) → TurnCites (Some t) r → (k : ℕ) × (rule_of P k ≡ Some r)
-turn_numbered P t is r c = day_numbered P t.day r is c
+pub line_numbered : (P : Instance) (goal : Option ℕ) (line : Line) → LineFits P goal line → (r : Rule) → Cites P line r → (k : ℕ) × (rule_of P k ≡ Some r)
+line_numbered P goal (Closing (Window number p len)) fits r c = (c.0, c.2)
+line_numbered P goal (Closing (DayLeaf j x over)) fits r c = day_numbered P j r fits.0 c
+line_numbered P goal (Closing (Words p R claim)) fits r c = words_numbered P goal p R claim fits r c
+line_numbered P goal line fits r c = absurd c
+
+pub opening_numbered : (P : Instance) (o : Opening) → OpeningFits P o → (r : Rule) → OpeningCites o r → (k : ℕ) × (rule_of P k ≡ Some r)
+opening_numbered P Full fits r c = absurd c
+opening_numbered P (Turned t) fits r c = day_numbered P t.day r fits.0 c

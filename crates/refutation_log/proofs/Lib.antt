@@ -8,7 +8,6 @@ pub mod WeightsRead
 pub mod LineTexts
 pub mod HeaderTexts
 pub mod LogLines
-pub mod Named
 pub mod HeaderLines
 pub mod OneText
 pub mod OneCause

@@ -17,12 +17,12 @@ use Rattle.rwsp_model.specs.declared.fail.Fail.{Fail}
 use Rattle.rwsp_model.specs.declared.fail.Fail.TheVariants.{Refused, Memory}
 use Rattle.rwsp_model.proofs.Numbering.{rules_are_many}
 use Rattle.refutation_terms.specs.declared.lines.Line.{Line}
-use Rattle.refutation_terms.specs.LogText.{RawLine, RawDead, RawBound, RawFew, RawFree, RawUnfinished, IsWrittenFor, raw_fields, line_of, WeightsAscend}
-use Rattle.refutation_terms.specs.LineKinds.{kinds_for, most_turns, split_kind, window_kind, day_kind, dead_kind, bound_kind, free_kind}
-use Rattle.refutation_terms.specs.Verdict.{SpellsFor}
+use Rattle.refutation_terms.specs.LogText.{RawLine, RawDead, RawBound, RawFew, RawFree, RawUnfinished, IsWritten, raw_fields, line_of, WeightsAscend}
+use Rattle.refutation_terms.specs.LineKinds.{line_kinds, most_turns, split_kind, window_kind, day_kind, dead_kind, bound_kind, free_kind}
+use Rattle.refutation_terms.specs.Verdict.{Spells}
 use Rattle.refutation_terms.specs.TextLaws.{IsWritable}
-use Rattle.refutation_terms.proofs.LineTables.{readable_for, line_for, found_for, line_words_for}
-use Rattle.refutation_log.specs.Refusals.{IsLineRefusedFor}
+use Rattle.refutation_terms.proofs.LineTables.{lines_readable, raw_line, raw_found, raw_words}
+use Rattle.refutation_log.specs.Refusals.{IsLineRefused}
 use Rattle.refutation_log.specs.declared.refusal.LineRefusal.{LineRefusal}
 use Rattle.refutation_log.specs.declared.refusal.LineRefusal.TheVariants.{Form, Name}
 use Rattle.refutation_log.specs.Reading.{head_at, free_head_at, rules_in, all_weights_at, weighed_at, split_at, window_at, day_at, dead_at, bound_at, free_at, without_goal_at, with_goal_at, raw_at, Answers}
@@ -93,7 +93,7 @@ with_dead P w ws dead own =
     (cond (bytes_eq w (codes "day")) (read (day_kind P).fields (day_kind P).make ws)
     (cond (bytes_eq w (codes "dead")) dead own)))
 
-pub raw_is : (P : Instance) (goal : Option ℕ) (ws : Words) → raw_at P goal ws ≡ read_line (kinds_for P goal) ws
+pub raw_is : (P : Instance) (goal : Option ℕ) (ws : Words) → raw_at P goal ws ≡ read_line (line_kinds P goal) ws
 unfolding raw_at without_goal_at with_goal_at read_line split_at window_at day_at
 raw_is P None [] = refl
 raw_is P (Some goal) [] = refl
@@ -105,26 +105,26 @@ raw_is P (Some goal) (w ∷ ws) =
     ∙ ap (λ f. with_dead P w ws (read (dead_kind P).fields (dead_kind P).make ws) (cond (bytes_eq w (codes "few")) (done_at RawFew ws) (cond (bytes_eq w (codes "free")) f (cond (bytes_eq w (codes "open")) (done_at RawUnfinished ws) None)))) (free_is P ws)
 
 -- what is written is read
-pub written_read : (P : Instance) (goal : Option ℕ) (bytes body : List ℕ) (raw : RawLine) → IsWritable P → bytes ≡ body ++ 10 ∷ [] → IsWrittenFor P goal bytes raw → read_line (kinds_for P goal) (words_of body) ≡ Some raw
+pub written_read : (P : Instance) (goal : Option ℕ) (bytes body : List ℕ) (raw : RawLine) → IsWritable P → bytes ≡ body ++ 10 ∷ [] → IsWritten P goal bytes raw → read_line (line_kinds P goal) (words_of body) ≡ Some raw
 written_read P goal bytes body raw s e h =
-    ap (read_line (kinds_for P goal)) (text_words bytes body (raw_fields P raw) (line_words_for P goal raw s h.in_range) e h.spelled)
-    ∙ line_only (kinds_for P goal) (raw_fields P raw) raw (readable_for P goal s) (line_for P goal raw h.in_range)
+    ap (read_line (line_kinds P goal)) (text_words bytes body (raw_fields P raw) (raw_words P goal raw s h.in_range) e h.spelled)
+    ∙ line_only (line_kinds P goal) (raw_fields P raw) raw (lines_readable P goal s) (raw_line P goal raw h.in_range)
 
-pub read_written : (P : Instance) (goal : Option ℕ) (bytes body : List ℕ) (raw : RawLine) → bytes ≡ body ++ 10 ∷ [] → read_line (kinds_for P goal) (words_of body) ≡ Some raw → IfSome (line_of P raw) WeightsAscend → IsWrittenFor P goal bytes raw
+pub read_written : (P : Instance) (goal : Option ℕ) (bytes body : List ℕ) (raw : RawLine) → bytes ≡ body ++ 10 ∷ [] → read_line (line_kinds P goal) (words_of body) ≡ Some raw → IfSome (line_of P raw) WeightsAscend → IsWritten P goal bytes raw
 read_written P goal bytes body raw e h up =
-    let f = found_for P goal (words_of body) raw (line_found (kinds_for P goal) (words_of body) raw h) in
+    let f = raw_found P goal (words_of body) raw (line_found (line_kinds P goal) (words_of body) raw h) in
     record { spelled = words_text bytes body (raw_fields P raw) e f.0; in_range = f.1; ascends = up }
 
-answer_by : (P : Instance) (goal : Option ℕ) (bytes body : List ℕ) (o : Option RawLine) (result : Result Line (Fail LineRefusal)) → IsWritable P → bytes ≡ body ++ 10 ∷ [] → read_line (kinds_for P goal) (words_of body) ≡ o → Answers P o result → MatchAnswer result (SpellsFor P goal bytes) (IsLineRefusedFor P goal bytes)
+answer_by : (P : Instance) (goal : Option ℕ) (bytes body : List ℕ) (o : Option RawLine) (result : Result Line (Fail LineRefusal)) → IsWritable P → bytes ≡ body ++ 10 ∷ [] → read_line (line_kinds P goal) (words_of body) ≡ o → Answers P o result → MatchAnswer result (Spells P goal bytes) (IsLineRefused P goal bytes)
 answer_by P goal bytes body None (Ok line) s e r a = absurd a
 answer_by P goal bytes body (Some raw) (Ok line) s e r a =
     (raw, read_written P goal bytes body raw e r (subst (λ o. IfSome o WeightsAscend) (sym a.0) a.1), a.0)
 answer_by P goal bytes body o (Err Memory) s e r a = tt
 answer_by P goal bytes body None (Err (Refused Form)) s e r a =
-    λ raw h. let w : read_line (kinds_for P goal) (words_of body) ≡ Some raw = written_read P goal bytes body raw s e h in absurd (cc)
+    λ raw h. let w : read_line (line_kinds P goal) (words_of body) ≡ Some raw = written_read P goal bytes body raw s e h in absurd (cc)
 answer_by P goal bytes body (Some raw) (Err (Refused Form)) s e r a =
     λ other h.
-    let w : read_line (kinds_for P goal) (words_of body) ≡ Some other = written_read P goal bytes body other s e h in
+    let w : read_line (line_kinds P goal) (words_of body) ≡ Some other = written_read P goal bytes body other s e h in
     let same : other ≡ raw = let z : Some other ≡ Some raw = sym w ∙ r in cc in
     let up : IfSome (line_of P raw) WeightsAscend = subst (λ q. IfSome (line_of P q) WeightsAscend) same h.ascends in
     let up' : IfSome (Some a.0) WeightsAscend = subst (λ o. IfSome o WeightsAscend) a.1 up in
@@ -133,11 +133,11 @@ answer_by P goal bytes body None (Err (Refused Name)) s e r a = absurd a
 answer_by P goal bytes body (Some raw) (Err (Refused Name)) s e r a =
     (raw, read_written P goal bytes body raw e r (subst (λ o. IfSome o WeightsAscend) (sym a) tt), a)
 
-pub line_answered : (P : Instance) (goal : Option ℕ) (bytes body : List ℕ) (result : Result Line (Fail LineRefusal)) → KeepsLimits P → bytes ≡ body ++ 10 ∷ [] → Answers P (raw_at P goal (words_of body)) result → MatchAnswer result (SpellsFor P goal bytes) (IsLineRefusedFor P goal bytes)
+pub line_answered : (P : Instance) (goal : Option ℕ) (bytes body : List ℕ) (result : Result Line (Fail LineRefusal)) → KeepsLimits P → bytes ≡ body ++ 10 ∷ [] → Answers P (raw_at P goal (words_of body)) result → MatchAnswer result (Spells P goal bytes) (IsLineRefused P goal bytes)
 line_answered P goal bytes body result k e a =
-    answer_by P goal bytes body (read_line (kinds_for P goal) (words_of body)) result (is_writable P k) e refl (subst (λ o. Answers P o result) (raw_is P goal (words_of body)) a)
+    answer_by P goal bytes body (read_line (line_kinds P goal) (words_of body)) result (is_writable P k) e refl (subst (λ o. Answers P o result) (raw_is P goal (words_of body)) a)
 
-pub no_feed_no_line : (P : Instance) (goal : Option ℕ) (bytes : List ℕ) → ((body : List ℕ) → bytes ≢ body ++ 10 ∷ []) → IsLineRefusedFor P goal bytes Form
+pub no_feed_no_line : (P : Instance) (goal : Option ℕ) (bytes : List ℕ) → ((body : List ℕ) → bytes ≢ body ++ 10 ∷ []) → IsLineRefused P goal bytes Form
 no_feed_no_line P goal bytes none = λ raw h. none (join_with_byte 32 (raw_fields P raw)) h.spelled
 
 pub small_from : (P : Instance) → KeepsLimits P → IsWritable P

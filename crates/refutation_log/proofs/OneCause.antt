@@ -1,30 +1,32 @@
 -- A text that is refused by reading has one cause, and the text of a whole log has none.
-use Rattle.std.proofs.Common.{◌≡◌, ℕ, ◌+◌, ◌<◌, List, [], ◌∷◌, ◌++◌, length, take, refl, ap, sym, ◌∙◌, subst, arith, inl, inr, Some, None, length-append}
+use Rattle.std.proofs.Common.{◌≡◌, ℕ, ◌+◌, ◌<◌, List, [], ◌∷◌, ◌++◌, length, take, refl, ap, sym, ◌∙◌, subst, arith, inl, inr, Option, Some, None, length-append}
 use Rattle.std.proofs.Math.Seq.{take-append_seam}
 use Rattle.rwsp_text.specs.Lines.{AreFronts}
 use Rattle.rwsp_terms.specs.Instance.{Instance, name_of, symbol_of}
 use Rattle.rwsp_model.specs.Validity.{KeepsLimits}
+use Rattle.refutation_terms.specs.declared.lines.LogKind.{LogKind}
 use Rattle.refutation_terms.specs.declared.lines.Line.{Line}
 use Rattle.refutation_terms.specs.declared.lines.Turn.{Turn}
+use Rattle.refutation_terms.specs.declared.lines.Opening.TheVariants.{Turned}
 use Rattle.refutation_terms.specs.declared.lines.LogRefusal.{LogRefusal}
 use Rattle.refutation_terms.specs.declared.lines.LogRefusal.TheVariants as Refusals
 use Rattle.refutation_terms.specs.Word.{Domains}
 use Rattle.refutation_terms.specs.Tree.{IsTree, after_trees, lines_in, domains_at}
-use Rattle.refutation_terms.specs.Log.{Log, Fits, LineFits, TurnFits}
+use Rattle.refutation_terms.specs.Log.{Log, Fits, LineFits, OpeningFits, GoalFits}
 use Rattle.refutation_terms.specs.LogText.{raw, line_text, log_text, turn_text}
-use Rattle.refutation_terms.specs.Verdict.{Reading, front_text, IsWhole, header_lines}
+use Rattle.refutation_terms.specs.Verdict.{kind_by, Reading, header_lines}
 use Rattle.refutation_terms.proofs.Spelled.{fitting_lines_are_spelled}
 use Rattle.refutation_terms.proofs.Trees.{tree_is_whole, part_is_not_whole}
-use Rattle.refutation_terms.proofs.Fronts.{front_fields, front_written, fronts}
+use Rattle.refutation_terms.proofs.Fronts.{front_fields, fronts}
 use Rattle.refutation_terms.proofs.Causes.{not_unknown, Reason, OfName, OfIdle, OfLong, OfFail, OfEscape, OfOpen, Level, Nothing, Unknown, Known, level_of, turns_same, TurnReason, NoTurn, NoName, NoDay, NoDemand, turn_reason}
 use Rattle.refutation_terms.proofs.OneRefusal.{IsAtEndOrLine, refusals_same, whole_has_none}
-use Rattle.refutation_terms.proofs.Unique.{got_seam, version_refutes, rules_refutes, cause_same}
+use Rattle.refutation_terms.proofs.Unique.{got_seam, version_refutes, rules_refutes, goal_refutes, cause_same}
 use Rattle.refutation_log.specs.ReadLog.{IsReadCause, IsReadSoFar, IsRead, ReadCause, IsUnread}
 use Rattle.refutation_log.specs.Laws.{UnreadTextsHaveOneCause, TextsOfLogsAreRead}
 use Rattle.refutation_log.proofs.OneText.{is_writable, has_names}
 
 -- the line of a turn that fits has none
-turn_fine : (P : Instance) (R : List ℕ) (t : Turn) (why : LogRefusal) → KeepsLimits P → TurnFits P (Some t) → TurnReason P R (turn_text (name_of P t.x) t.day) why → IsReadCause why → ⊥
+turn_fine : (P : Instance) (R : List ℕ) (t : Turn) (why : LogRefusal) → KeepsLimits P → OpeningFits P (Turned t) → TurnReason P R (turn_text (name_of P t.x) t.day) why → IsReadCause why → ⊥
 turn_fine P R t why limits fits (NoTurn a e) r = a (name_of P t.x) t.day ((has_names P limits t.x fits.1).0, fits.0, refl)
 turn_fine P R t why limits fits (NoName name day a s e) r =
     let n = has_names P limits t.x fits.1 in
@@ -34,47 +36,48 @@ turn_fine P R t why limits fits (NoDay name day x k a s l e) r = subst IsReadCau
 turn_fine P R t why limits fits (NoDemand name day x a s d l e) r = subst IsReadCause e r
 
 -- a line that is spelled has none
-no_reason : (P : Instance) (R : List ℕ) (D : Domains) (n : ℕ) (line : Line) (why : LogRefusal) → Reason P R D n line why → IsReadCause why → ⊥
-no_reason P R D n line why (OfName k a e) r = subst IsReadCause e r
-no_reason P R D n line why (OfIdle i e) r = subst IsReadCause e r
-no_reason P R D n line why (OfLong all k a e) r = subst IsReadCause e r
-no_reason P R D n line why (OfFail all plain not e) r = subst IsReadCause e r
-no_reason P R D n line why (OfEscape all short u a e) r = subst IsReadCause e r
-no_reason P R D n line why (OfOpen o e) r = subst IsReadCause e r
+no_reason : (P : Instance) (goal : Option ℕ) (R : List ℕ) (D : Domains) (n : ℕ) (line : Line) (why : LogRefusal) → Reason P goal R D n line why → IsReadCause why → ⊥
+no_reason P goal R D n line why (OfName k a e) r = subst IsReadCause e r
+no_reason P goal R D n line why (OfIdle i e) r = subst IsReadCause e r
+no_reason P goal R D n line why (OfLong all k a e) r = subst IsReadCause e r
+no_reason P goal R D n line why (OfFail all plain not e) r = subst IsReadCause e r
+no_reason P goal R D n line why (OfEscape all short u a e) r = subst IsReadCause e r
+no_reason P goal R D n line why (OfOpen o e) r = subst IsReadCause e r
 
-level_fine : (P : Instance) (R : List ℕ) (D : Domains) (n : ℕ) (line : Line) (why : LogRefusal) → KeepsLimits P → LineFits P line → Level P R D n (line_text P (raw P line)) why → IsReadCause why → ⊥
-level_fine P R D n line why limits fits (Nothing a e) r = let s = fitting_lines_are_spelled P line (has_names P limits) fits in a s.0 s.1
-level_fine P R D n line why limits fits (Unknown a e) r = not_unknown P (line_text P (raw P line)) line (is_writable P limits) (fitting_lines_are_spelled P line (has_names P limits) fits) a
-level_fine P R D n line why limits fits (Known other a q) r = no_reason P R D n other why q r
+level_fine : (P : Instance) (goal : Option ℕ) (R : List ℕ) (D : Domains) (n : ℕ) (line : Line) (why : LogRefusal) → KeepsLimits P → LineFits P goal line → Level P goal R D n (line_text P (raw P goal line)) why → IsReadCause why → ⊥
+level_fine P goal R D n line why limits fits (Nothing a e) r = let s = fitting_lines_are_spelled P goal line (has_names P limits) fits in a s.0 s.1
+level_fine P goal R D n line why limits fits (Unknown a e) r = not_unknown P goal (line_text P (raw P goal line)) line (is_writable P limits) (fitting_lines_are_spelled P goal line (has_names P limits) fits) a
+level_fine P goal R D n line why limits fits (Known other a q) r = no_reason P goal R D n other why q r
 
-line_fine : (P : Instance) (f : Log) (line : Line) (more : List Line) (why : LogRefusal) → KeepsLimits P → IsReadSoFar P (record { named = f.named; turn = f.turn; goal = f.goal; lines = f.lines ++ line ∷ more }) → ReadCause P (Reading f) (line_text P (raw P line)) why → ⊥
-line_fine P f line more why limits h (inl c, r) =
+line_fine : (P : Instance) (kind : LogKind) (f : Log) (line : Line) (more : List Line) (why : LogRefusal) → KeepsLimits P → IsReadSoFar P (record { named = f.named; opening = f.opening; goal = f.goal; lines = f.lines ++ line ∷ more }) → ReadCause P kind (Reading f) (line_text P (raw P f.goal line)) why → ⊥
+line_fine P kind f line more why limits h (inl c, r) =
     let short : length f.lines < length (f.lines ++ line ∷ more) = omega (arith, length-append f.lines (line ∷ more)) in
     h.in_tree (length f.lines) short (subst IsTree (sym (take-append_seam f.lines (line ∷ more))) c.0)
-line_fine P f line more why limits h (inr c, r) =
-    let n = header_lines f.turn + length f.lines + 1 in
-    let D = domains_at P f.turn f.lines (length f.lines) in
-    level_fine P f.named D n line why limits (h.fits.lines (length f.lines) line (got_seam f.lines more line)) (level_of P f.named D n (line_text P (raw P line)) why c.1) r
+line_fine P kind f line more why limits h (inr c, r) =
+    let n = header_lines f.opening f.goal + length f.lines + 1 in
+    let D = domains_at P f.opening f.lines (length f.lines) in
+    level_fine P f.goal f.named D n line why limits (h.fits.lines (length f.lines) line (got_seam f.lines more line)) (level_of P f.goal f.named D n (line_text P (raw P f.goal line)) why c.1) r
 
-read_fronts : (P : Instance) → KeepsLimits P → AreFronts (front_fields P) (IsRead P) (ReadCause P)
-read_fronts P limits =
+read_fronts : (P : Instance) (kind : LogKind) → KeepsLimits P → AreFronts (front_fields P) (IsRead P kind) (ReadCause P kind)
+read_fronts P kind limits =
     let w = is_writable P limits in
     let n = has_names P limits in
-    fronts P w n (IsRead P) (λ R h. h) (λ g h. h.fits) (ReadCause P)
-    (λ b why c. version_refutes b why c.0)
-    (λ b R why are c. rules_refutes P R why are c.0)
-    (λ g t why h is_turn c. turn_fine P g.named t why limits (subst (TurnFits P) is_turn h.fits.turn) (turn_reason P g.named (turn_text (name_of P t.x) t.day) why c.0) c.1)
-    (λ f line more why h c. line_fine P f line more why limits h c)
-    (λ F line why other a b. cause_same P F line why other w n a.0 b.0)
+    fronts P w n kind (IsRead P kind) (λ F h. h.0) (λ R h. h.1) (λ R h. h.1) (λ g h. h.1.fits) (ReadCause P kind)
+    (λ v why of c. version_refutes kind v why of c.0)
+    (λ v R why are c. rules_refutes P R why are c.0)
+    (λ g t why h is_turn c. turn_fine P g.named t why limits (subst (OpeningFits P) is_turn h.1.fits.opening) (turn_reason P g.named (turn_text (name_of P t.x) t.day) why c.0) c.1)
+    (λ g goal why h is_goal c. let fits : GoalFits P g.opening (Some goal) = subst (GoalFits P g.opening) is_goal h.1.fits.goal in goal_refutes P goal why fits.2 c.0)
+    (λ f line more why h c. line_fine P kind f line more why limits h.1 c)
+    (λ F line why other a b. cause_same P kind F line why other w n a.0 b.0)
 
 -- a refusal is at the end or at a line
-end_or_line : (P : Instance) (text : List ℕ) (why : LogRefusal) → IsUnread P text why → IsAtEndOrLine (front_text P) (IsRead P) (ReadCause P) IsWhole text why
-end_or_line P text Refusals.Ends h = inl (h, refl)
-end_or_line P text why h = inr h
+end_or_line : (P : Instance) (kind : LogKind) (text : List ℕ) (why : LogRefusal) → IsUnread P kind text why → IsAtEndOrLine P (IsRead P kind) (ReadCause P kind) text why
+end_or_line P kind text Refusals.Ends h = inl (h, refl)
+end_or_line P kind text why h = inr h
 
 pub one_cause : UnreadTextsHaveOneCause
-one_cause P text why other limits a b =
-    refusals_same (front_text P) (IsRead P) (ReadCause P) IsWhole (front_fields P) (front_written P) (read_fronts P limits) text why other (end_or_line P text why a) (end_or_line P text other b)
+one_cause P kind text why other limits a b =
+    refusals_same P (IsRead P kind) (ReadCause P kind) (read_fronts P kind limits) text why other (end_or_line P kind text why a) (end_or_line P kind text other b)
 
 -- a whole log that fits is read
 whole_read : (P : Instance) (g : Log) → Fits P g → IsTree g.lines → IsReadSoFar P g
@@ -89,5 +92,5 @@ whole_read P g fits tree = record {
 
 pub texts_read : TextsOfLogsAreRead
 texts_read P g why limits fits tree u =
-    whole_has_none (front_text P) (IsRead P) (ReadCause P) IsWhole (front_fields P) (front_written P) (read_fronts P limits)
-    (log_text P g) (Reading g) why (whole_read P g fits tree) tree refl (end_or_line P (log_text P g) why u)
+    let kind = kind_by g.goal in
+    whole_has_none P (IsRead P kind) (ReadCause P kind) (read_fronts P kind limits) (log_text P g) (Reading g) why (refl, whole_read P g fits tree) tree refl (end_or_line P kind (log_text P g) why u)

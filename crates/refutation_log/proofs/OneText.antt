@@ -1,20 +1,20 @@
 -- Symbols have names, and no two lists of lines have one text.
-use Rattle.std.proofs.Common.{◌≡◌, ◌≢◌, ℕ, ◌≤◌, List, [], ◌∷◌, ◌++◌, length, refl, ap, sym, ◌∙◌, subst, append-nil, None, false}
+use Rattle.std.proofs.Common.{◌≡◌, ◌≢◌, ℕ, ◌≤◌, List, [], ◌∷◌, ◌++◌, length, refl, ap, sym, ◌∙◌, subst, append-nil, Option, false}
 use Rattle.std.specs.List.{join_with_byte}
 use Rattle.std.proofs.lemmas.List.Elements.{All-weaker}
 use Rattle.rwsp_text.specs.Fields.{Words, IsName}
 use Rattle.rwsp_text.specs.Kinds.{AreBlankless}
-use Rattle.rwsp_text.specs.Lines.{HasNoFeed, text_of_lines}
+use Rattle.rwsp_text.specs.Lines.{HasNoFeed}
 use Rattle.rwsp_text.proofs.LineLaws.{join_no_feed, same_lines}
 use Rattle.rwsp_terms.specs.Instance.{Instance, name_numbered}
 use Rattle.rwsp_model.proofs.Names.{symbol_named, symbol_word}
 use Rattle.rwsp_model.specs.Validity.{KeepsLimits, breaks_name}
 use Rattle.refutation_terms.specs.declared.lines.Line.{Line}
 use Rattle.refutation_terms.specs.Log.{LineFits}
-use Rattle.refutation_terms.specs.LogText.{raw, raw_fields, line_text}
+use Rattle.refutation_terms.specs.LogText.{raw, raw_fields, lines_text}
 use Rattle.refutation_terms.specs.TextLaws.{HasNames, IsWritable}
-use Rattle.refutation_terms.proofs.Texts.{lines_fields, line_words, lines_words, lines_longer}
-use Rattle.refutation_log.specs.Printing.{lines_text, EachFits}
+use Rattle.refutation_terms.proofs.Texts.{lines_fields, lines_written, line_words, lines_words, lines_longer}
+use Rattle.refutation_log.specs.Printing.{EachFits}
 use Rattle.refutation_log.proofs.LineTexts as LineTexts
 
 -- the symbol of a name
@@ -40,27 +40,23 @@ is_writable P limits = LineTexts.is_writable P limits
 
 -- texts of lines
 
-abbrev pub body : Instance → Line → List ℕ
-body P line = join_with_byte 32 (raw_fields P (raw P line))
+abbrev pub body : Instance → Option ℕ → Line → List ℕ
+body P goal line = join_with_byte 32 (raw_fields P (raw P goal line))
 
 pub feedless_words : (ws : Words) → AreBlankless ws → HasNoFeed (join_with_byte 32 ws)
 feedless_words ws h = join_no_feed ws h
 
-pub body_feedless : (P : Instance) (line : Line) → KeepsLimits P → LineFits P line → HasNoFeed (body P line)
-body_feedless P line limits f = join_no_feed (raw_fields P (raw P line)) (line_words P None line (is_writable P limits) (has_names P limits) f).1
+pub body_feedless : (P : Instance) (goal : Option ℕ) (line : Line) → KeepsLimits P → LineFits P goal line → HasNoFeed (body P goal line)
+body_feedless P goal line limits f = join_no_feed (raw_fields P (raw P goal line)) (line_words P goal line (is_writable P limits) (has_names P limits) f).1
 
-written : (P : Instance) (ls : List Line) → lines_text P ls ≡ text_of_lines (lines_fields P ls)
-written P [] = refl
-written P (l ∷ ls) = ap (λ t. line_text P (raw P l) ++ t) (written P ls)
-
-pub one_list : (P : Instance) (ls ms : List Line) → KeepsLimits P → EachFits P ls → EachFits P ms → lines_text P ls ≡ lines_text P ms → ls ≡ ms
-one_list P ls ms limits f g e =
+pub one_list : (P : Instance) (goal : Option ℕ) (ls ms : List Line) → KeepsLimits P → EachFits P goal ls → EachFits P goal ms → lines_text P goal ls ≡ lines_text P goal ms → ls ≡ ms
+one_list P goal ls ms limits f g e =
     let w = is_writable P limits in
     let n = has_names P limits in
-    let words = same_lines (lines_fields P ls) (lines_fields P ms) (lines_words P None ls w n f) (lines_words P None ms w n g) (sym (written P ls) ∙ e ∙ written P ms) in
-    let longer = lines_longer P None ms ls [] w n g f (words ∙ sym (append-nil (lines_fields P ms))) in
+    let words = same_lines (lines_fields P goal ls) (lines_fields P goal ms) (lines_words P goal ls w n f) (lines_words P goal ms w n g) (sym (lines_written P goal ls) ∙ e ∙ lines_written P goal ms) in
+    let longer = lines_longer P goal ms ls [] w n g f (words ∙ sym (append-nil (lines_fields P goal ms))) in
     longer.1 ∙ ap (λ z. ms ++ z) (nothing longer.0 longer.2) ∙ append-nil ms
   where
-    nothing : (more : List Line) → [] ≡ lines_fields P more → more ≡ []
+    nothing : (more : List Line) → [] ≡ lines_fields P goal more → more ≡ []
     nothing [] e = refl
     nothing (l ∷ ls) e = absurd (cc)

@@ -1,5 +1,5 @@
 -- The texts of lines, piece by piece.
-use Rattle.std.proofs.Common.{◌≡◌, ℕ, ◌+◌, ◌<◌, ◌≤◌, List, [], ◌∷◌, ◌++◌, length, take, get_or, map, Bool, refl, ap, sym, ◌∙◌, append_assoc}
+use Rattle.std.proofs.Common.{◌≡◌, ℕ, ◌+◌, ◌<◌, ◌≤◌, List, [], ◌∷◌, ◌++◌, length, take, get_or, Bool, refl, Option, Some, None, ap, sym, ◌∙◌, append_assoc}
 use Rattle.std.specs.Prelude.{codes}
 use Rattle.std.specs.List.{join_with_byte, flat_map}
 use Rattle.std.specs.Fmt.{decimal}
@@ -8,10 +8,10 @@ use Rattle.std.proofs.lemmas.List.Concat.{flat_map-append}
 use Rattle.rwsp_terms.specs.declared.data.Weight.{Weight}
 use Rattle.rwsp_terms.specs.Instance.{Instance}
 use Rattle.refutation_terms.specs.declared.lines.Line.{Line}
-use Rattle.refutation_terms.specs.LogText.{RawSplit, RawWindow, RawDay, RawDead, RawBound, RawFree, raw, raw_fields, line_text, place_words, way, named_weight, rules_text, goal_text, turn_text}
+use Rattle.refutation_terms.specs.LogText.{RawSplit, RawWindow, RawDay, RawDead, raw, raw_light, raw_fields, line_text, lines_text, place_words, way, named_weight, rules_text, goal_text, turn_text}
 use Rattle.rwsp_text.specs.Fields.{numbers, weight_fields}
 use Rattle.rwsp_text.proofs.JoinedWords.{join_spaced}
-use Rattle.refutation_log.specs.Printing.{spaced, lines_text, weight_words}
+use Rattle.refutation_log.specs.Printing.{spaced, weight_words, light_head, weighed_words}
 
 pub spaced-append : (ws vs : List (List ℕ)) → spaced (ws ++ vs) ≡ spaced ws ++ spaced vs
 spaced-append ws vs = flat_map-append (λ (w : List ℕ). 32 ∷ w) ws vs
@@ -44,12 +44,12 @@ spaced_weights P [] = refl
 spaced_weights P (e ∷ y) =
     ap (λ t. weight_piece P e ++ t) (spaced_weights P y) ∙ sym (spaced-append (weight_fields (named_weight P e)) (weight_words P y))
 
-abbrev pub line_piece : Instance → Line → List ℕ
-line_piece P line = line_text P (raw P line)
+abbrev pub line_piece : Instance → Option ℕ → Line → List ℕ
+line_piece P goal line = line_text P (raw P goal line)
 
-pub joined_lines : (P : Instance) (lines : List Line) → flat_map (line_piece P) lines ≡ lines_text P lines
-joined_lines P [] = refl
-joined_lines P (line ∷ lines) = ap (λ t. line_piece P line ++ t) (joined_lines P lines)
+pub joined_lines : (P : Instance) (goal : Option ℕ) (lines : List Line) → flat_map (line_piece P goal) lines ≡ lines_text P goal lines
+joined_lines P goal [] = refl
+joined_lines P goal (line ∷ lines) = ap (λ t. line_piece P goal line ++ t) (joined_lines P goal lines)
 
 -- a text that begins with a word, and continues with words that have a blank in front
 begin : (a w b : List ℕ) → b ≡ a ++ w → b ≡ a ++ (w ++ spaced [])
@@ -94,31 +94,33 @@ dead_text P p len R a b c d e f q r s t u =
     finish a w (vs ++ numbers R) f
     (more a w vs (numbers R) e f (word a w ws (codes "rules") d e (word a w (place_words P p) (decimal len) c d (more a w [] (place_words P p) b c (begin a w b q) r) s) t) u)
 
-pub bound_text : (P : Instance) (p turns : ℕ) (R : List ℕ) (y : List Weight) (a b c d e f g h : List ℕ) → b ≡ a ++ codes "bound" → c ≡ b ++ spaced (place_words P p) → d ≡ c ++ 32 ∷ decimal turns → e ≡ d ++ 32 ∷ codes "rules" → f ≡ e ++ spaced (numbers R) → g ≡ f ++ 32 ∷ codes "weights" → h ≡ g ++ spaced (weight_words P y) → h ≡ a ++ join_with_byte 32 (raw_fields P (RawBound p turns R (map (named_weight P) y)))
-bound_text P p turns R y a b c d e f g h q r s t u v x =
+pub bound_head_text : (P : Instance) (p turns reward : ℕ) (a b c d : List ℕ) → b ≡ a ++ codes "bound" → c ≡ b ++ spaced (place_words P p) → d ≡ c ++ 32 ∷ decimal turns → d ≡ a ++ join_with_byte 32 (light_head P None p turns reward)
+bound_head_text P p turns reward a b c d q r s =
+    let w = codes "bound" in
+    finish a w (place_words P p ++ (decimal turns ∷ [])) d (word a w (place_words P p) (decimal turns) c d (more a w [] (place_words P p) b c (begin a w b q) r) s)
+
+pub free_head_text : (P : Instance) (goal p turns reward : ℕ) (a b c d : List ℕ) → b ≡ a ++ codes "free" → c ≡ b ++ 32 ∷ decimal turns → d ≡ c ++ 32 ∷ decimal reward → d ≡ a ++ join_with_byte 32 (light_head P (Some goal) p turns reward)
+free_head_text P goal p turns reward a b c d q r s =
+    let w = codes "free" in
+    finish a w (decimal turns ∷ decimal reward ∷ []) d (word a w (decimal turns ∷ []) (decimal reward) c d (word a w [] (decimal turns) b c (begin a w b q) r) s)
+
+-- the rules and the weights behind it
+pub weighed_text : (P : Instance) (R : List ℕ) (y : List Weight) (a b c d e : List ℕ) → b ≡ a ++ 32 ∷ codes "rules" → c ≡ b ++ spaced (numbers R) → d ≡ c ++ 32 ∷ codes "weights" → e ≡ d ++ spaced (weight_words P y) → e ≡ a ++ spaced (weighed_words P R y)
+weighed_text P R y a b c d e q r s t =
+    let w : List ℕ = 32 ∷ codes "rules" in
+    let us : List (List ℕ) = numbers R ++ (codes "weights" ∷ []) in
+    more a w us (weight_words P y) d e (word a w (numbers R) (codes "weights") c d (more a w [] (numbers R) b c (begin a w b q) r) s) t
+    ∙ ap (λ vs. a ++ (w ++ spaced vs)) (append_assoc (numbers R) (codes "weights" ∷ []) (weight_words P y))
+
+pub light_text : (P : Instance) (goal : Option ℕ) (p turns reward : ℕ) (R : List ℕ) (y : List Weight) (a b c : List ℕ) → b ≡ a ++ join_with_byte 32 (light_head P goal p turns reward) → c ≡ b ++ spaced (weighed_words P R y) → c ≡ a ++ join_with_byte 32 (raw_fields P (raw_light P goal p turns reward R y))
+light_text P None p turns reward R y a b c e f =
     let w = codes "bound" in
     let ws : List (List ℕ) = place_words P p ++ (decimal turns ∷ []) in
-    let vs : List (List ℕ) = ws ++ (codes "rules" ∷ []) in
-    let us : List (List ℕ) = vs ++ numbers R in
-    let ts : List (List ℕ) = us ++ (codes "weights" ∷ []) in
-    finish a w (ts ++ weight_words P y) h
-    (more a w ts (weight_words P y) g h
-    (word a w us (codes "weights") f g (more a w vs (numbers R) e f (word a w ws (codes "rules") d e (word a w (place_words P p) (decimal turns) c d (more a w [] (place_words P p) b c (begin a w b q) r) s) t) u) v)
-    x)
-    ∙ ap (λ t. a ++ join_with_byte 32 (w ∷ t)) (append_assoc us (codes "weights" ∷ []) (weight_words P y))
-
-pub free_text : (P : Instance) (turns reward : ℕ) (R : List ℕ) (y : List Weight) (a b c d e f g h : List ℕ) → b ≡ a ++ codes "free" → c ≡ b ++ 32 ∷ decimal turns → d ≡ c ++ 32 ∷ decimal reward → e ≡ d ++ 32 ∷ codes "rules" → f ≡ e ++ spaced (numbers R) → g ≡ f ++ 32 ∷ codes "weights" → h ≡ g ++ spaced (weight_words P y) → h ≡ a ++ join_with_byte 32 (raw_fields P (RawFree turns reward R (map (named_weight P) y)))
-free_text P turns reward R y a b c d e f g h q r s t u v x =
+    finish a w (ws ++ weighed_words P R y) c (more a w ws (weighed_words P R y) b c (e ∙ ap (λ t. a ++ t) (join_spaced w ws)) f)
+light_text P (Some goal) p turns reward R y a b c e f =
     let w = codes "free" in
     let ws : List (List ℕ) = decimal turns ∷ decimal reward ∷ [] in
-    let vs : List (List ℕ) = ws ++ (codes "rules" ∷ []) in
-    let us : List (List ℕ) = vs ++ numbers R in
-    let ts : List (List ℕ) = us ++ (codes "weights" ∷ []) in
-    finish a w (ts ++ weight_words P y) h
-    (more a w ts (weight_words P y) g h
-    (word a w us (codes "weights") f g (more a w vs (numbers R) e f (word a w ws (codes "rules") d e (word a w (decimal turns ∷ []) (decimal reward) c d (word a w [] (decimal turns) b c (begin a w b q) r) s) t) u) v)
-    x)
-    ∙ ap (λ t. a ++ join_with_byte 32 (w ∷ t)) (append_assoc us (codes "weights" ∷ []) (weight_words P y))
+    finish a w (ws ++ weighed_words P R y) c (more a w ws (weighed_words P R y) b c (e ∙ ap (λ t. a ++ t) (join_spaced w ws)) f)
 
 pub named_text : (R a b c d : List ℕ) → b ≡ a ++ codes "rules" → c ≡ b ++ spaced (numbers R) → d ≡ c ++ 10 ∷ [] → d ≡ a ++ rules_text R
 named_text R a b c d e f g =

@@ -1,22 +1,22 @@
--- The answer to a bound or a free leaf, from what its parts were read as.
+-- The answer to a line that weighs words, from what its parts were read as.
 use Rattle.std.proofs.Common.{◌≡◌, ℕ, List, refl, ap, sym, ◌∙◌, subst, Option, Some, None, Result, Ok, Err}
-use Rattle.std.specs.Prelude.{codes, ◌↔◌, AllPairs}
+use Rattle.std.specs.Prelude.{codes}
 use Rattle.std.specs.Option.{option_map}
 use Rattle.rwsp_terms.specs.Instance.{Instance}
 use Rattle.rwsp_terms.specs.declared.data.Weight.{Weight}
 use Rattle.rwsp_model.specs.declared.fail.Fail.{Fail}
 use Rattle.rwsp_model.specs.declared.fail.Fail.TheVariants.{Refused, Memory}
-use Rattle.refutation_terms.specs.declared.lines.Line.{Line}
-use Rattle.refutation_terms.specs.declared.lines.Line.TheVariants.{Bound, Free}
-use Rattle.rwsp_terms.specs.Weights.{ComesBefore}
-use Rattle.refutation_terms.specs.LogText.{RawLine, RawBound, RawFree, weights_of, line_of, WeightsAscend}
+use Rattle.refutation_terms.specs.declared.lines.Line.TheVariants.{Closing}
+use Rattle.refutation_terms.specs.declared.lines.Leaf.TheVariants.{Words}
+use Rattle.refutation_terms.specs.declared.lines.WordClaim.TheVariants.{Light}
+use Rattle.refutation_terms.specs.LogText.{RawLine, RawBound, RawFree, weights_of, line_of}
 use Rattle.rwsp_text.specs.Fields.{NamedWeight, word_at}
 use Rattle.refutation_terms.specs.LineKinds.{most_turns}
 use Rattle.refutation_log.specs.declared.refusal.LineRefusal.{LineRefusal}
 use Rattle.refutation_log.specs.declared.refusal.LineRefusal.TheVariants.{Form, Name}
 use Rattle.refutation_log.specs.declared.gather.Gathered.{Gathered}
 use Rattle.refutation_log.specs.declared.gather.Gathered.TheVariants.{Rising, Falling, Unknown}
-use Rattle.refutation_log.specs.Reading.{head_at, free_head_at, rules_in, all_weights_at, weighed_at, bound_at, free_at, Answers, AnswersWeighed, IsWeighedAnswer}
+use Rattle.refutation_log.specs.Reading.{head_at, free_head_at, rules_in, all_weights_at, weighed_at, bound_at, free_at, light_line, Answers, AnswersWeighed, IsWeighedAnswer}
 use Rattle.refutation_log.specs.Gathering.{IsWeighed, Gives, GivesAll}
 
 abbrev Read : Type 0
@@ -52,46 +52,41 @@ pub weighed_missed : (P : Instance) (h r u : List (List ℕ)) (R : List ℕ) →
 weighed_missed P h r u R b c g =
     subst (λ o. IsWeighedAnswer P o (Err Form)) (sym (missed_by P h r u R (all_weights_at P u) b c refl g)) tt
 
--- the answer with a line made of the rules and the weights
-abbrev pub made_of : (List ℕ → List Weight → Line) → Weighed → Result Line (Fail LineRefusal)
-made_of make (Ok v) = Ok (make v.0 v.1)
-made_of make (Err fail) = Err fail
-
--- a line that is made of rules and weights, and how it is written
-record IsMade (P : Instance) (written : List ℕ → List NamedWeight → RawLine) (make : List ℕ → List Weight → Line) : Type 0 where
-  known : (R : List ℕ) (y : List NamedWeight) → line_of P (written R y) ≡ option_map (λ (z : List Weight). make R z) (weights_of P y)
-  ascends : (R : List ℕ) (z : List Weight) → AllPairs ComesBefore z ↔ WeightsAscend (make R z)
+-- such a line, as it is written with its rules and its weights
+abbrev IsWrittenAs : Instance → (p turns reward : ℕ) → (List ℕ → List NamedWeight → RawLine) → Type 0
+IsWrittenAs P p turns reward written =
+    (R : List ℕ) (y : List NamedWeight) → line_of P (written R y) ≡ option_map (λ (z : List Weight). Closing (Words p R (Light turns reward z))) (weights_of P y)
 
 abbrev written_of : (List ℕ → List NamedWeight → RawLine) → Option Read → Option RawLine
 written_of written o = option_map (λ (v : Read). written v.0 v.1) o
 
-made_by : (P : Instance) (written : List ℕ → List NamedWeight → RawLine) (make : List ℕ → List Weight → Line) (o : Option Read) (result : Weighed) → IsMade P written make → AnswersWeighed P o result → Answers P (written_of written o) (made_of make result)
-made_by P written make None (Ok v) is a = absurd a
-made_by P written make (Some v) (Ok w) is a =
-    (is.known v.0 v.1 ∙ ap (λ o. option_map (λ (z : List Weight). make v.0 z) o) a.1 ∙ ap (λ R. Some (make R w.1)) a.0, (is.ascends w.0 w.1).0 a.2)
-made_by P written make o (Err Memory) is a = tt
-made_by P written make None (Err (Refused Form)) is a = tt
-made_by P written make None (Err (Refused Name)) is a = absurd a
-made_by P written make (Some v) (Err (Refused Form)) is a =
-    (make v.0 a.0, is.known v.0 v.1 ∙ ap (λ o. option_map (λ (z : List Weight). make v.0 z) o) a.1, λ up. a.2 ((is.ascends v.0 a.0).1 up))
-made_by P written make (Some v) (Err (Refused Name)) is a = is.known v.0 v.1 ∙ ap (λ o. option_map (λ (z : List Weight). make v.0 z) o) a
+light_by : (P : Instance) (p turns reward : ℕ) (written : List ℕ → List NamedWeight → RawLine) (o : Option Read) (result : Weighed) → IsWrittenAs P p turns reward written → AnswersWeighed P o result → Answers P (written_of written o) (light_line p turns reward result)
+light_by P p turns reward written None (Ok v) is a = absurd a
+light_by P p turns reward written (Some v) (Ok w) is a =
+    (is v.0 v.1 ∙ ap (λ o. option_map (λ (z : List Weight). Closing (Words p v.0 (Light turns reward z))) o) a.1 ∙ ap (λ R. Some (Closing (Words p R (Light turns reward w.1)))) a.0, a.2)
+light_by P p turns reward written o (Err Memory) is a = tt
+light_by P p turns reward written None (Err (Refused Form)) is a = tt
+light_by P p turns reward written None (Err (Refused Name)) is a = absurd a
+light_by P p turns reward written (Some v) (Err (Refused Form)) is a =
+    (Closing (Words p v.0 (Light turns reward a.0)), is v.0 v.1 ∙ ap (λ o. option_map (λ (z : List Weight). Closing (Words p v.0 (Light turns reward z))) o) a.1, a.2)
+light_by P p turns reward written (Some v) (Err (Refused Name)) is a = is v.0 v.1 ∙ ap (λ o. option_map (λ (z : List Weight). Closing (Words p v.0 (Light turns reward z))) o) a
 
 behind_bound : (P : Instance) (ws h : List (List ℕ)) (p turns : ℕ) (o : Option Read) → head_at P (most_turns P) ws ≡ Some ((p, turns), h) → weighed_at P h ≡ o → bound_at P ws ≡ written_of (RawBound p turns) o
 unfolding bound_at
 behind_bound P ws h p turns None a b = rw (a, b) refl
 behind_bound P ws h p turns (Some v) a b = rw (a, b) refl
 
-pub bound_answered : (P : Instance) (high : ℕ) (ws h : List (List ℕ)) (p turns : ℕ) (result : Weighed) → high ≡ most_turns P → head_at P high ws ≡ Some ((p, turns), h) → AnswersWeighed P (weighed_at P h) result → Answers P (bound_at P ws) (made_of (Bound p turns) result)
+pub bound_answered : (P : Instance) (high : ℕ) (ws h : List (List ℕ)) (p turns : ℕ) (result : Weighed) → high ≡ most_turns P → head_at P high ws ≡ Some ((p, turns), h) → AnswersWeighed P (weighed_at P h) result → Answers P (bound_at P ws) (light_line p turns 0 result)
 bound_answered P high ws h p turns result e a w =
-    subst (λ o. Answers P o (made_of (Bound p turns) result)) (sym (behind_bound P ws h p turns (weighed_at P h) (ap (λ n. head_at P n ws) (sym e) ∙ a) refl))
-    (made_by P (RawBound p turns) (Bound p turns) (weighed_at P h) result (record { known = λ R y. refl; ascends = λ R z. (λ up. up, λ up. up) }) w)
+    subst (λ o. Answers P o (light_line p turns 0 result)) (sym (behind_bound P ws h p turns (weighed_at P h) (ap (λ n. head_at P n ws) (sym e) ∙ a) refl))
+    (light_by P p turns 0 (RawBound p turns) (weighed_at P h) result (λ R y. refl) w)
 
 behind_free : (P : Instance) (ws h : List (List ℕ)) (turns reward : ℕ) (o : Option Read) → free_head_at P ws ≡ Some ((turns, reward), h) → weighed_at P h ≡ o → free_at P ws ≡ written_of (RawFree turns reward) o
 unfolding free_at
 behind_free P ws h turns reward None a b = rw (a, b) refl
 behind_free P ws h turns reward (Some v) a b = rw (a, b) refl
 
-pub free_answered : (P : Instance) (ws h : List (List ℕ)) (turns reward : ℕ) (result : Weighed) → free_head_at P ws ≡ Some ((turns, reward), h) → AnswersWeighed P (weighed_at P h) result → Answers P (free_at P ws) (made_of (Free turns reward) result)
+pub free_answered : (P : Instance) (ws h : List (List ℕ)) (turns reward : ℕ) (result : Weighed) → free_head_at P ws ≡ Some ((turns, reward), h) → AnswersWeighed P (weighed_at P h) result → Answers P (free_at P ws) (light_line 0 turns reward result)
 free_answered P ws h turns reward result a w =
-    subst (λ o. Answers P o (made_of (Free turns reward) result)) (sym (behind_free P ws h turns reward (weighed_at P h) a refl))
-    (made_by P (RawFree turns reward) (Free turns reward) (weighed_at P h) result (record { known = λ R y. refl; ascends = λ R z. (λ up. up, λ up. up) }) w)
+    subst (λ o. Answers P o (light_line 0 turns reward result)) (sym (behind_free P ws h turns reward (weighed_at P h) a refl))
+    (light_by P 0 turns reward (RawFree turns reward) (weighed_at P h) result (λ R y. refl) w)

@@ -5,6 +5,9 @@ use Rattle.rwsp_terms.specs.declared.data.Rule.{Rule}
 use Rattle.rwsp_terms.specs.declared.data.Rule.TheVariants.{Day}
 use Rattle.rwsp_terms.specs.Instance.{Instance}
 use Rattle.rwsp_terms.specs.Rules.{rule_of}
+use Rattle.refutation_terms.specs.declared.lines.WordClaim.{WordClaim}
+use Rattle.refutation_terms.specs.declared.lines.WordClaim.TheVariants.{Dead, Light}
+use Rattle.refutation_terms.specs.Ranges.{AreRules, AreWeightsOf}
 
 -- the new list holds what the old one holds, and the numbers that are new
 abbrev pub Adds : List ℕ → List ℕ → (ℕ → Type 0) → Type 0
@@ -25,3 +28,8 @@ IsDayRule P j k = rule_of P k ≡ Some (Day j)
 -- the number of the rule of a day on which something is listed
 abbrev pub IsWeighedDayRule : Instance → List Weight → ℕ → Type 0
 IsWeighedDayRule P y k = (m : ℕ) × (e : Weight) × (m < length y) × (slice_get y m ≡ Some e) × IsDayRule P e.day k
+
+-- the rules of a leaf of words are the problem's, and so are the weights of its claim
+abbrev pub ListAndClaimFit : Instance → List ℕ → WordClaim → Type 0
+ListAndClaimFit P R (Dead len) = AreRules P R
+ListAndClaimFit P R (Light turns reward y) = AreRules P R × AreWeightsOf P y

@@ -6,7 +6,8 @@ use Rattle.rwsp_terms.specs.Rules.{NamesShortRules}
 use Rattle.refutation_terms.specs.declared.lines.Line.{Line}
 use Rattle.refutation_terms.specs.declared.lines.Line.TheVariants.{Split}
 use Rattle.refutation_terms.specs.Word.{Domains, full}
-use Rattle.refutation_terms.specs.FreeLeaves.{HasTooFewFree, IsTooLightFree}
+use Rattle.refutation_terms.specs.FewLeaf.{HasTooFewFree}
+use Rattle.refutation_terms.specs.WordsLeaf.{IsTooLight}
 use Rattle.refutation_terms.specs.Tree.{domains_at}
 use Rattle.refutation_terms.specs.Log.{Log, NamesOnlyCited}
 use Rattle.refutation_terms.specs.Sharp.{IsSharpSplit, IsUnclosed}
@@ -18,7 +19,7 @@ pub record IsFreeSharpSplit (P : Instance) (goal : ℕ) (D : Domains) (R : List 
 
 -- the free leaf of one turn holds under full domains, where each free weekend weighs 1 and nothing else weighs
 abbrev pub HoldsFreeAtTop : Instance → ℕ → List ℕ → Type 0
-HoldsFreeAtTop P goal R = IsTooLightFree P goal (full P) 1 1 R []
+HoldsFreeAtTop P goal R = IsTooLight P (Some goal) (full P) 0 1 1 R []
 
 -- it doesn't hold for the list of all short rules
 pub record FailsFreeAtTop (P : Instance) (goal : ℕ) : Type 0 where
@@ -33,5 +34,5 @@ pub record IsFreeSharp (P : Instance) (goal : ℕ) (g : Log) : Type 0 where
   pub short : List ℕ
   pub all_short : NamesShortRules P short
   pub splits : (k p : ℕ) (x : Symbol) → slice_get g.lines k ≡ Some (Split p x)
-      → IsFreeSharpSplit P goal (domains_at P g.turn g.lines k) short p x
+      → IsFreeSharpSplit P goal (domains_at P g.opening g.lines k) short p x
   pub top : (line : Line) → slice_get g.lines 0 ≡ Some line → IsUnclosed line → HoldsFreeAtTop P goal short → ⊥

@@ -1,48 +1,43 @@
--- The header of a log's text, of a free log or of one without a goal.
-use Rattle.std.specs.Prelude.{◌≡◌, ◌≢◌, ℕ, ◌+◌, ◌≤◌, List, ◌++◌, Option, Some, None, Bool, true, false}
+-- The header of a log's text, as one of a kind.
+use Rattle.std.specs.Prelude.{◌≡◌, ℕ, ◌+◌, ◌≤◌, List, [], ◌++◌, Option, Some, None}
 use Rattle.rwsp_terms.specs.Instance.{Instance, name_of}
-use Rattle.refutation_terms.specs.declared.lines.Turn.{Turn}
+use Rattle.refutation_terms.specs.declared.lines.Version.{Version}
+use Rattle.refutation_terms.specs.declared.lines.Version.TheVariants.{Version1, Version2, Free1}
+use Rattle.refutation_terms.specs.declared.lines.LogKind.{LogKind}
+use Rattle.refutation_terms.specs.declared.lines.Opening.{Opening}
+use Rattle.refutation_terms.specs.declared.lines.Opening.TheVariants.{Full, Turned}
 use Rattle.refutation_terms.specs.declared.lines.LogRefusal.{LogRefusal}
 use Rattle.refutation_terms.specs.declared.lines.LogRefusal.TheVariants as Refusals
-use Rattle.refutation_terms.specs.Log.{TurnFits}
-use Rattle.refutation_terms.specs.LogText.{version_text, free_version_text, goal_text, turn_text}
-use Rattle.refutation_terms.specs.Verdict.{SpellsNoTurn, TurnsToUnknown, VersionCause}
-use Rattle.refutation_terms.specs.FreeVerdict.{IsFreeRefused, FreeVersionCause, GoalCause}
-use Rattle.refutation_log.specs.declared.header.Version.{Version}
-use Rattle.refutation_log.specs.declared.header.Version.TheVariants.{Plain, Turned, Free}
-use Rattle.refutation_log.specs.ReadLog.{BeginsWithHeader, BeginsWithFreeHeader, IsHeaderRefused, StopsFor}
+use Rattle.refutation_terms.specs.Ranges.{AreRules}
+use Rattle.refutation_terms.specs.Log.{OpeningFits}
+use Rattle.refutation_terms.specs.LogText.{header_text, goal_text, turn_text}
+use Rattle.refutation_terms.specs.Verdict.{kind_by, SpellsNoTurn, TurnsToUnknown, GoalCause, IsRefused}
+use Rattle.rwsp_text.specs.Lines.{IsNextLine}
+use Rattle.refutation_log.specs.ReadLog.{IsUnread}
 
--- the text begins with the header of a log that fits the problem, of a free one or of one without a goal
-abbrev pub BeginsFor : Instance → Bool → List ℕ → List ℕ → Option Turn → Option ℕ → List ℕ → Type 0
-BeginsFor P false text named turn goal body = (goal ≡ None) × BeginsWithHeader P text named turn body
-BeginsFor P true text named turn None body = ⊥
-BeginsFor P true text named turn (Some goal) body = (turn ≡ None) × BeginsWithFreeHeader P text named goal body
+-- a goal is at most one more than the weeks, and a log with one has no turn
+abbrev pub GoalIsInRange : Instance → Opening → Option ℕ → Type 0
+GoalIsInRange P o None = Unit {0}
+GoalIsInRange P o (Some goal) = (o ≡ Full) × (goal ≤ P.weeks + 1)
 
--- as the text of such a log it is refused at its header
-abbrev pub IsRefusedAtHeader : Instance → Bool → List ℕ → LogRefusal → Type 0
-IsRefusedAtHeader P false text why = IsHeaderRefused P text why
-IsRefusedAtHeader P true text why = IsFreeRefused P text why
+-- the text begins with the header of a log of this kind, whose numbers are in their ranges, and the rest is its body
+pub record BeginsWithHeader (P : Instance) (kind : LogKind) (text : List ℕ) (named : List ℕ) (opening : Opening)
+    (goal : Option ℕ) (body : List ℕ) : Type 0 where
+  pub of_kind : kind_by goal ≡ kind
+  pub rules : AreRules P named
+  pub fits : OpeningFits P opening
+  pub in_range : GoalIsInRange P opening goal
+  pub whole : text ≡ header_text P named opening goal ++ body
 
--- the first line
-abbrev pub first_text : Version → List ℕ
-first_text Plain = version_text false
-first_text Turned = version_text true
-first_text Free = free_version_text
+-- as the text of a log of this kind it is refused at its header, by reading and as the verdict is
+abbrev pub IsHeaderRefused : Instance → LogKind → List ℕ → LogRefusal → Type 0
+IsHeaderRefused P kind text why = IsUnread P kind text why × IsRefused P kind text why
 
--- it is that of a free log, or of one without a goal
-abbrev pub IsVersionOf : Bool → Version → Type 0
-IsVersionOf is_free Free = is_free ≡ true
-IsVersionOf is_free v = is_free ≡ false
-
--- the bytes are this first line, or that of no such log
-abbrev pub SpellsVersion : Bool → List ℕ → Option Version → Type 0
-SpellsVersion is_free bytes None = (v : Version) → IsVersionOf is_free v → bytes ≢ first_text v
-SpellsVersion is_free bytes (Some v) = IsVersionOf is_free v × (bytes ≡ first_text v)
-
--- why it is refused
-abbrev pub FirstCause : Bool → List ℕ → LogRefusal → Type 0
-FirstCause false bytes why = VersionCause bytes why
-FirstCause true bytes why = FreeVersionCause bytes why
+-- what is left of a text ends, or continues with a line that has such a cause
+abbrev pub StopsFor : (List ℕ → LogRefusal → Type 0) → List ℕ → LogRefusal → Type 0
+StopsFor HasCause left Refusals.Ends = left ≡ []
+StopsFor HasCause left why =
+    (line : List ℕ) × (rest : List ℕ) × (left ≡ line ++ rest) × IsNextLine line rest × HasCause line why
 
 -- why reading alone refuses the line of a turn
 abbrev pub TurnReadCause : Instance → List ℕ → LogRefusal → Type 0
@@ -50,17 +45,17 @@ TurnReadCause P bytes (Refusals.Form i) = (i ≡ 3) × SpellsNoTurn P bytes
 TurnReadCause P bytes (Refusals.Name i) = (i ≡ 3) × TurnsToUnknown P bytes
 TurnReadCause P bytes why = ⊥
 
--- what is left stops at the third line, if there is to be one
+-- what is left stops at the third line, if the version has one
 abbrev pub StopsAtThird : Instance → Version → List ℕ → LogRefusal → Type 0
-StopsAtThird P Plain left why = ⊥
-StopsAtThird P Turned left why = StopsFor (TurnReadCause P) left why
-StopsAtThird P Free left why = StopsFor (GoalCause P) left why
+StopsAtThird P Version1 left why = ⊥
+StopsAtThird P Version2 left why = StopsFor (TurnReadCause P) left why
+StopsAtThird P Free1 left why = StopsFor (GoalCause P) left why
 
--- what is left begins with this turn or this goal, and then with the rest; or it is the rest where there is neither
-abbrev pub IsThird : Instance → Version → Option Turn → Option ℕ → List ℕ → List ℕ → Type 0
-IsThird P Plain turn goal left rest = (turn ≡ None) × (goal ≡ None) × (left ≡ rest)
-IsThird P Turned (Some t) goal left rest =
-    (goal ≡ None) × TurnFits P (Some t) × (left ≡ turn_text (name_of P t.x) t.day ++ rest)
-IsThird P Free turn (Some goal) left rest =
-    (turn ≡ None) × (goal ≤ P.weeks + 1) × (left ≡ goal_text goal ++ rest)
-IsThird P version turn goal left rest = ⊥
+-- what is left begins with the third line of the version, a turn or a goal, and then with the rest; or it is the rest
+-- where the version has no third line
+abbrev pub IsThird : Instance → Version → Opening → Option ℕ → List ℕ → List ℕ → Type 0
+IsThird P Version1 Full None left rest = left ≡ rest
+IsThird P Version2 (Turned t) None left rest =
+    OpeningFits P (Turned t) × (left ≡ turn_text (name_of P t.x) t.day ++ rest)
+IsThird P Free1 Full (Some goal) left rest = (goal ≤ P.weeks + 1) × (left ≡ goal_text goal ++ rest)
+IsThird P version opening goal left rest = ⊥

@@ -1,5 +1,5 @@
 -- What is said of a plan.
-use Rattle.std.specs.Prelude.{◌≡◌, ℕ, ◌+◌, ◌*◌, ◌^◌, ◌<◌, ◌≤◌}
+use Rattle.std.specs.Prelude.{◌≡◌, ℕ, ◌+◌, ◌*◌, ◌^◌, ◌<◌, ◌≤◌, None}
 use Rattle.rwsp_terms.specs.Instance.{Instance, cells, shift_count}
 use Rattle.rwsp_terms.specs.Roster.{MeetsAll}
 use Rattle.refutation_terms.specs.Log.{Log, Passes, IsSpent, NamesOnlyCited, size}
@@ -7,8 +7,9 @@ use Rattle.refutation_terms.specs.Sharp.{IsSharp}
 use Rattle.refutation_log.specs.declared.found.Found.{Found}
 use Rattle.refutation_log.specs.declared.found.Found.TheVariants.{Roster, NoRoster, Undecided}
 
--- a sharp log that names what it cites and no more
+-- a sharp log without a goal that names what it cites and no more
 pub record IsPlannedLog (P : Instance) (g : Log) : Type 0 where
+  pub no_goal : g.goal ≡ None
   pub cited : NamesOnlyCited P g
   pub sharp : IsSharp P g
 

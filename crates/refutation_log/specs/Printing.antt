@@ -1,38 +1,31 @@
 -- Parts of the text of a log.
-use Rattle.std.specs.Prelude.{ℕ, List, ◌∷◌, map, Option, Some, None}
-use Rattle.std.specs.List.{AllByRecursion, concat, flat_map}
+use Rattle.std.specs.Prelude.{ℕ, List, [], ◌∷◌, ◌++◌, map, Option, Some, None, codes}
+use Rattle.std.specs.List.{AllByRecursion, flat_map}
+use Rattle.std.specs.Fmt.{decimal}
 use Rattle.rwsp_terms.specs.declared.data.Weight.{Weight}
 use Rattle.rwsp_terms.specs.Instance.{Instance}
 use Rattle.refutation_terms.specs.declared.lines.Line.{Line}
-use Rattle.refutation_terms.specs.declared.lines.Line.TheVariants.{Few, Free}
-use Rattle.refutation_terms.specs.declared.lines.Turn.{Turn}
-use Rattle.refutation_terms.specs.Log.{LineFits, LineFitsFor}
-use Rattle.refutation_terms.specs.LogText.{raw, line_text, named_weight, header_text, free_header_text}
-use Rattle.rwsp_text.specs.Fields.{weight_fields}
+use Rattle.refutation_terms.specs.Log.{LineFits}
+use Rattle.refutation_terms.specs.LogText.{place_words, named_weight}
+use Rattle.rwsp_text.specs.Fields.{numbers, weight_fields}
 
 -- a blank in front of each word
 abbrev pub spaced : List (List ℕ) → List ℕ
 spaced words = flat_map (λ word. 32 ∷ word) words
 
--- the text of lines
-abbrev pub lines_text : Instance → List Line → List ℕ
-lines_text P lines = concat (map (λ line. line_text P (raw P line)) lines)
-
--- the header of a log by its goal
-abbrev pub header_text_for : Instance → List ℕ → Option Turn → Option ℕ → List ℕ
-header_text_for P named turn None = header_text P named turn
-header_text_for P named turn (Some goal) = free_header_text named goal
-
--- the line fits the problem in a log with a goal or without
-abbrev pub FitsSomeLog : Instance → Line → Type 0
-FitsSomeLog P Few = LineFitsFor P (Some 0) Few
-FitsSomeLog P (Free turns reward R y) = LineFitsFor P (Some 0) (Free turns reward R y)
-FitsSomeLog P line = LineFits P line
-
--- each line fits the problem
-abbrev pub EachFits : Instance → List Line → Type 0
-EachFits P lines = AllByRecursion (LineFits P) lines
+-- each line of a log with this goal or none fits the problem
+abbrev pub EachFits : Instance → Option ℕ → List Line → Type 0
+EachFits P goal lines = AllByRecursion (LineFits P goal) lines
 
 -- the fields of weights
 abbrev pub weight_words : Instance → List Weight → List (List ℕ)
 weight_words P y = flat_map weight_fields (map (named_weight P) y)
+
+-- the fields with which the line begins that weighs words, in a log with this goal or none
+abbrev pub light_head : Instance → Option ℕ → (p turns reward : ℕ) → List (List ℕ)
+light_head P None p turns reward = codes "bound" ∷ place_words P p ++ (decimal turns ∷ [])
+light_head P (Some goal) p turns reward = codes "free" ∷ decimal turns ∷ decimal reward ∷ []
+
+-- and with which it ends: its rules and its weights
+abbrev pub weighed_words : Instance → List ℕ → List Weight → List (List ℕ)
+weighed_words P R y = codes "rules" ∷ numbers R ++ (codes "weights" ∷ weight_words P y)

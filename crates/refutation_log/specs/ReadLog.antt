@@ -1,21 +1,22 @@
 -- Why a text is refused by reading alone: its lines are spelled, its names known, and it is one whole tree. What the
 -- lines say isn't looked at.
-use Rattle.std.specs.Prelude.{◌≡◌, ℕ, ◌+◌, ◌-◌, ◌<◌, ◌≤◌, List, [], ◌++◌, length, take, Option, None}
+use Rattle.std.specs.Prelude.{◌≡◌, ℕ, ◌+◌, ◌-◌, ◌<◌, ◌≤◌, List, ◌++◌, length, take, Option}
+use Rattle.rwsp_terms.specs.declared.limits.TheConstants.{LONGEST_LOG, DAYS_OF_WEEK}
 use Rattle.rwsp_terms.specs.Instance.{Instance}
+use Rattle.refutation_terms.specs.declared.lines.LogKind.{LogKind}
+use Rattle.refutation_terms.specs.declared.lines.LogKind.TheVariants.{WithoutGoal, WithGoal}
 use Rattle.refutation_terms.specs.declared.lines.Line.{Line}
 use Rattle.refutation_terms.specs.declared.lines.Line.TheVariants.{Split}
-use Rattle.refutation_terms.specs.declared.lines.Turn.{Turn}
+use Rattle.refutation_terms.specs.declared.lines.Opening.{Opening}
 use Rattle.refutation_terms.specs.declared.lines.LogRefusal.{LogRefusal}
 use Rattle.refutation_terms.specs.declared.lines.LogRefusal.TheVariants as Refusals
+use Rattle.refutation_terms.specs.Ranges.{AreRules}
 use Rattle.refutation_terms.specs.Tree.{IsTree}
-use Rattle.refutation_terms.specs.Log.{Log, Fits, AreRules, TurnFits}
-use Rattle.refutation_terms.specs.LogText.{header_text, free_header_text}
-use Rattle.rwsp_terms.specs.declared.limits.TheConstants.{LONGEST_LOG}
-use Rattle.rwsp_text.specs.Lines.{IsNextLine}
-use Rattle.refutation_terms.specs.Verdict.{Front, Start, Versioned, BeforeTurn, Reading, front_text, IsWhole, Cause, IsRefused, IsRefusedBehindFront, EndsWithFront}
-use Rattle.refutation_log.specs.Printing.{lines_text}
-use Rattle.refutation_log.specs.Refusals.{IsLineRefused}
+use Rattle.refutation_terms.specs.Log.{Log, Fits}
+use Rattle.refutation_terms.specs.LogText.{lines_text, log_text}
+use Rattle.refutation_terms.specs.Verdict.{kind_by, Front, BeforeTurn, BeforeGoal, Reading, IsFrontOf, Cause, IsRefusedBehindFront, EndsWithFront}
 use Rattle.refutation_log.specs.declared.refusal.LineRefusal.TheVariants as Lines
+use Rattle.refutation_log.specs.Refusals.{IsLineRefused}
 
 -- the causes that reading alone finds
 abbrev pub IsReadCause : LogRefusal → Type 0
@@ -30,58 +31,53 @@ pub record IsReadSoFar (P : Instance) (g : Log) : Type 0 where
   pub in_tree : (k : ℕ) → k < length g.lines → IsTree (take k g.lines) → ⊥
 
 -- no line of the front has such a cause
-abbrev pub IsRead : Instance → Front → Type 0
-IsRead P Start = Unit {0}
-IsRead P (Versioned has_turn) = Unit {0}
-IsRead P (BeforeTurn named) = AreRules P named
-IsRead P (Reading g) = IsReadSoFar P g
+abbrev pub IsReadFront : Instance → Front → Type 0
+IsReadFront P (BeforeTurn named) = AreRules P named
+IsReadFront P (BeforeGoal named) = AreRules P named
+IsReadFront P (Reading g) = IsReadSoFar P g
+IsReadFront P front = Unit {0}
+
+-- a front of a log of this kind, and no line of it has such a cause
+abbrev pub IsRead : Instance → LogKind → Front → Type 0
+IsRead P kind front = IsFrontOf kind front × IsReadFront P front
 
 -- reading alone finds this cause in the line behind the front
-abbrev pub ReadCause : Instance → Front → List ℕ → LogRefusal → Type 0
-ReadCause P front line why = Cause P front line why × IsReadCause why
+abbrev pub ReadCause : Instance → LogKind → Front → List ℕ → LogRefusal → Type 0
+ReadCause P kind front line why = Cause P kind front line why × IsReadCause why
 
--- the text is refused by reading, for this cause
-abbrev pub IsUnread : Instance → List ℕ → LogRefusal → Type 0
-IsUnread P text Refusals.Ends = EndsWithFront (front_text P) (IsRead P) IsWhole text
-IsUnread P text why = IsRefusedBehindFront (front_text P) (IsRead P) (ReadCause P) text why
+-- the text is refused by reading, for this cause, as a log of this kind
+abbrev pub IsUnread : Instance → LogKind → List ℕ → LogRefusal → Type 0
+IsUnread P kind text Refusals.Ends = EndsWithFront P (IsRead P kind) text
+IsUnread P kind text why = IsRefusedBehindFront P (IsRead P kind) (ReadCause P kind) text why
 
--- the text is refused at its header, by reading and as the verdict is
-abbrev pub IsHeaderRefused : Instance → List ℕ → LogRefusal → Type 0
-IsHeaderRefused P text why = IsUnread P text why × IsRefused P text why
+-- the text is that of a log of this kind that fits the problem and is one whole tree
+pub record IsReadAs (P : Instance) (kind : LogKind) (text : List ℕ) (g : Log) : Type 0 where
+  pub of_kind : kind_by g.goal ≡ kind
+  pub is_text : text ≡ log_text P g
+  pub fits : Fits P g
+  pub tree : IsTree g.lines
 
--- what is left of a text ends, or continues with a line that has such a cause
-abbrev pub StopsFor : (List ℕ → LogRefusal → Type 0) → List ℕ → LogRefusal → Type 0
-StopsFor HasCause left Refusals.Ends = left ≡ []
-StopsFor HasCause left why =
-    (line : List ℕ) × (rest : List ℕ) × (left ≡ line ++ rest) × IsNextLine line rest × HasCause line why
+-- the problem has logs of this kind: those with a goal are for weeks of seven days
+abbrev pub HasLogsOf : Instance → LogKind → Type 0
+HasLogsOf P WithoutGoal = Unit {0}
+HasLogsOf P WithGoal = P.days ≡ DAYS_OF_WEEK
 
--- the text begins with the header of a free log that fits the problem, and the rest is its body
-abbrev pub BeginsWithFreeHeader : Instance → List ℕ → List ℕ → ℕ → List ℕ → Type 0
-BeginsWithFreeHeader P text named goal body =
-    AreRules P named × (goal ≤ P.weeks + 1) × (text ≡ free_header_text named goal ++ body)
+-- the log of these rules, this opening, this goal or none, and these lines
+abbrev pub log_with : List ℕ → Opening → Option ℕ → List Line → Log
+log_with named opening goal lines = record { named = named; opening = opening; goal = goal; lines = lines }
 
--- the text begins with a header that fits the problem, and the rest is its body
-pub record BeginsWithHeader (P : Instance) (text : List ℕ) (named : List ℕ) (turn : Option Turn)
-    (body : List ℕ) : Type 0 where
-  pub rules : AreRules P named
-  pub fits : TurnFits P turn
-  pub whole : text ≡ header_text P named turn ++ body
+-- what is left behind the header of a log begins with its lines, which are one whole tree, and the rest follows them
+pub record AreReadLines (P : Instance) (g : Log) (left rest : List ℕ) : Type 0 where
+  pub tree : IsTree g.lines
+  pub read : IsReadSoFar P g
+  pub whole : left ≡ lines_text P g.goal g.lines ++ rest
+  pub few : length g.lines ≤ LONGEST_LOG
 
--- the log of these rules, this turn and these lines, without a goal
-abbrev pub log_with : List ℕ → Option Turn → List Line → Log
-log_with named turn lines = record { named = named; turn = turn; goal = None; lines = lines }
-
--- what is left behind a header begins with these lines, which are one whole tree, and the rest follows them
-abbrev pub AreReadLines : Instance → List ℕ → Option Turn → List Line → (left rest : List ℕ) → Type 0
-AreReadLines P named turn lines left rest =
-    IsTree lines × IsReadSoFar P (log_with named turn lines) × (left ≡ lines_text P lines ++ rest)
-    × (length lines ≤ LONGEST_LOG)
-
--- why a line of the tree isn't read, as text line n
-abbrev pub IsTreeLineRefused : Instance → List ℕ → ℕ → LogRefusal → Type 0
-IsTreeLineRefused P bytes n (Refusals.Form i) = (i ≡ n) × IsLineRefused P bytes Lines.Form
-IsTreeLineRefused P bytes n (Refusals.Name i) = (i ≡ n) × IsLineRefused P bytes Lines.Name
-IsTreeLineRefused P bytes n why = ⊥
+-- why a line of the tree of a log with this goal or none isn't read, as text line n
+abbrev pub IsTreeLineRefused : Instance → Option ℕ → List ℕ → ℕ → LogRefusal → Type 0
+IsTreeLineRefused P goal bytes n (Refusals.Form i) = (i ≡ n) × IsLineRefused P goal bytes Lines.Form
+IsTreeLineRefused P goal bytes n (Refusals.Name i) = (i ≡ n) × IsLineRefused P goal bytes Lines.Name
+IsTreeLineRefused P goal bytes n why = ⊥
 
 -- how many trees are open behind a line, before which n are
 abbrev pub open_after : ℕ → Line → ℕ

@@ -10,6 +10,9 @@ use Rattle.rwsp_terms.specs.Rules.{rules}
 use Rattle.rwsp_model.specs.declared.fail.Fail.{Fail}
 use Rattle.rwsp_model.specs.declared.fail.Fail.TheVariants.{Refused, Memory}
 use Rattle.refutation_terms.specs.declared.lines.Line.{Line}
+use Rattle.refutation_terms.specs.declared.lines.Line.TheVariants.{Closing}
+use Rattle.refutation_terms.specs.declared.lines.Leaf.TheVariants.{Words as WordsLeaf}
+use Rattle.refutation_terms.specs.declared.lines.WordClaim.TheVariants.{Light}
 use Rattle.refutation_terms.specs.LogText.{RawLine, RawDead, RawBound, RawFew, RawFree, RawUnfinished, weights_of, line_of, WeightsAscend}
 use Rattle.refutation_terms.specs.LineKinds.{most_turns, split_kind, window_kind, day_kind}
 use Rattle.refutation_log.specs.declared.refusal.LineRefusal.{LineRefusal}
@@ -45,7 +48,7 @@ named_weight_at P ws = weight_in P.days GREATEST_WEIGHT ws
 abbrev pub all_weights_at : Instance → Words → Option (List NamedWeight)
 all_weights_at P ws = weights_at P.days GREATEST_WEIGHT ws
 
--- the rules and the weights with which a bound or a free leaf ends
+-- the rules and the weights with which a line ends that weighs words
 unfoldable pub weighed_at : Instance → Words → Option (List ℕ × List NamedWeight)
 weighed_at P ws =
     word_at (codes "weights") (rules_in P ws).1 >>= (λ rest.
@@ -132,6 +135,12 @@ abbrev pub AnswersWeighed : Instance → Option (List ℕ × List NamedWeight)
 AnswersWeighed P read (Ok v) = IsWeighedAnswer P read (Ok v)
 AnswersWeighed P read (Err Memory) = Unit {0}
 AnswersWeighed P read (Err (Refused why)) = IsWeighedAnswer P read (Err why)
+
+-- the line that says of the words from p on that they are light, from its rules and its weights, or the same failure
+abbrev pub light_line : (p turns reward : ℕ) → Result (List ℕ × List Weight) (Fail LineRefusal)
+    → Result Line (Fail LineRefusal)
+light_line p turns reward (Ok v) = Ok (Closing (WordsLeaf p v.0 (Light turns reward v.1)))
+light_line p turns reward (Err fail) = Err fail
 
 -- the answer to a line that was read in this way: the line, or why it is refused
 abbrev pub IsLineAnswer : Instance → Option RawLine → Result Line LineRefusal → Type 0

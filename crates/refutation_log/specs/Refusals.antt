@@ -1,25 +1,28 @@
 -- Why a line of text is no line of a log.
 use Rattle.std.specs.Prelude.{◌≡◌, ◌≢◌, ℕ, ◌+◌, ◌≤◌, List, Option, None, Some}
 use Rattle.rwsp_terms.specs.Instance.{Instance}
-use Rattle.refutation_terms.specs.LogText.{rules_text, goal_text}
-use Rattle.refutation_terms.specs.Log.{AreRules}
-use Rattle.refutation_terms.specs.Verdict.{SpellsNothingFor, SpellsUnknownFor, SpellsNoTurn, TurnsToUnknown}
+use Rattle.refutation_terms.specs.declared.lines.Version.{Version}
+use Rattle.refutation_terms.specs.declared.lines.LogKind.{LogKind}
+use Rattle.refutation_terms.specs.LogText.{version_text, rules_text, goal_text}
+use Rattle.refutation_terms.specs.Ranges.{AreRules}
+use Rattle.refutation_terms.specs.Verdict.{kind_of, SpellsNothing, SpellsUnknown, SpellsNoTurn, TurnsToUnknown}
 use Rattle.refutation_log.specs.declared.refusal.LineRefusal.{LineRefusal}
 use Rattle.refutation_log.specs.declared.refusal.LineRefusal.TheVariants.{Form, Name}
 
 -- no written line of a log with this goal or none is spelled, or one with a name that is no symbol's
-abbrev pub IsLineRefusedFor : Instance → Option ℕ → List ℕ → LineRefusal → Type 0
-IsLineRefusedFor P goal bytes Form = SpellsNothingFor P goal bytes
-IsLineRefusedFor P goal bytes Name = SpellsUnknownFor P goal bytes
-
--- of a log without a goal
-abbrev pub IsLineRefused : Instance → List ℕ → LineRefusal → Type 0
-IsLineRefused P bytes why = IsLineRefusedFor P None bytes why
+abbrev pub IsLineRefused : Instance → Option ℕ → List ℕ → LineRefusal → Type 0
+IsLineRefused P goal bytes Form = SpellsNothing P goal bytes
+IsLineRefused P goal bytes Name = SpellsUnknown P goal bytes
 
 -- no turn is spelled, or one to a name that is no symbol's
 abbrev pub IsTurnRefused : Instance → List ℕ → LineRefusal → Type 0
 IsTurnRefused P bytes Form = SpellsNoTurn P bytes
 IsTurnRefused P bytes Name = TurnsToUnknown P bytes
+
+-- the bytes spell this version of logs of the kind, or none
+abbrev pub SpellsVersion : LogKind → List ℕ → Option Version → Type 0
+SpellsVersion kind bytes None = (v : Version) → kind_of v ≡ kind → bytes ≢ version_text v
+SpellsVersion kind bytes (Some v) = (kind_of v ≡ kind) × (bytes ≡ version_text v)
 
 -- the bytes spell this list of rules, or none
 abbrev pub SpellsRules : Instance → List ℕ → Option (List ℕ) → Type 0

@@ -1,71 +1,60 @@
-// The header of a log's text: its version, the rules that it names, and its turn.
-ghost use Rattle.std.specs.Prelude.{◌≡◌, ◌≤◌, ◌+◌, ◌++◌, Some, None, IfOk, MatchOption, MatchResult};
+// The header of a log's text: its version, the rules that it names, and its turn or its goal.
+ghost use Rattle.std.specs.Prelude.{◌≡◌, ◌≤◌, ◌+◌, ◌++◌, Some, IfOk, MatchOption, MatchResult};
 ghost use Rattle.rwsp_terms.specs.Instance.{name_of};
 ghost use Rattle.rwsp_model.specs.Refusals.{MatchAnswer};
-ghost use Rattle.refutation_terms.specs.Log.{AreRules, TurnFits};
-ghost use Rattle.refutation_terms.specs.LogText.{rules_text, goal_text, turn_text};
-ghost use Rattle.refutation_terms.specs.Verdict.{header_lines, TurnsTo, RulesCause};
-ghost use Rattle.refutation_terms.specs.FreeVerdict.{IsFreeRefused, GoalCause};
+ghost use Rattle.refutation_terms.specs.Ranges.{AreRules};
+ghost use Rattle.refutation_terms.specs.Log.{OpeningFits};
+ghost use Rattle.refutation_terms.specs.LogText.{version_text, rules_text, goal_text, turn_text};
+ghost use Rattle.refutation_terms.specs.Verdict.{kind_of, header_lines, TurnsTo, VersionCause, RulesCause, GoalCause};
 ghost use Rattle.rwsp_text.specs.Lines.{words_of};
-ghost use Rattle.refutation_log.specs.Refusals.{SpellsRules, SpellsGoal, IsTurnRefused};
+ghost use Rattle.refutation_log.specs.Refusals.{SpellsVersion, SpellsRules, SpellsGoal, IsTurnRefused};
 ghost use Rattle.refutation_log.specs.Reading.{named_at, goal_at, turn_at};
-ghost use Rattle.refutation_log.specs.ReadLog.{IsHeaderRefused, BeginsWithHeader, BeginsWithFreeHeader, StopsFor};
-ghost use Rattle.refutation_log.specs.Headers.{BeginsFor, IsRefusedAtHeader, IsVersionOf, first_text, FirstCause, IsThird, StopsAtThird, TurnReadCause, SpellsVersion};
+ghost use Rattle.refutation_log.specs.Headers.{BeginsWithHeader, IsHeaderRefused, StopsFor, IsThird, StopsAtThird, TurnReadCause};
 
 use crate::LineRefusal;
 use crate::line::{body_of, rule_numbers};
-use refutation_terms::{LogRefusal, Turn};
+use refutation_terms::{LogKind, LogRefusal, Opening, Turn, Version};
 use rwsp_model::{Fail, Problem};
 use rwsp_terms::RuleList;
 use rwsp_text::{Fields, LineReader};
 use std::alloc::{AllocError, Global};
 
-/// The number of lines of a header: three with a turn, else two.
-pub fn lines_of_header(turn: Option<Turn>) -> u32
-    ensures value { result ≡ header_lines turn }
+/// The number of lines of the header of a log with this opening and this goal or none: three with a turn or a goal,
+/// else two.
+pub fn lines_of_header(opening: Opening, goal: Option<u32>) -> u32
+    ensures value { result ≡ header_lines opening goal }
     ensures few { result ≤ 3 }
 {
-    match turn {
-        None => 2,
-        Some(_) => 3,
+    match (opening, goal) {
+        (Opening::Full, None) => 2,
+        (Opening::Turned(_), None) => 3,
+        (_, Some(_)) => 3,
     }
 }
-
-/// The number of lines of the header of a log with a goal.
-pub const FREE_HEADER_LINES: u32 = 3;
 
 /// What is in front of a log's lines, and the bytes of these lines.
 #[derive(Drop)]
 pub struct Header<'a> {
     pub named: RuleList,
-    pub turn: Option<Turn>,
+    pub opening: Opening,
     pub goal: Option<u32>,
     pub body: &'a [u8],
 }
 
-/// What the first line of a log says of the third: that there is none, that it is a turn, or that it is a goal.
-#[derive(Clone, Copy)]
-pub enum Version {
-    Plain,
-    Turned,
-    Free,
-}
-
-/// The header of a text, as that of a free log or as that of a log without a goal. Refused are a line that isn't
-/// spelled as it should be, a turn to a name that is no symbol's, and a text that ends before its header does; what the
-/// turn says isn't looked at.
-pub fn read_header_for<'a>(
+/// The header of a text, as that of a log of this kind. Refused are a line that isn't spelled as it should be, a turn
+/// to a name that is no symbol's, and a text that ends before its header does; what the turn says isn't looked at.
+pub fn read_header<'a>(
     alloc: Global,
     problem: &Problem,
-    is_free: bool,
+    kind: LogKind,
     bytes: &'a [u8],
 ) -> Result<Header<'a>, Fail<LogRefusal>>
     ensures { MatchAnswer result
-        (λ h. BeginsFor problem.now is_free bytes.now h.named h.turn h.goal h.body.now)
-        (IsRefusedAtHeader problem.now is_free bytes.now) }
+        (λ h. BeginsWithHeader problem.now kind bytes.now h.named h.opening h.goal h.body.now)
+        (IsHeaderRefused problem.now kind bytes.now) }
 {
     let mut reader = LineReader::new(bytes);
-    let version = match version_line(&mut reader, is_free) {
+    let version = match version_line(&mut reader, kind) {
         Ok(version) => version,
         Err(why) => return Err(Fail::Refused(why)),
     };
@@ -74,9 +63,9 @@ pub fn read_header_for<'a>(
         Err(fail) => return Err(fail),
     };
     match third_line(problem, version, &mut reader) {
-        Ok((turn, goal)) => Ok(Header {
+        Ok((opening, goal)) => Ok(Header {
             named,
-            turn,
+            opening,
             goal,
             body: reader.rest(),
         }),
@@ -84,84 +73,39 @@ pub fn read_header_for<'a>(
     }
 }
 
-/// The header of a text, as that of a log without a goal.
-pub fn read_header<'a>(
-    alloc: Global,
-    problem: &Problem,
-    bytes: &'a [u8],
-) -> Result<Header<'a>, Fail<LogRefusal>>
-    ensures { MatchAnswer result
-        (λ h. BeginsWithHeader problem.now bytes.now h.named h.turn h.body.now)
-        (IsHeaderRefused problem.now bytes.now) }
-{
-    read_header_for(alloc, problem, false, bytes)
-}
-
-/// What is in front of a free log's lines, and the bytes of these lines.
-#[derive(Drop)]
-pub struct FreeHeader<'a> {
-    pub named: RuleList,
-    pub goal: u32,
-    pub body: &'a [u8],
-}
-
-/// The header of a free log's text, which has three lines.
-pub fn read_free_header<'a>(
-    alloc: Global,
-    problem: &Problem,
-    bytes: &'a [u8],
-) -> Result<FreeHeader<'a>, Fail<LogRefusal>>
-    ensures { MatchAnswer result
-        (λ h. BeginsWithFreeHeader problem.now bytes.now h.named h.goal h.body.now)
-        (IsFreeRefused problem.now bytes.now) }
-{
-    let header = match read_header_for(alloc, problem, true, bytes) {
-        Ok(header) => header,
-        Err(fail) => return Err(fail),
-    };
-    match header.goal {
-        None => unreachable!(),
-        Some(goal) => Ok(FreeHeader {
-            named: header.named,
-            goal,
-            body: header.body,
-        }),
-    }
-}
-
-// What the first line says.
-fn version_line(reader: &mut LineReader, is_free: bool) -> Result<Version, LogRefusal>
+// The version that the first line says.
+fn version_line(reader: &mut LineReader, kind: LogKind) -> Result<Version, LogRefusal>
     ensures { MatchResult result
-        (λ v. IsVersionOf is_free v × (reader.old ≡ first_text v ++ reader.new))
-        (StopsFor (FirstCause is_free) reader.old) }
+        (λ v. (kind_of v ≡ kind) × (reader.old ≡ version_text v ++ reader.new))
+        (StopsFor (VersionCause kind) reader.old) }
 {
     let Some(bytes) = reader.next() else {
         return Err(LogRefusal::Ends);
     };
-    match read_version(is_free, bytes) {
+    match read_version(kind, bytes) {
         None => Err(LogRefusal::Form(1)),
         Some(version) => Ok(version),
     }
 }
 
-// The turn or the goal of the third line, or neither where there is none.
+// The turn or the goal of the third line, or neither where the version has none.
 fn third_line(
     problem: &Problem,
     version: Version,
     reader: &mut LineReader,
-) -> Result<(Option<Turn>, Option<u32>), LogRefusal>
+) -> Result<(Opening, Option<u32>), LogRefusal>
     ensures { MatchResult result
         (λ r. IsThird problem.now version r.0 r.1 reader.old reader.new)
         (StopsAtThird problem.now version reader.old) }
 {
     match version {
-        Version::Plain => Ok((None, None)),
-        Version::Turned => match turn_line(problem, reader) {
-            Ok(turn) => Ok((Some(turn), None)),
+        Version::Version1 => Ok((Opening::Full, None)),
+        Version::Version2 => match turn_line(problem, reader) {
+            Ok(turn) => Ok((Opening::Turned(turn), None)),
             Err(why) => Err(why),
         },
-        Version::Free => match goal_line(problem, reader) {
-            Ok(goal) => Ok((None, Some(goal))),
+        Version::Free1 => match goal_line(problem, reader) {
+            Ok(goal) => Ok((Opening::Full, Some(goal))),
             Err(why) => Err(why),
         },
     }
@@ -205,7 +149,8 @@ fn rules_line(
 // The turn of the third line.
 fn turn_line(problem: &Problem, reader: &mut LineReader) -> Result<Turn, LogRefusal>
     ensures { MatchResult result
-        (λ t. TurnFits problem.now (Some t) × (reader.old ≡ turn_text (name_of problem.now t.x) t.day ++ reader.new))
+        (λ t. OpeningFits problem.now (Opening.Turned t)
+        × (reader.old ≡ turn_text (name_of problem.now t.x) t.day ++ reader.new))
         (StopsFor (TurnReadCause problem.now) reader.old) }
 {
     problem.prove_limits();
@@ -219,20 +164,33 @@ fn turn_line(problem: &Problem, reader: &mut LineReader) -> Result<Turn, LogRefu
     }
 }
 
-// What the first line says; None where it spells no version of the kind that is asked for.
-fn read_version(is_free: bool, bytes: &[u8]) -> Option<Version>
-    ensures { SpellsVersion is_free bytes.now result }
+// The version that the first line says; None where it says none of the kind that is asked for.
+fn read_version(kind: LogKind, bytes: &[u8]) -> Option<Version>
+    ensures { SpellsVersion kind bytes.now result }
 {
-    if is_free {
-        if bytes == b"rwsp-free 1\n".as_slice() {
-            return Some(Version::Free);
-        }
-        return None;
+    match kind {
+        LogKind::WithoutGoal => read_log_version(bytes),
+        LogKind::WithGoal => read_free_version(bytes),
     }
+}
+
+fn read_log_version(bytes: &[u8]) -> Option<Version>
+    ensures { SpellsVersion LogKind.WithoutGoal bytes.now result }
+{
     if bytes == b"rwsp-log 1\n".as_slice() {
-        Some(Version::Plain)
+        Some(Version::Version1)
     } else if bytes == b"rwsp-log 2\n".as_slice() {
-        Some(Version::Turned)
+        Some(Version::Version2)
+    } else {
+        None
+    }
+}
+
+fn read_free_version(bytes: &[u8]) -> Option<Version>
+    ensures { SpellsVersion LogKind.WithGoal bytes.now result }
+{
+    if bytes == b"rwsp-free 1\n".as_slice() {
+        Some(Version::Free1)
     } else {
         None
     }

@@ -6,13 +6,14 @@ pub fn logs_have_one_text()
     ensures { LogsHaveOneText }
 {}
 
-/// The text of a whole log that fits is not refused by reading. So it is read, and as this log, unless there is no
-/// memory.
+/// The text of a whole log that fits is not refused by reading as a log of its kind. So it is read, and as this log,
+/// unless there is no memory.
 pub fn texts_of_logs_are_read()
     ensures { TextsOfLogsAreRead }
 {}
 
-/// A text has one verdict at most, for each valid problem: a log that passes, or one cause on one line.
+/// As a log of a kind a text has one verdict at most, for each valid problem: a log that passes, or one cause on one
+/// line.
 pub fn texts_have_one_verdict()
     ensures { TextsHaveOneVerdict }
 {}

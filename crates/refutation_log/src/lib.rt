@@ -15,20 +15,17 @@ mod refusal;
 mod turn;
 
 pub use best_found::BestFound;
-pub use cited::{put_cited, put_cited_for, put_turn_cited};
+pub use cited::{put_cited, put_opening_cited};
 pub use found::Found;
-pub use header::{
-    FREE_HEADER_LINES, FreeHeader, Header, lines_of_header, read_free_header, read_header,
-    read_header_for,
-};
+pub use header::{Header, lines_of_header, read_header};
 pub use laws::{
     logs_have_one_text, texts_have_one_verdict, texts_of_logs_are_read, unread_texts_have_one_cause,
 };
-pub use line::{read_line, read_line_for};
+pub use line::read_line;
 pub use log::{Log, copy_line};
-pub use print::{print_free, print_log};
+pub use print::print_log;
 pub use read::read_log;
 pub use refusal::LineRefusal;
-pub use refutation_terms::{Line, LogRefusal, Turn};
+pub use refutation_terms::{Leaf, Line, LogKind, LogRefusal, Opening, Turn, WordClaim};
 pub use rwsp_text::LineReader;
 pub use turn::first_turn;

@@ -4,19 +4,19 @@ ghost use Rattle.std.specs.List.Sorted.{IsStrictlyIncreasing};
 ghost use Rattle.rwsp_terms.specs.Rules.{rules};
 ghost use Rattle.rwsp_model.specs.Refusals.{MatchAnswer};
 ghost use Rattle.refutation_terms.specs.LogText.{RawSplit, RawWindow, RawDay};
-ghost use Rattle.refutation_terms.specs.Verdict.{Spells, SpellsFor};
+ghost use Rattle.refutation_terms.specs.Verdict.{Spells};
 ghost use Rattle.rwsp_text.specs.Lines.{words_of};
-ghost use Rattle.refutation_log.specs.Refusals.{IsLineRefused, IsLineRefusedFor};
+ghost use Rattle.refutation_log.specs.Refusals.{IsLineRefused};
 ghost use Rattle.rwsp_text.specs.Fields.{IsValue};
 ghost use Rattle.rwsp_text.specs.Reads.{Reads};
 ghost use Rattle.rwsp_terms.specs.declared.limits.TheConstants.{GREATEST_WEIGHT};
 ghost use Rattle.refutation_terms.specs.LineKinds.{most_turns};
-ghost use Rattle.refutation_log.specs.Reading.{split_at, window_at, day_at, head_at, rules_in, dead_at, named_weight_at, all_weights_at, weighed_at, bound_at, free_head_at, free_at, without_goal_at, with_goal_at, raw_at, Answers, AnswersWeighed};
+ghost use Rattle.refutation_log.specs.Reading.{split_at, window_at, day_at, head_at, rules_in, dead_at, named_weight_at, all_weights_at, weighed_at, bound_at, free_head_at, free_at, without_goal_at, with_goal_at, raw_at, Answers, AnswersWeighed, light_line};
 ghost use Rattle.refutation_log.specs.Gathering.{GivesAll, IsWeighed};
 
 use crate::LineRefusal;
 use crate::gather::{Gathered, add};
-use refutation_terms::Line;
+use refutation_terms::{Leaf, Line, WordClaim};
 use rwsp_model::{Fail, Problem, rule_count};
 use rwsp_terms::limits::{GREATEST_REWARD, GREATEST_WEIGHT, LONGEST_WORD};
 use rwsp_terms::{RuleList, Weights};
@@ -27,21 +27,14 @@ const FORM: Fail<LineRefusal> = Fail::Refused(LineRefusal::Form);
 
 const NAME: Fail<LineRefusal> = Fail::Refused(LineRefusal::Name);
 
-/// The line of a log without a goal that a line of text spells. It needs its LF.
-pub fn read_line(alloc: Global, problem: &Problem, bytes: &[u8]) -> Result<Line, Fail<LineRefusal>>
-    ensures { MatchAnswer result (Spells problem.now bytes.now) (IsLineRefused problem.now bytes.now) }
-{
-    read_line_for(alloc, problem, None, bytes)
-}
-
 /// The line of a log with this goal, or without one, that a line of text spells. It needs its LF.
-pub fn read_line_for(
+pub fn read_line(
     alloc: Global,
     problem: &Problem,
     goal: Option<u32>,
     bytes: &[u8],
 ) -> Result<Line, Fail<LineRefusal>>
-    ensures { MatchAnswer result (SpellsFor problem.now goal bytes.now) (IsLineRefusedFor problem.now goal bytes.now) }
+    ensures { MatchAnswer result (Spells problem.now goal bytes.now) (IsLineRefused problem.now goal bytes.now) }
 {
     problem.prove_limits();
     match body_of(bytes) {
@@ -119,7 +112,7 @@ fn read_with_goal(
 {
     if word == b"few".as_slice() {
         if fields.is_done() {
-            Ok(Line::Few)
+            Ok(Line::Closing(Leaf::Few))
         } else {
             Err(FORM)
         }
@@ -178,7 +171,7 @@ fn read_window(problem: &Problem, fields: &mut Fields) -> Result<Line, Fail<Line
 {
     match window_parts(problem, fields) {
         None => Err(FORM),
-        Some((rule, p, len)) => Ok(Line::Window { rule, p, len }),
+        Some((rule, p, len)) => Ok(Line::Closing(Leaf::Window { rule, p, len })),
     }
 }
 
@@ -205,7 +198,7 @@ fn read_day(problem: &Problem, fields: &mut Fields) -> Result<Line, Fail<LineRef
     };
     match problem.symbol(name) {
         None => Err(NAME),
-        Some(x) => Ok(Line::Day { day, x, over }),
+        Some(x) => Ok(Line::Closing(Leaf::Day { day, x, over })),
     }
 }
 
@@ -265,7 +258,11 @@ fn read_dead(
         return Err(Fail::Memory);
     };
     if fields.is_done() {
-        Ok(Line::Dead { p, len, rules })
+        Ok(Line::Closing(Leaf::Words {
+            p,
+            rules,
+            claim: WordClaim::Dead { len },
+        }))
     } else {
         Err(FORM)
     }
@@ -302,7 +299,7 @@ fn weights(
     Ok(Some(state))
 }
 
-// The rules and the weights with which a bound or a free leaf ends.
+// The rules and the weights with which a line ends that weighs words.
 #[tactic(auto, unfolding(crate::specs::Reading::weighed_at))]
 fn weighed(
     alloc: Global,
@@ -334,6 +331,29 @@ fn with_rules(rules: RuleList, state: Gathered) -> Result<(RuleList, Weights), F
     }
 }
 
+// The line that says of the words from p on that they are light, with the rules and the weights that end it.
+fn light_line(
+    p: u32,
+    turns: u32,
+    reward: u32,
+    weighed: Result<(RuleList, Weights), Fail<LineRefusal>>,
+) -> Result<Line, Fail<LineRefusal>>
+    ensures { result ≡ light_line p turns reward weighed }
+{
+    match weighed {
+        Err(fail) => Err(fail),
+        Ok((rules, weights)) => Ok(Line::Closing(Leaf::Words {
+            p,
+            rules,
+            claim: WordClaim::Light {
+                turns,
+                reward,
+                weights,
+            },
+        })),
+    }
+}
+
 #[tactic(auto, unfolding(crate::specs::Reading::bound_at), using(crate::proofs::LineTexts::few_turns))]
 fn read_bound(
     alloc: Global,
@@ -345,15 +365,7 @@ fn read_bound(
     let Some((p, turns)) = head(problem, fields, most_turns(problem)) else {
         return Err(FORM);
     };
-    match weighed(alloc, problem, fields) {
-        Err(fail) => Err(fail),
-        Ok((rules, weights)) => Ok(Line::Bound {
-            p,
-            turns,
-            rules,
-            weights,
-        }),
-    }
+    light_line(p, turns, 0, weighed(alloc, problem, fields))
 }
 
 // The turns, the reward, and the word that begins a list of rules.
@@ -378,15 +390,7 @@ fn read_free(
     let Some((turns, reward)) = free_head(problem, fields) else {
         return Err(FORM);
     };
-    match weighed(alloc, problem, fields) {
-        Err(fail) => Err(fail),
-        Ok((rules, weights)) => Ok(Line::Free {
-            turns,
-            reward,
-            rules,
-            weights,
-        }),
-    }
+    light_line(0, turns, reward, weighed(alloc, problem, fields))
 }
 
 // The most turns that a leaf may speak of.

@@ -1,19 +1,19 @@
 // Logs, and copies of them.
-ghost use Rattle.std.specs.Prelude.{◌≡◌, ◌≤◌, length, Option, Some, None, IfOk};
+ghost use Rattle.std.specs.Prelude.{◌≡◌, ◌≤◌, length, IfOk};
 ghost use Rattle.rwsp_terms.specs.declared.limits.TheConstants.{MOST_LINES};
 ghost use Rattle.refutation_terms.specs.Tree.{IsTree};
 
-use refutation_terms::{Line, Turn};
+use refutation_terms::{Leaf, Line, Opening, WordClaim};
 use rwsp_terms::RuleList;
 use std::alloc::{AllocError, Global};
 use std::marker::Model;
 
-/// The rules that a refutation names, its turn if it has one, its goal if it has one, and its lines, which are one
-/// whole tree. A log with a goal says that no roster has as many free weekends as the goal.
+/// The rules that a refutation names, what is known before its first line, its goal if it has one, and its lines, which
+/// are one whole tree. A log with a goal says that no roster has as many free weekends as the goal.
 #[derive(Drop)]
 pub struct Log {
     named: RuleList,
-    turn: Option<Turn>,
+    opening: Opening,
     goal: Option<u32>,
     lines: Vec<Line>,
 }
@@ -26,7 +26,7 @@ impl Model for Log {
 
     ghost Value = { LogValue };
 
-    ghost view = { λ g. record { named = g.named; turn = g.turn; goal = g.goal; lines = g.lines.items } };
+    ghost view = { λ g. record { named = g.named; opening = g.opening; goal = g.goal; lines = g.lines.items } };
 
     ghost invariant = { λ g. (after_trees 1 g.lines.items ≡ Some []) × (length g.lines.items ≤ MOST_LINES) };
 }
@@ -34,45 +34,21 @@ impl Model for Log {
 impl Log {
     ghost use Rattle.refutation_terms.specs.Log.{Log as LogValue};
 
-    /// The log of these rules, this turn, this goal and these lines.
-    pub fn new(named: RuleList, turn: Option<Turn>, goal: Option<u32>, lines: Vec<Line>) -> Log
+    /// The log of these rules, this opening, this goal if there is one, and these lines.
+    pub fn new(named: RuleList, opening: Opening, goal: Option<u32>, lines: Vec<Line>) -> Log
         requires tree { IsTree lines.items }
         requires few { length lines.items ≤ MOST_LINES }
         ensures named { result.named ≡ named }
-        ensures turn { result.turn ≡ turn }
+        ensures opening { result.opening ≡ opening }
         ensures goal { result.goal ≡ goal }
         ensures lines { result.lines ≡ lines.items }
     {
         Log {
             named,
-            turn,
+            opening,
             goal,
             lines,
         }
-    }
-
-    /// The log of these rules, this turn and these lines, without a goal.
-    pub fn of(named: RuleList, turn: Option<Turn>, lines: Vec<Line>) -> Log
-        requires tree { IsTree lines.items }
-        requires few { length lines.items ≤ MOST_LINES }
-        ensures named { result.named ≡ named }
-        ensures turn { result.turn ≡ turn }
-        ensures goal { result.goal ≡ None }
-        ensures lines { result.lines ≡ lines.items }
-    {
-        Log::new(named, turn, None, lines)
-    }
-
-    /// The free log of these rules, this goal and these lines. It has no turn.
-    pub fn with_goal(named: RuleList, goal: u32, lines: Vec<Line>) -> Log
-        requires tree { IsTree lines.items }
-        requires few { length lines.items ≤ MOST_LINES }
-        ensures named { result.named ≡ named }
-        ensures turn { result.turn ≡ None }
-        ensures goal { result.goal ≡ Some goal }
-        ensures lines { result.lines ≡ lines.items }
-    {
-        Log::new(named, None, Some(goal), lines)
     }
 
     /// The rules that it names.
@@ -82,11 +58,11 @@ impl Log {
         &self.named
     }
 
-    /// The assumption on week 1, if it has one.
-    pub fn turn(&self) -> Option<Turn>
-        ensures { result ≡ self.now.turn }
+    /// What is known before its first line: that week 1 holds the symbol of its turn, if it has one.
+    pub fn opening(&self) -> Opening
+        ensures { result ≡ self.now.opening }
     {
-        self.turn
+        self.opening
     }
 
     /// How many free weekends it says that no roster has, if it is a free log.
@@ -105,15 +81,15 @@ impl Log {
         &self.lines
     }
 
-    /// Its rules, its turn, its goal and its lines, by themselves.
-    pub fn into_parts(self) -> (RuleList, Option<Turn>, Option<u32>, Vec<Line>)
+    /// Its rules, its opening, its goal and its lines, by themselves.
+    pub fn into_parts(self) -> (RuleList, Opening, Option<u32>, Vec<Line>)
         ensures named { result.0 ≡ self.named }
-        ensures turn { result.1 ≡ self.turn }
+        ensures opening { result.1 ≡ self.opening }
         ensures goal { result.2 ≡ self.goal }
         ensures lines { result.3.items ≡ self.lines }
         ensures few { length result.3.items ≤ MOST_LINES }
     {
-        (self.named, self.turn, self.goal, self.lines)
+        (self.named, self.opening, self.goal, self.lines)
     }
 
     /// A copy of the log.
@@ -124,7 +100,7 @@ impl Log {
         let lines = copy_lines(*self.lines.allocator(), &self.lines)?;
         Ok(Log {
             named,
-            turn: self.turn,
+            opening: self.opening,
             goal: self.goal,
             lines,
         })
@@ -137,56 +113,58 @@ pub fn copy_line(line: &Line) -> Result<Line, AllocError>
 {
     match line {
         Line::Split { p, x } => Ok(Line::Split { p: *p, x: *x }),
-        Line::Window { rule, p, len } => Ok(Line::Window {
+        Line::Closing(leaf) => {
+            let leaf = copy_leaf(leaf)?;
+            Ok(Line::Closing(leaf))
+        }
+        Line::Unfinished => Ok(Line::Unfinished),
+    }
+}
+
+fn copy_leaf(leaf: &Leaf) -> Result<Leaf, AllocError>
+    ensures { IfOk result (λ same. same ≡ leaf.now) }
+{
+    match leaf {
+        Leaf::Window { rule, p, len } => Ok(Leaf::Window {
             rule: *rule,
             p: *p,
             len: *len,
         }),
-        Line::Day { day, x, over } => Ok(Line::Day {
+        Leaf::Day { day, x, over } => Ok(Leaf::Day {
             day: *day,
             x: *x,
             over: *over,
         }),
-        Line::Dead { p, len, rules } => {
+        Leaf::Words { p, rules, claim } => {
             let rules = rules.copy()?;
-            Ok(Line::Dead {
+            let claim = copy_claim(claim)?;
+            Ok(Leaf::Words {
                 p: *p,
-                len: *len,
                 rules,
+                claim,
             })
         }
-        Line::Bound {
-            p,
-            turns,
-            rules,
-            weights,
-        } => {
-            let rules = rules.copy()?;
-            let weights = weights.copy()?;
-            Ok(Line::Bound {
-                p: *p,
-                turns: *turns,
-                rules,
-                weights,
-            })
-        }
-        Line::Few => Ok(Line::Few),
-        Line::Free {
+        Leaf::Few => Ok(Leaf::Few),
+    }
+}
+
+fn copy_claim(claim: &WordClaim) -> Result<WordClaim, AllocError>
+    ensures { IfOk result (λ same. same ≡ claim.now) }
+{
+    match claim {
+        WordClaim::Dead { len } => Ok(WordClaim::Dead { len: *len }),
+        WordClaim::Light {
             turns,
             reward,
-            rules,
             weights,
         } => {
-            let rules = rules.copy()?;
             let weights = weights.copy()?;
-            Ok(Line::Free {
+            Ok(WordClaim::Light {
                 turns: *turns,
                 reward: *reward,
-                rules,
                 weights,
             })
         }
-        Line::Unfinished => Ok(Line::Unfinished),
     }
 }
 

@@ -1,18 +1,20 @@
 // The text of a log.
-ghost use Rattle.std.specs.Prelude.{◌≡◌, ℕ, ◌++◌, ◌∷◌, ◌<◌, map, OnOk, IfOk, Option, Some, slice_get};
+ghost use Rattle.std.specs.Prelude.{◌≡◌, ℕ, ◌++◌, ◌∷◌, ◌<◌, OnOk, IfOk, Some, None, slice_get};
 ghost use Rattle.std.specs.List.{join_with_byte};
 ghost use Rattle.std.specs.Fmt.{signed_decimal, decimal};
 ghost use Rattle.rwsp_terms.specs.Instance.{cells, IsSymbol, name_of};
-ghost use Rattle.rwsp_terms.specs.declared.data.Symbol.{Symbol};
-ghost use Rattle.rwsp_terms.specs.declared.data.Weight.{Weight};
 ghost use Rattle.refutation_terms.specs.declared.lines.Line.{Line};
-ghost use Rattle.refutation_terms.specs.Log.{FitsFor, TurnFits, WeightsFit};
-ghost use Rattle.refutation_terms.specs.LogText.{RawSplit, RawWindow, RawDay, RawDead, RawBound, RawFree, raw, raw_fields, line_text, log_text_for, header_text, free_header_text, rules_text, goal_text, turn_text, place_words, named_weight, way};
+ghost use Rattle.refutation_terms.specs.declared.lines.Version.TheVariants.{Free1};
+ghost use Rattle.refutation_terms.specs.Ranges.{WeightsFit};
+ghost use Rattle.refutation_terms.specs.WordsLeaf.{WordsFit};
+ghost use Rattle.refutation_terms.specs.Leaves.{LeafFits};
+ghost use Rattle.refutation_terms.specs.Log.{Fits, LineFits, OpeningFits};
+ghost use Rattle.refutation_terms.specs.LogText.{RawSplit, RawWindow, RawDay, RawDead, raw, raw_fields, line_text, lines_text, log_text, header_text, version_text, rules_text, goal_text, turn_text, place_words, named_weight, way};
 ghost use Rattle.rwsp_text.specs.Fields.{numbers, weight_fields};
-ghost use Rattle.refutation_log.specs.Printing.{spaced, lines_text, weight_words, header_text_for, FitsSomeLog};
+ghost use Rattle.refutation_log.specs.Printing.{spaced, weight_words, light_head, weighed_words};
 
 use crate::Log;
-use refutation_terms::{Line, Turn};
+use refutation_terms::{Leaf, Line, Opening, Turn, WordClaim};
 use rwsp_model::Problem;
 use rwsp_terms::{Symbol, Weight};
 use rwsp_text::{put_number, put_signed};
@@ -20,58 +22,61 @@ use std::alloc::{AllocError, Global};
 
 /// The text of the log, with a goal or without.
 pub fn print_log(alloc: Global, problem: &Problem, log: &Log) -> Result<Vec<u8>, AllocError>
-    requires { (goal : Option ℕ) × FitsFor problem.now goal log.now }
-    ensures { IfOk result (λ v. v.items ≡ log_text_for problem.now log.now.goal log.now) }
+    requires { Fits problem.now log.now }
+    ensures { IfOk result (λ v. v.items ≡ log_text problem.now log.now) }
 {
     let mut out = Vec::new(alloc);
     put_header(&mut out, problem, log)?;
-    put_lines(&mut out, problem, log.lines())?;
+    put_lines(&mut out, problem, log.goal(), log.lines())?;
     Ok(out)
 }
 
-/// The text of the free log.
-pub fn print_free(alloc: Global, problem: &Problem, log: &Log) -> Result<Vec<u8>, AllocError>
-    requires { (goal : ℕ) × FitsFor problem.now (Some goal) log.now }
-    ensures { IfOk result (λ v. v.items ≡ log_text_for problem.now log.now.goal log.now) }
+// Appends the text of the line of a log with this goal or none, with its LF.
+fn put_line(
+    out: &mut Vec<u8>,
+    problem: &Problem,
+    goal: Option<u32>,
+    line: &Line,
+) -> Result<(), AllocError>
+    requires { LineFits problem.now goal line.now }
+    ensures { OnOk result (out.new.items ≡ out.old.items ++ line_text problem.now (raw problem.now goal line.now)) }
 {
-    print_log(alloc, problem, log)
-}
-
-/// Appends the text of the line, with its LF.
-fn put_line(out: &mut Vec<u8>, problem: &Problem, line: &Line) -> Result<(), AllocError>
-    requires { FitsSomeLog problem.now line.now }
-    ensures { OnOk result (out.new.items ≡ out.old.items ++ line_text problem.now (raw problem.now line.now)) }
-{
-    put_fields(out, problem, line)?;
+    put_fields(out, problem, goal, line)?;
     out.push(b'\n')?;
     Ok(())
 }
 
-fn put_lines(out: &mut Vec<u8>, problem: &Problem, lines: &[Line]) -> Result<(), AllocError>
-    requires { (k : ℕ) (line : Line) → slice_get lines.now k ≡ Some line → FitsSomeLog problem.now line }
-    ensures { OnOk result (out.new.items ≡ out.old.items ++ lines_text problem.now lines.now) }
+fn put_lines(
+    out: &mut Vec<u8>,
+    problem: &Problem,
+    goal: Option<u32>,
+    lines: &[Line],
+) -> Result<(), AllocError>
+    requires { (k : ℕ) (line : Line) → slice_get lines.now k ≡ Some line → LineFits problem.now goal line }
+    ensures { OnOk result (out.new.items ≡ out.old.items ++ lines_text problem.now goal lines.now) }
 {
     for line in lines {
-        put_line(out, problem, line)?;
+        put_line(out, problem, goal, line)?;
     }
     Ok(())
 }
 
 // Appends the header: the version, the named rules, and the turn or the goal, if there is one.
 fn put_header(out: &mut Vec<u8>, problem: &Problem, log: &Log) -> Result<(), AllocError>
-    requires { TurnFits problem.now log.now.turn }
+    requires { OpeningFits problem.now log.now.opening }
     ensures { OnOk result (out.new.items ≡ out.old.items
-        ++ header_text_for problem.now log.now.named log.now.turn log.now.goal) }
+        ++ header_text problem.now log.now.named log.now.opening log.now.goal) }
 {
     let named = log.named().numbers();
     match log.goal() {
         Some(goal) => put_free_header(out, named, goal),
-        None => put_plain_header(out, problem, named, log.turn()),
+        None => put_plain_header(out, problem, named, log.opening()),
     }
 }
 
 fn put_free_header(out: &mut Vec<u8>, named: &[u32], goal: u32) -> Result<(), AllocError>
-    ensures { OnOk result (out.new.items ≡ out.old.items ++ free_header_text named.now goal) }
+    ensures { OnOk result (out.new.items
+        ≡ out.old.items ++ version_text Free1 ++ rules_text named.now ++ goal_text goal) }
 {
     out.extend_from_slice(b"rwsp-free 1\n")?;
     put_named(out, named)?;
@@ -92,17 +97,17 @@ fn put_plain_header(
     out: &mut Vec<u8>,
     problem: &Problem,
     named: &[u32],
-    turn: Option<Turn>,
+    opening: Opening,
 ) -> Result<(), AllocError>
-    requires { TurnFits problem.now turn }
-    ensures { OnOk result (out.new.items ≡ out.old.items ++ header_text problem.now named.now turn) }
+    requires { OpeningFits problem.now opening }
+    ensures { OnOk result (out.new.items ≡ out.old.items ++ header_text problem.now named.now opening None) }
 {
-    match turn {
-        None => {
+    match opening {
+        Opening::Full => {
             out.extend_from_slice(b"rwsp-log 1\n")?;
             put_named(out, named)
         }
-        Some(turn) => {
+        Opening::Turned(turn) => {
             out.extend_from_slice(b"rwsp-log 2\n")?;
             put_named(out, named)?;
             put_turn(out, problem, turn)
@@ -133,37 +138,71 @@ fn put_turn(out: &mut Vec<u8>, problem: &Problem, turn: Turn) -> Result<(), Allo
 }
 
 // The fields of a line, with a blank between each two.
-fn put_fields(out: &mut Vec<u8>, problem: &Problem, line: &Line) -> Result<(), AllocError>
-    requires { FitsSomeLog problem.now line.now }
+fn put_fields(
+    out: &mut Vec<u8>,
+    problem: &Problem,
+    goal: Option<u32>,
+    line: &Line,
+) -> Result<(), AllocError>
+    requires { LineFits problem.now goal line.now }
     ensures { OnOk result (out.new.items ≡ out.old.items
-        ++ join_with_byte 32 (raw_fields problem.now (raw problem.now line.now))) }
+        ++ join_with_byte 32 (raw_fields problem.now (raw problem.now goal line.now))) }
 {
     match line {
         Line::Split { p, x } => put_split(out, problem, *p, *x),
-        Line::Window { rule, p, len } => put_window(out, problem, *rule, *p, *len),
-        Line::Day { day, x, over } => put_day(out, problem, *day, *x, *over),
-        Line::Dead { p, len, rules } => put_dead(out, problem, *p, *len, rules.numbers()),
-        Line::Bound {
-            p,
-            turns,
-            rules,
-            weights,
-        } => put_bound(out, problem, *p, *turns, rules.numbers(), weights.entries()),
-        Line::Few => out.extend_from_slice(b"few"),
-        Line::Free {
-            turns,
-            reward,
-            rules,
-            weights,
-        } => put_free(
+        Line::Closing(leaf) => put_leaf(out, problem, goal, leaf),
+        Line::Unfinished => out.extend_from_slice(b"open"),
+    }
+}
+
+fn put_leaf(
+    out: &mut Vec<u8>,
+    problem: &Problem,
+    goal: Option<u32>,
+    leaf: &Leaf,
+) -> Result<(), AllocError>
+    requires { LeafFits problem.now goal leaf.now }
+    ensures { OnOk result (out.new.items ≡ out.old.items
+        ++ join_with_byte 32 (raw_fields problem.now (raw problem.now goal (Line.Closing leaf.now)))) }
+{
+    match leaf {
+        Leaf::Window { rule, p, len } => put_window(out, problem, *rule, *p, *len),
+        Leaf::Day { day, x, over } => put_day(out, problem, *day, *x, *over),
+        Leaf::Words { p, rules, claim } => put_words(
             out,
             problem,
-            *turns,
-            *reward,
+            goal,
+            *p,
             rules.numbers(),
-            weights.entries(),
+            claim,
         ),
-        Line::Unfinished => out.extend_from_slice(b"open"),
+        Leaf::Few => out.extend_from_slice(b"few"),
+    }
+}
+
+fn put_words(
+    out: &mut Vec<u8>,
+    problem: &Problem,
+    goal: Option<u32>,
+    p: u32,
+    rules: &[u32],
+    claim: &WordClaim,
+) -> Result<(), AllocError>
+    requires { WordsFit problem.now goal p rules.now claim.now }
+    ensures { OnOk result (out.new.items ≡ out.old.items
+        ++ join_with_byte 32 (raw_fields problem.now
+        (raw problem.now goal (Line.Closing (Leaf.Words p rules.now claim.now))))) }
+{
+    match claim {
+        WordClaim::Dead { len } => put_dead(out, problem, p, *len, rules),
+        WordClaim::Light {
+            turns,
+            reward,
+            weights,
+        } => {
+            put_light_head(out, problem, goal, p, *turns, *reward)?;
+            put_weighed(out, problem, rules, weights.entries())
+        }
     }
 }
 
@@ -234,47 +273,46 @@ fn put_dead(
     put_numbers(out, rules)
 }
 
-#[tactic(auto, using(crate::proofs::PrintedTexts::bound_text))]
-fn put_bound(
+// How the line begins that weighs words: in a log with a goal it has a word of its own and the reward.
+#[tactic(auto, using(crate::proofs::PrintedTexts::bound_head_text, crate::proofs::PrintedTexts::free_head_text))]
+fn put_light_head(
     out: &mut Vec<u8>,
     problem: &Problem,
+    goal: Option<u32>,
     p: u32,
     turns: u32,
-    rules: &[u32],
-    weights: &[Weight],
+    reward: u32,
 ) -> Result<(), AllocError>
-    requires place { p < cells problem.now }
-    requires symbols { WeightsFit problem.now weights.now }
+    requires { p < cells problem.now }
     ensures { OnOk result (out.new.items ≡ out.old.items
-        ++ join_with_byte 32 (raw_fields problem.now
-        (RawBound p turns rules.now (map (named_weight problem.now) weights.now)))) }
+        ++ join_with_byte 32 (light_head problem.now goal p turns reward)) }
 {
-    out.extend_from_slice(b"bound")?;
-    put_place(out, problem, p)?;
-    put_count(out, turns)?;
-    put_word(out, b"rules")?;
-    put_numbers(out, rules)?;
-    put_word(out, b"weights")?;
-    put_weights(out, problem, weights)
+    match goal {
+        None => {
+            out.extend_from_slice(b"bound")?;
+            put_place(out, problem, p)?;
+            put_count(out, turns)
+        }
+        Some(_) => {
+            out.extend_from_slice(b"free")?;
+            put_count(out, turns)?;
+            put_count(out, reward)
+        }
+    }
 }
 
-#[tactic(auto, using(crate::proofs::PrintedTexts::free_text))]
-fn put_free(
+// How it ends.
+#[tactic(auto, using(crate::proofs::PrintedTexts::weighed_text))]
+fn put_weighed(
     out: &mut Vec<u8>,
     problem: &Problem,
-    turns: u32,
-    reward: u32,
     rules: &[u32],
     weights: &[Weight],
 ) -> Result<(), AllocError>
     requires { WeightsFit problem.now weights.now }
     ensures { OnOk result (out.new.items ≡ out.old.items
-        ++ join_with_byte 32 (raw_fields problem.now
-        (RawFree turns reward rules.now (map (named_weight problem.now) weights.now)))) }
+        ++ spaced (weighed_words problem.now rules.now weights.now)) }
 {
-    out.extend_from_slice(b"free")?;
-    put_count(out, turns)?;
-    put_count(out, reward)?;
     put_word(out, b"rules")?;
     put_numbers(out, rules)?;
     put_word(out, b"weights")?;

@@ -2,29 +2,33 @@
 ghost use Rattle.std.specs.Prelude.{◌≡◌, ◌≤◌, ◌<◌, ◌+◌, ◌^◌, ◌++◌, ◌∷◌, [], length, OnOk};
 ghost use Rattle.rwsp_terms.specs.declared.limits.TheConstants.{LONGEST_LOG};
 ghost use Rattle.rwsp_model.specs.Refusals.{MatchAnswer};
-ghost use Rattle.refutation_terms.specs.Tree.{IsTree};
-ghost use Rattle.refutation_terms.specs.Log.{Fits, AreRules, TurnFits};
-ghost use Rattle.refutation_terms.specs.LogText.{log_text, header_text};
-ghost use Rattle.refutation_terms.specs.Verdict.{Spells};
-ghost use Rattle.refutation_log.specs.ReadLog.{IsUnread, AreReadLines, IsTreeLineRefused, open_after};
+ghost use Rattle.refutation_terms.specs.Ranges.{AreRules};
+ghost use Rattle.refutation_terms.specs.Log.{OpeningFits, GoalFits};
+ghost use Rattle.refutation_terms.specs.LogText.{header_text};
+ghost use Rattle.refutation_terms.specs.Verdict.{kind_by, Spells};
+ghost use Rattle.refutation_log.specs.ReadLog.{HasLogsOf, IsReadAs, IsUnread, log_with, AreReadLines, IsTreeLineRefused, open_after};
 
 use crate::header::{Header, lines_of_header, read_header};
-use crate::line::read_line_for;
+use crate::line::read_line;
 use crate::{LineRefusal, Log};
-use refutation_terms::{Line, LogRefusal};
+use refutation_terms::{Line, LogKind, LogRefusal};
 use rwsp_model::{Fail, Problem};
 use rwsp_text::LineReader;
 use std::alloc::{AllocError, Global};
 
-/// The log that a text spells. Refused are a line that isn't spelled as one, a name that is no symbol's, a text that
-/// ends before the tree does, and a line behind the tree; what the lines say isn't looked at.
-pub fn read_log(alloc: Global, problem: &Problem, bytes: &[u8]) -> Result<Log, Fail<LogRefusal>>
-    requires { length bytes.now ≤ LONGEST_LOG }
-    ensures { MatchAnswer result
-        (λ g. (bytes.now ≡ log_text problem.now g) × Fits problem.now g × IsTree g.lines)
-        (IsUnread problem.now bytes.now) }
+/// The log of this kind that a text spells. Refused are a line that isn't spelled as one, a name that is no symbol's, a
+/// text that ends before the tree does, and a line behind the tree; what the lines say isn't looked at.
+pub fn read_log(
+    alloc: Global,
+    problem: &Problem,
+    kind: LogKind,
+    bytes: &[u8],
+) -> Result<Log, Fail<LogRefusal>>
+    requires kind { HasLogsOf problem.now kind }
+    requires few { length bytes.now ≤ LONGEST_LOG }
+    ensures { MatchAnswer result (IsReadAs problem.now kind bytes.now) (IsUnread problem.now kind bytes.now) }
 {
-    let header = match read_header(alloc, problem, bytes) {
+    let header = match read_header(alloc, problem, kind, bytes) {
         Ok(header) => header,
         Err(fail) => return Err(fail),
     };
@@ -34,9 +38,9 @@ pub fn read_log(alloc: Global, problem: &Problem, bytes: &[u8]) -> Result<Log, F
         Err(fail) => return Err(fail),
     };
     match reader.next() {
-        None => Ok(Log::of(header.named, header.turn, lines)),
+        None => Ok(Log::new(header.named, header.opening, header.goal, lines)),
         Some(_) => Err(Fail::Refused(LogRefusal::Extra(
-            lines_of_header(header.turn) + lines.len() as u32 + 1,
+            lines_of_header(header.opening, header.goal) + lines.len() as u32 + 1,
         ))),
     }
 }
@@ -48,21 +52,25 @@ fn read_lines(
     header: &Header,
 ) -> Result<Vec<Line>, Fail<LogRefusal>>
     requires named { AreRules problem.now header.now.named }
-    requires turn { TurnFits problem.now header.now.turn }
+    requires opening { OpeningFits problem.now header.now.opening }
+    requires goal { GoalFits problem.now header.now.opening header.now.goal }
     requires few { length reader.old ≤ LONGEST_LOG }
     ensures { MatchAnswer result
-        (λ v. AreReadLines problem.now header.now.named header.now.turn v.items reader.old reader.new)
-        (IsUnread problem.now (header_text problem.now header.now.named header.now.turn ++ reader.old)) }
+        (λ v. AreReadLines problem.now
+        (log_with header.now.named header.now.opening header.now.goal v.items) reader.old reader.new)
+        (IsUnread problem.now (kind_by header.now.goal)
+        (header_text problem.now header.now.named header.now.opening header.now.goal ++ reader.old)) }
 {
     problem.prove_limits();
-    let first = lines_of_header(header.turn) + 1;
+    let first = lines_of_header(header.opening, header.goal) + 1;
     let mut lines = Vec::new(alloc);
     let mut count: u64 = 1;
     while count > 0 {
         let Some(bytes) = reader.next() else {
             return Err(Fail::Refused(LogRefusal::Ends));
         };
-        let line = match tree_line(alloc, problem, bytes, first + lines.len() as u32) {
+        let n = first + lines.len() as u32;
+        let line = match tree_line(alloc, problem, header.goal, bytes, n) {
             Ok(line) => line,
             Err(fail) => return Err(fail),
         };
@@ -81,16 +89,19 @@ fn push_line(lines: &mut Vec<Line>, line: Line) -> Result<(), AllocError>
     Ok(())
 }
 
-// A line of the tree, which is line n of the text.
+// A line of the tree of a log with this goal or none, which is line n of the text.
 fn tree_line(
     alloc: Global,
     problem: &Problem,
+    goal: Option<u32>,
     bytes: &[u8],
     n: u32,
 ) -> Result<Line, Fail<LogRefusal>>
-    ensures { MatchAnswer result (Spells problem.now bytes.now) (IsTreeLineRefused problem.now bytes.now n) }
+    ensures { MatchAnswer result
+        (Spells problem.now goal bytes.now)
+        (IsTreeLineRefused problem.now goal bytes.now n) }
 {
-    match read_line_for(alloc, problem, None, bytes) {
+    match read_line(alloc, problem, goal, bytes) {
         Ok(line) => Ok(line),
         Err(Fail::Memory) => Err(Fail::Memory),
         Err(Fail::Refused(LineRefusal::Form)) => Err(Fail::Refused(LogRefusal::Form(n))),

@@ -3,20 +3,21 @@ ghost use Rattle.rwsp_terms.specs.Instance.{IsDay};
 ghost use Rattle.refutation_terms.specs.Sharp.{IsFirstTurn};
 ghost use Rattle.refutation_log.specs.Turns.{IsFirstOn};
 
-use refutation_terms::Turn;
+use refutation_terms::{Opening, Turn};
 use rwsp_model::Problem;
 use rwsp_terms::Symbol;
 
-/// The turn to the first shift that some week must hold on the first day on which there is one.
-pub fn first_turn(problem: &Problem) -> Option<Turn>
+/// The turn to the first shift that some week must hold on the first day on which there is one. Where no shift must be
+/// there, it is no turn.
+pub fn first_turn(problem: &Problem) -> Opening
     ensures { IsFirstTurn problem.now result }
 {
     for day in 0..problem.days() {
         if let Some(x) = first_demanded(problem, day + 1) {
-            return Some(Turn { day: day + 1, x });
+            return Opening::Turned(Turn { day: day + 1, x });
         }
     }
-    None
+    Opening::Full
 }
 
 // The first shift that some week must hold on the day.

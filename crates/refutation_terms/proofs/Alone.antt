@@ -5,7 +5,7 @@ use Rattle.std.proofs.lemmas.Bool.{eq-eqb, ne_eqb, and_right, or_left, or_right,
 use Rattle.rwsp_terms.specs.Instance.{Instance, shift_count}
 use Rattle.rwsp_terms.proofs.Counting.{not_all}
 use Rattle.refutation_terms.specs.Word.{Domains}
-use Rattle.refutation_terms.specs.Leaf.{is_only}
+use Rattle.refutation_terms.specs.DayLeaf.{is_only}
 
 pub same_passes : (z x : ℕ) (held : Bool) → z ≡ x → ((z == x) || not held) ≡ true
 same_passes z x held same = or_left (z == x) (not held) (eq-eqb z x same)

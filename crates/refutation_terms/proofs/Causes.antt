@@ -6,44 +6,44 @@ use Rattle.rwsp_terms.specs.declared.data.Rule.{Rule}
 use Rattle.rwsp_terms.specs.declared.data.Rule.TheVariants as TheRules
 use Rattle.rwsp_terms.specs.Instance.{Instance, least, symbol_of}
 use Rattle.rwsp_terms.specs.Rules.{Names}
+use Rattle.refutation_terms.specs.declared.lines.LogKind.{LogKind}
 use Rattle.refutation_terms.specs.declared.lines.Line.{Line}
-use Rattle.refutation_terms.specs.declared.lines.Line.TheVariants.{Split, Window, Day, Dead, Bound, Few, Free, Unfinished}
+use Rattle.refutation_terms.specs.declared.lines.Line.TheVariants.{Split, Unfinished, Closing}
+use Rattle.refutation_terms.specs.declared.lines.Leaf.TheVariants.{Window, Day, Few, Words}
+use Rattle.refutation_terms.specs.declared.lines.WordClaim.{WordClaim}
+use Rattle.refutation_terms.specs.declared.lines.WordClaim.TheVariants.{Dead, Light}
+use Rattle.refutation_terms.specs.WordsLeaf.{worth, owed, WordsHold, WordsEscape}
 use Rattle.refutation_terms.specs.declared.lines.LogRefusal.{LogRefusal}
 use Rattle.refutation_terms.specs.declared.lines.LogRefusal.TheVariants as Refusals
-use Rattle.refutation_terms.specs.Word.{Domains, weight, total}
-use Rattle.refutation_terms.specs.FreeWeekends.{free_weight}
-use Rattle.refutation_terms.specs.FreeLeaves.{free_total}
+use Rattle.refutation_terms.specs.Word.{Domains}
 use Rattle.refutation_terms.specs.Tree.{is_idle}
-use Rattle.refutation_terms.specs.Log.{Holds, HoldsFor, Cites, CitesOnlyNamed, ListsShortOnly}
+use Rattle.refutation_terms.specs.Log.{Holds, Cites, CitesOnlyNamed, ListsShortOnly}
 use Rattle.refutation_terms.specs.Escape.{ComesFirst}
-use Rattle.refutation_terms.specs.LogText.{RawLine, raw_fields, line_text, line_of, IsInRangeFor}
-use Rattle.refutation_terms.specs.Verdict.{IsLeast, IsUnnamed, ListsLong, IsPlainLeaf, Escapes, EscapesFor, SpellsNothingFor, SpellsUnknownFor, SpellsFor, TreeCauseFor, SpellsUnknown, Spells, TreeCause, SpellsTurn, SpellsNoTurn, TurnCause, RulesCause, VersionCause, ExtraCause}
+use Rattle.refutation_terms.specs.LogText.{RawLine, raw_fields, line_text, line_of, IsInRange}
+use Rattle.refutation_terms.specs.Verdict.{IsLeast, IsUnnamed, ListsLong, IsPlainLeaf, Escapes, SpellsNothing, SpellsUnknown, Spells, TreeCause, SpellsTurn, SpellsNoTurn, TurnCause, RulesCause, VersionCause, GoalCause, ExtraCause}
 use Rattle.refutation_terms.specs.TextLaws.{IsWritable, HasNames}
 use Rattle.rwsp_text.proofs.LineLaws.{same_words}
-use Rattle.refutation_terms.proofs.LineTables.{turn_fields, turn_words, turn_same, line_words_for, line_same_for}
+use Rattle.refutation_terms.proofs.LineTables.{turn_fields, turn_words, turn_same, raw_words, raw_same}
 use Rattle.refutation_terms.proofs.Sound.{too_light}
 
 least_same : (A : ℕ → Type 0) (k m : ℕ) → IsLeast A k → IsLeast A m → k ≡ m
 least_same A k m a b = let x : k ≤ m = a.1 m b.0 in let y : m ≤ k = b.1 k a.0 in omega (arith, x, y)
 
 -- bytes spell one line
-lines_same : (P : Instance) (goal : Option ℕ) (a b : RawLine) → IsWritable P → (line_text P a ≡ line_text P b) → IsInRangeFor P goal a → IsInRangeFor P goal b → a ≡ b
+lines_same : (P : Instance) (goal : Option ℕ) (a b : RawLine) → IsWritable P → (line_text P a ≡ line_text P b) → IsInRange P goal a → IsInRange P goal b → a ≡ b
 lines_same P goal a b w e ha hb =
-    line_same_for P goal a b w ha hb (same_words (raw_fields P a) (raw_fields P b) [] [] (line_words_for P goal a w ha) (line_words_for P goal b w hb) (ap (λ t. t ++ []) e)).0
+    raw_same P goal a b w ha hb (same_words (raw_fields P a) (raw_fields P b) [] [] (raw_words P goal a w ha) (raw_words P goal b w hb) (ap (λ t. t ++ []) e)).0
 
-pub spells_same : (P : Instance) (goal : Option ℕ) (bytes : List ℕ) (a b : Line) → IsWritable P → HasNames P → SpellsFor P goal bytes a → SpellsFor P goal bytes b → a ≡ b
+pub spells_same : (P : Instance) (goal : Option ℕ) (bytes : List ℕ) (a b : Line) → IsWritable P → HasNames P → Spells P goal bytes a → Spells P goal bytes b → a ≡ b
 spells_same P goal bytes a b w n sa sb =
     let same : sa.0 ≡ sb.0 = lines_same P goal sa.0 sb.0 w (sym sa.1.spelled ∙ sb.1.spelled) sa.1.in_range sb.1.in_range in
     let both : Some a ≡ Some b = sym sa.2 ∙ ap (line_of P) same ∙ sb.2 in
     let whole : a ≡ b = cc in whole
 
-pub not_unknown_for : (P : Instance) (goal : Option ℕ) (bytes : List ℕ) (a : Line) → IsWritable P → SpellsFor P goal bytes a → SpellsUnknownFor P goal bytes → ⊥
-not_unknown_for P goal bytes a w sa u =
+pub not_unknown : (P : Instance) (goal : Option ℕ) (bytes : List ℕ) (a : Line) → IsWritable P → Spells P goal bytes a → SpellsUnknown P goal bytes → ⊥
+not_unknown P goal bytes a w sa u =
     let same : sa.0 ≡ u.0 = lines_same P goal sa.0 u.0 w (sym sa.1.spelled ∙ u.1.spelled) sa.1.in_range u.1.in_range in
     let clash : Some a ≡ None = sym sa.2 ∙ ap (line_of P) same ∙ u.2 in cc
-
-pub not_unknown : (P : Instance) (bytes : List ℕ) (a : Line) → IsWritable P → Spells P bytes a → SpellsUnknown P bytes → ⊥
-not_unknown P bytes a w sa u = not_unknown_for P None bytes a w sa u
 
 -- the words that show an escape are one
 pub first_same : (u v : List Symbol) → ComesFirst u v → ComesFirst v u → u ≡ v
@@ -58,15 +58,14 @@ first_same (x ∷ u) (y ∷ v) (inr a) (inr b) =
     let rest : u ≡ v = first_same u v a.1 b.1 in
     let whole : x ∷ u ≡ y ∷ v = cc in whole
 
-escapes_same : (P : Instance) (D : Domains) (line : Line) (u v : List Symbol) → Escapes P D line u → Escapes P D line v → u ≡ v
-escapes_same P D (Split p x) u v a b = absurd a
-escapes_same P D (Window number p len) u v a b = absurd a
-escapes_same P D (Day j x over) u v a b = absurd a
-escapes_same P D (Dead p len R) u v a b = first_same u v (a.least v b.clean) (b.least u a.clean)
-escapes_same P D (Bound p turns R y) u v a b = first_same u v (a.0.least v b.0.heavy) (b.0.least u a.0.heavy)
-escapes_same P D Unfinished u v a b = absurd a
-escapes_same P D Few u v a b = absurd a
-escapes_same P D (Free turns reward R y) u v a b = absurd a
+escapes_same : (P : Instance) (goal : Option ℕ) (D : Domains) (line : Line) (u v : List Symbol) → Escapes P goal D line u → Escapes P goal D line v → u ≡ v
+escapes_same P goal D (Closing (Words p R (Dead len))) u v a b = first_same u v (a.least v b.clean) (b.least u a.clean)
+escapes_same P goal D (Closing (Words p R (Light turns reward y))) u v a b = first_same u v (a.0.least v b.0.heavy) (b.0.least u a.0.heavy)
+escapes_same P goal D (Closing (Window number p len)) u v a b = absurd a
+escapes_same P goal D (Closing (Day j x over)) u v a b = absurd a
+escapes_same P goal D (Closing Few) u v a b = absurd a
+escapes_same P goal D (Split p x) u v a b = absurd a
+escapes_same P goal D Unfinished u v a b = absurd a
 
 -- an idle split
 abbrev pub IsIdleLine : Instance → Domains → Line → Type 0
@@ -74,16 +73,13 @@ IsIdleLine P D (Split p x) = is_idle P D p x.number ≡ true
 IsIdleLine P D line = ⊥
 
 -- why a line that is spelled is refused
-pub data ReasonFor (P : Instance) (goal : Option ℕ) (named : List ℕ) (D : Domains) (n : ℕ) (line : Line) (why : LogRefusal) : Type 0 where
-  OfName : (k : ℕ) → IsLeast (IsUnnamed P named (Cites P line)) k → why ≡ Refusals.Unnamed n k → ReasonFor P goal named D n line why
-  OfIdle : IsIdleLine P D line → why ≡ Refusals.Idle n → ReasonFor P goal named D n line why
-  OfLong : CitesOnlyNamed P named line → (k : ℕ) → IsLeast (ListsLong P line) k → why ≡ Refusals.Long n k → ReasonFor P goal named D n line why
-  OfFail : CitesOnlyNamed P named line → IsPlainLeaf line → (HoldsFor P goal D line → ⊥) → why ≡ Refusals.Fails n → ReasonFor P goal named D n line why
-  OfEscape : CitesOnlyNamed P named line → ListsShortOnly P line → (u : List Symbol) → EscapesFor P goal D line u → why ≡ Refusals.Escape n u → ReasonFor P goal named D n line why
-  OfOpen : line ≡ Unfinished → why ≡ Refusals.Unfinished n → ReasonFor P goal named D n line why
-
-abbrev pub Reason : Instance → List ℕ → Domains → ℕ → Line → LogRefusal → Type 0
-Reason P named D n line why = ReasonFor P None named D n line why
+pub data Reason (P : Instance) (goal : Option ℕ) (named : List ℕ) (D : Domains) (n : ℕ) (line : Line) (why : LogRefusal) : Type 0 where
+  OfName : (k : ℕ) → IsLeast (IsUnnamed P named (Cites P line)) k → why ≡ Refusals.Unnamed n k → Reason P goal named D n line why
+  OfIdle : IsIdleLine P D line → why ≡ Refusals.Idle n → Reason P goal named D n line why
+  OfLong : CitesOnlyNamed P named line → (k : ℕ) → IsLeast (ListsLong P line) k → why ≡ Refusals.Long n k → Reason P goal named D n line why
+  OfFail : CitesOnlyNamed P named line → IsPlainLeaf line → (Holds P goal D line → ⊥) → why ≡ Refusals.Fails n → Reason P goal named D n line why
+  OfEscape : CitesOnlyNamed P named line → ListsShortOnly P line → (u : List Symbol) → Escapes P goal D line u → why ≡ Refusals.Escape n u → Reason P goal named D n line why
+  OfOpen : line ≡ Unfinished → why ≡ Refusals.Unfinished n → Reason P goal named D n line why
 
 idle_cites_none : (P : Instance) (D : Domains) (line : Line) (r : Rule) → IsIdleLine P D line → Cites P line r → ⊥
 idle_cites_none P D (Split p x) r i c = c
@@ -97,92 +93,57 @@ idle_not_plain : (P : Instance) (D : Domains) (line : Line) → IsIdleLine P D l
 idle_not_plain P D (Split p x) i l = l
 idle_not_plain P D leaf i l = absurd i
 
-idle_not_escaped : (P : Instance) (D : Domains) (line : Line) (u : List Symbol) → IsIdleLine P D line → Escapes P D line u → ⊥
-idle_not_escaped P D (Split p x) u i l = l
-idle_not_escaped P D leaf u i l = absurd i
+idle_not_escaped : (P : Instance) (goal : Option ℕ) (D : Domains) (line : Line) (u : List Symbol) → IsIdleLine P D line → Escapes P goal D line u → ⊥
+idle_not_escaped P goal D (Split p x) u i l = l
+idle_not_escaped P goal D leaf u i l = absurd i
 
-plain_lists_none : (P : Instance) (D : Domains) (line : Line) (k : ℕ) → IsPlainLeaf line → ListsLong P line k → ⊥
-plain_lists_none P D (Split p x) k i l = absurd i
-plain_lists_none P D (Window number p len) k i l = l
-plain_lists_none P D (Day j x over) k i l = l
-plain_lists_none P D (Dead p len R) k i l = absurd i
-plain_lists_none P D (Bound p turns R y) k i l = absurd i
-plain_lists_none P D Unfinished k i l = absurd i
-plain_lists_none P D Few k i l = l
-plain_lists_none P D (Free turns reward R y) k i l = absurd i
+plain_lists_none : (P : Instance) (line : Line) (k : ℕ) → IsPlainLeaf line → ListsLong P line k → ⊥
+plain_lists_none P (Closing (Words p R claim)) k i l = i
+plain_lists_none P (Closing (Window number p len)) k i l = l
+plain_lists_none P (Closing (Day j x over)) k i l = l
+plain_lists_none P (Closing Few) k i l = l
+plain_lists_none P (Split p x) k i l = i
+plain_lists_none P Unfinished k i l = i
 
-plain_not_escaped : (P : Instance) (D : Domains) (line : Line) (u : List Symbol) → IsPlainLeaf line → Escapes P D line u → ⊥
-plain_not_escaped P D (Split p x) u i l = absurd i
-plain_not_escaped P D (Window number p len) u i l = l
-plain_not_escaped P D (Day j x over) u i l = l
-plain_not_escaped P D (Dead p len R) u i l = absurd i
-plain_not_escaped P D (Bound p turns R y) u i l = absurd i
-plain_not_escaped P D Unfinished u i l = absurd i
-plain_not_escaped P D Few u i l = l
-plain_not_escaped P D (Free turns reward R y) u i l = absurd i
+plain_not_escaped : (P : Instance) (goal : Option ℕ) (D : Domains) (line : Line) (u : List Symbol) → IsPlainLeaf line → Escapes P goal D line u → ⊥
+plain_not_escaped P goal D (Closing (Words p R claim)) u i l = i
+plain_not_escaped P goal D (Closing (Window number p len)) u i l = l
+plain_not_escaped P goal D (Closing (Day j x over)) u i l = l
+plain_not_escaped P goal D (Closing Few) u i l = l
+plain_not_escaped P goal D (Split p x) u i l = i
+plain_not_escaped P goal D Unfinished u i l = i
 
-pub long_not_short : (P : Instance) (D : Domains) (line : Line) (k : ℕ) → ListsShortOnly P line → ListsLong P line k → ⊥
-long_not_short P D (Split p x) k i l = absurd l
-long_not_short P D (Window number p len) k i l = absurd l
-long_not_short P D (Day j x over) k i l = absurd l
-long_not_short P D (Dead p len R) k i l = l.3 (i l.0 (k, l.2, l.1))
-long_not_short P D (Bound p turns R y) k i l = l.3 (i l.0 (k, l.2, l.1))
-long_not_short P D Unfinished k i l = absurd l
-long_not_short P D Few k i l = absurd l
-long_not_short P D (Free turns reward R y) k i l = l.3 (i l.0 (k, l.2, l.1))
+pub long_not_short : (P : Instance) (line : Line) (k : ℕ) → ListsShortOnly P line → ListsLong P line k → ⊥
+long_not_short P (Closing (Words p R claim)) k i l = l.3 (i l.0 (k, l.2, l.1))
+long_not_short P (Closing (Window number p len)) k i l = l
+long_not_short P (Closing (Day j x over)) k i l = l
+long_not_short P (Closing Few) k i l = l
+long_not_short P (Split p x) k i l = l
+long_not_short P Unfinished k i l = l
 
-pub idle_not_holding : (P : Instance) (D : Domains) (line : Line) → IsIdleLine P D line → Holds P D line → ⊥
-idle_not_holding P D (Split p x) i h = let clash : true ≡ false = sym i ∙ h in cc
-idle_not_holding P D leaf i h = absurd i
+pub idle_not_holding : (P : Instance) (goal : Option ℕ) (D : Domains) (line : Line) → IsIdleLine P D line → Holds P goal D line → ⊥
+idle_not_holding P goal D (Split p x) i h = let clash : true ≡ false = sym i ∙ h in cc
+idle_not_holding P goal D leaf i h = absurd i
 
-pub escaped_not_holding : (P : Instance) (D : Domains) (line : Line) (u : List Symbol) → Escapes P D line u → Holds P D line → ⊥
-escaped_not_holding P D (Split p x) u e h = absurd e
-escaped_not_holding P D (Window number p len) u e h = absurd e
-escaped_not_holding P D (Day j x over) u e h = absurd e
-escaped_not_holding P D (Dead p len R) u e h = h u e.clean.long e.clean.over e.clean.clean
-escaped_not_holding P D (Bound p turns R y) u e h = too_light (weight P y p u) (pos turns *ℤ total P y) (h u e.0.heavy.clean.long e.0.heavy.clean.over e.0.heavy.clean.clean) e.1
-escaped_not_holding P D Unfinished u e h = absurd e
-escaped_not_holding P D Few u e h = absurd e
-escaped_not_holding P D (Free turns reward R y) u e h = absurd e
+-- a claim of words that a word escapes isn't true
+claim_escaped : (P : Instance) (goal : Option ℕ) (D : Domains) (p : ℕ) (R : List ℕ) (claim : WordClaim) (u : List Symbol) → WordsEscape P goal D p R claim u → WordsHold P goal D p R claim → ⊥
+claim_escaped P goal D p R (Dead len) u e h = h u e.clean.long e.clean.over e.clean.clean
+claim_escaped P goal D p R (Light turns reward y) u e h =
+    too_light (worth P goal y reward p u) (pos turns *ℤ owed P goal y reward) (h u e.0.heavy.clean.long e.0.heavy.clean.over e.0.heavy.clean.clean) e.1
 
--- the same for logs with a goal or none
-
-escapes_same_for : (P : Instance) (goal : Option ℕ) (D : Domains) (line : Line) (u v : List Symbol) → EscapesFor P goal D line u → EscapesFor P goal D line v → u ≡ v
-escapes_same_for P None D line u v a b = escapes_same P D line u v a b
-escapes_same_for P (Some goal) D (Free turns reward R y) u v a b = first_same u v (a.0.least v b.0.heavy) (b.0.least u a.0.heavy)
-escapes_same_for P (Some goal) D line u v a b = escapes_same P D line u v a b
-
-idle_not_escaped_for : (P : Instance) (goal : Option ℕ) (D : Domains) (line : Line) (u : List Symbol) → IsIdleLine P D line → EscapesFor P goal D line u → ⊥
-idle_not_escaped_for P None D line u i l = idle_not_escaped P D line u i l
-idle_not_escaped_for P (Some goal) D (Split p x) u i l = l
-idle_not_escaped_for P (Some goal) D leaf u i l = absurd i
-
-plain_not_escaped_for : (P : Instance) (goal : Option ℕ) (D : Domains) (line : Line) (u : List Symbol) → IsPlainLeaf line → EscapesFor P goal D line u → ⊥
-plain_not_escaped_for P None D line u i l = plain_not_escaped P D line u i l
-plain_not_escaped_for P (Some goal) D (Free turns reward R y) u i l = i
-plain_not_escaped_for P (Some goal) D line u i l = plain_not_escaped P D line u i l
-
-open_not_escaped_for : (P : Instance) (goal : Option ℕ) (D : Domains) (u : List Symbol) → EscapesFor P goal D Unfinished u → ⊥
-open_not_escaped_for P None D u h = h
-open_not_escaped_for P (Some goal) D u h = h
-
-pub idle_not_holding_for : (P : Instance) (goal : Option ℕ) (D : Domains) (line : Line) → IsIdleLine P D line → HoldsFor P goal D line → ⊥
-idle_not_holding_for P None D line i h = idle_not_holding P D line i h
-idle_not_holding_for P (Some goal) D (Split p x) i h = idle_not_holding P D (Split p x) i h
-idle_not_holding_for P (Some goal) D leaf i h = absurd i
-
-pub escaped_not_holding_for : (P : Instance) (goal : Option ℕ) (D : Domains) (line : Line) (u : List Symbol) → EscapesFor P goal D line u → HoldsFor P goal D line → ⊥
-escaped_not_holding_for P None D line u e h = escaped_not_holding P D line u e h
-escaped_not_holding_for P (Some goal) D Few u e h = absurd e
-escaped_not_holding_for P (Some goal) D (Free turns reward R y) u e h =
-    too_light (free_weight P y reward 0 u) (pos turns *ℤ free_total P y reward goal) (h u e.0.heavy.clean.long e.0.heavy.clean.over e.0.heavy.clean.clean) e.1
-escaped_not_holding_for P (Some goal) D line u e h = escaped_not_holding P D line u e h
+pub escaped_not_holding : (P : Instance) (goal : Option ℕ) (D : Domains) (line : Line) (u : List Symbol) → Escapes P goal D line u → Holds P goal D line → ⊥
+escaped_not_holding P goal D (Closing (Words p R claim)) u e h = claim_escaped P goal D p R claim u e h
+escaped_not_holding P goal D (Closing (Window number p len)) u e h = e
+escaped_not_holding P goal D (Closing (Day j x over)) u e h = e
+escaped_not_holding P goal D (Closing Few) u e h = e
+escaped_not_holding P goal D (Split p x) u e h = e
+escaped_not_holding P goal D Unfinished u e h = e
 
 open_cites_none : (P : Instance) (line : Line) (r : Rule) → line ≡ Unfinished → Cites P line r → ⊥
 open_cites_none P line r e c = subst (λ l. Cites P l r) e c
 
 -- one reason
-one_reason : (P : Instance) (goal : Option ℕ) (named : List ℕ) (D : Domains) (n : ℕ) (line : Line) (why other : LogRefusal) → ReasonFor P goal named D n line why → ReasonFor P goal named D n line other → why ≡ other
+one_reason : (P : Instance) (goal : Option ℕ) (named : List ℕ) (D : Domains) (n : ℕ) (line : Line) (why other : LogRefusal) → Reason P goal named D n line why → Reason P goal named D n line other → why ≡ other
 one_reason P goal named D n line why other (OfName k a e) (OfName m b f) = e ∙ ap (Refusals.Unnamed n) (least_same (IsUnnamed P named (Cites P line)) k m a b) ∙ sym f
 one_reason P goal named D n line why other (OfName k a e) (OfIdle i' f) = absurd (idle_cites_none P D line a.0.0 i' a.0.2)
 one_reason P goal named D n line why other (OfName k a e) (OfLong all' m b f) = absurd (a.0.3 (all' a.0.0 a.0.2))
@@ -193,76 +154,74 @@ one_reason P goal named D n line why other (OfIdle i e) (OfName m b f) = absurd 
 one_reason P goal named D n line why other (OfIdle i e) (OfIdle i' f) = e ∙ sym f
 one_reason P goal named D n line why other (OfIdle i e) (OfLong all' m b f) = absurd (idle_lists_none P D line m i b.0)
 one_reason P goal named D n line why other (OfIdle i e) (OfFail all' plain' not' f) = absurd (idle_not_plain P D line i plain')
-one_reason P goal named D n line why other (OfIdle i e) (OfEscape all' short' v b f) = absurd (idle_not_escaped_for P goal D line v i b)
+one_reason P goal named D n line why other (OfIdle i e) (OfEscape all' short' v b f) = absurd (idle_not_escaped P goal D line v i b)
 one_reason P goal named D n line why other (OfIdle i e) (OfOpen o' f) = absurd (subst (IsIdleLine P D) o' i)
 one_reason P goal named D n line why other (OfLong all k a e) (OfName m b f) = absurd (b.0.3 (all b.0.0 b.0.2))
 one_reason P goal named D n line why other (OfLong all k a e) (OfIdle i' f) = absurd (idle_lists_none P D line k i' a.0)
 one_reason P goal named D n line why other (OfLong all k a e) (OfLong all' m b f) = e ∙ ap (Refusals.Long n) (least_same (ListsLong P line) k m a b) ∙ sym f
-one_reason P goal named D n line why other (OfLong all k a e) (OfFail all' plain' not' f) = absurd (plain_lists_none P D line k plain' a.0)
-one_reason P goal named D n line why other (OfLong all k a e) (OfEscape all' short' v b f) = absurd (long_not_short P D line k short' a.0)
+one_reason P goal named D n line why other (OfLong all k a e) (OfFail all' plain' not' f) = absurd (plain_lists_none P line k plain' a.0)
+one_reason P goal named D n line why other (OfLong all k a e) (OfEscape all' short' v b f) = absurd (long_not_short P line k short' a.0)
 one_reason P goal named D n line why other (OfLong all k a e) (OfOpen o' f) = absurd (subst (λ l. ListsLong P l k) o' a.0)
 one_reason P goal named D n line why other (OfFail all plain not e) (OfName m b f) = absurd (b.0.3 (all b.0.0 b.0.2))
 one_reason P goal named D n line why other (OfFail all plain not e) (OfIdle i' f) = absurd (idle_not_plain P D line i' plain)
-one_reason P goal named D n line why other (OfFail all plain not e) (OfLong all' m b f) = absurd (plain_lists_none P D line m plain b.0)
+one_reason P goal named D n line why other (OfFail all plain not e) (OfLong all' m b f) = absurd (plain_lists_none P line m plain b.0)
 one_reason P goal named D n line why other (OfFail all plain not e) (OfFail all' plain' not' f) = e ∙ sym f
-one_reason P goal named D n line why other (OfFail all plain not e) (OfEscape all' short' v b f) = absurd (plain_not_escaped_for P goal D line v plain b)
+one_reason P goal named D n line why other (OfFail all plain not e) (OfEscape all' short' v b f) = absurd (plain_not_escaped P goal D line v plain b)
 one_reason P goal named D n line why other (OfFail all plain not e) (OfOpen o' f) = absurd (subst IsPlainLeaf o' plain)
 one_reason P goal named D n line why other (OfEscape all short u a e) (OfName m b f) = absurd (b.0.3 (all b.0.0 b.0.2))
-one_reason P goal named D n line why other (OfEscape all short u a e) (OfIdle i' f) = absurd (idle_not_escaped_for P goal D line u i' a)
-one_reason P goal named D n line why other (OfEscape all short u a e) (OfLong all' m b f) = absurd (long_not_short P D line m short b.0)
-one_reason P goal named D n line why other (OfEscape all short u a e) (OfFail all' plain' not' f) = absurd (plain_not_escaped_for P goal D line u plain' a)
-one_reason P goal named D n line why other (OfEscape all short u a e) (OfEscape all' short' v b f) = e ∙ ap (Refusals.Escape n) (escapes_same_for P goal D line u v a b) ∙ sym f
-one_reason P goal named D n line why other (OfEscape all short u a e) (OfOpen o' f) = absurd (open_not_escaped_for P goal D u (subst (λ l. EscapesFor P goal D l u) o' a))
+one_reason P goal named D n line why other (OfEscape all short u a e) (OfIdle i' f) = absurd (idle_not_escaped P goal D line u i' a)
+one_reason P goal named D n line why other (OfEscape all short u a e) (OfLong all' m b f) = absurd (long_not_short P line m short b.0)
+one_reason P goal named D n line why other (OfEscape all short u a e) (OfFail all' plain' not' f) = absurd (plain_not_escaped P goal D line u plain' a)
+one_reason P goal named D n line why other (OfEscape all short u a e) (OfEscape all' short' v b f) = e ∙ ap (Refusals.Escape n) (escapes_same P goal D line u v a b) ∙ sym f
+one_reason P goal named D n line why other (OfEscape all short u a e) (OfOpen o' f) = absurd (subst (λ l. Escapes P goal D l u) o' a)
 one_reason P goal named D n line why other (OfOpen o e) (OfName m b f) = absurd (open_cites_none P line b.0.0 o b.0.2)
 one_reason P goal named D n line why other (OfOpen o e) (OfIdle i' f) = absurd (subst (IsIdleLine P D) o i')
 one_reason P goal named D n line why other (OfOpen o e) (OfLong all' m b f) = absurd (subst (λ l. ListsLong P l m) o b.0)
 one_reason P goal named D n line why other (OfOpen o e) (OfFail all' plain' not' f) = absurd (subst IsPlainLeaf o plain')
-one_reason P goal named D n line why other (OfOpen o e) (OfEscape all' short' v b f) = absurd (open_not_escaped_for P goal D v (subst (λ l. EscapesFor P goal D l v) o b))
+one_reason P goal named D n line why other (OfOpen o e) (OfEscape all' short' v b f) = absurd (subst (λ l. Escapes P goal D l v) o b)
 one_reason P goal named D n line why other (OfOpen o e) (OfOpen o' f) = e ∙ sym f
 
 -- the causes of a line of the tree, by what its bytes spell
-pub data LevelFor (P : Instance) (goal : Option ℕ) (named : List ℕ) (D : Domains) (n : ℕ) (bytes : List ℕ) (why : LogRefusal) : Type 0 where
-  Nothing : SpellsNothingFor P goal bytes → why ≡ Refusals.Form n → LevelFor P goal named D n bytes why
-  Unknown : SpellsUnknownFor P goal bytes → why ≡ Refusals.Name n → LevelFor P goal named D n bytes why
-  Known : (line : Line) → SpellsFor P goal bytes line → ReasonFor P goal named D n line why → LevelFor P goal named D n bytes why
+pub data Level (P : Instance) (goal : Option ℕ) (named : List ℕ) (D : Domains) (n : ℕ) (bytes : List ℕ) (why : LogRefusal) : Type 0 where
+  Nothing : SpellsNothing P goal bytes → why ≡ Refusals.Form n → Level P goal named D n bytes why
+  Unknown : SpellsUnknown P goal bytes → why ≡ Refusals.Name n → Level P goal named D n bytes why
+  Known : (line : Line) → Spells P goal bytes line → Reason P goal named D n line why → Level P goal named D n bytes why
 
-pub level_of_for : (P : Instance) (goal : Option ℕ) (named : List ℕ) (D : Domains) (n : ℕ) (bytes : List ℕ) (why : LogRefusal) → TreeCauseFor P goal named D n bytes why → LevelFor P goal named D n bytes why
-level_of_for P goal named D n bytes (Refusals.Form i) h = Nothing h.1 (ap Refusals.Form h.0)
-level_of_for P goal named D n bytes (Refusals.Name i) h = Unknown h.1 (ap Refusals.Name h.0)
-level_of_for P goal named D n bytes (Refusals.Unnamed i k) h = Known h.1.0 h.1.1 (OfName k h.1.2 (ap (λ j. Refusals.Unnamed j k) h.0))
-level_of_for P goal named D n bytes (Refusals.Idle i) h = Known (Split h.1.0 h.1.1) h.1.2 (OfIdle h.1.3 (ap Refusals.Idle h.0))
-level_of_for P goal named D n bytes (Refusals.Long i k) h = Known h.1.0 h.1.1.0 (OfLong h.1.1.1 k h.1.2 (ap (λ j. Refusals.Long j k) h.0))
-level_of_for P goal named D n bytes (Refusals.Fails i) h = Known h.1.0 h.1.1.0 (OfFail h.1.1.1 h.1.2 h.1.3 (ap Refusals.Fails h.0))
-level_of_for P goal named D n bytes (Refusals.Escape i u) h = Known h.1.0 h.1.1.0 (OfEscape h.1.1.1 h.1.2 u h.1.3 (ap (λ j. Refusals.Escape j u) h.0))
-level_of_for P goal named D n bytes (Refusals.Unfinished i) h = Known Unfinished h.1 (OfOpen refl (ap Refusals.Unfinished h.0))
-level_of_for P goal named D n bytes Refusals.Ends h = absurd h
-level_of_for P goal named D n bytes (Refusals.Extra i) h = absurd h
-level_of_for P goal named D n bytes (Refusals.Turn i) h = absurd h
+pub level_of : (P : Instance) (goal : Option ℕ) (named : List ℕ) (D : Domains) (n : ℕ) (bytes : List ℕ) (why : LogRefusal) → TreeCause P goal named D n bytes why → Level P goal named D n bytes why
+level_of P goal named D n bytes (Refusals.Form i) h = Nothing h.1 (ap Refusals.Form h.0)
+level_of P goal named D n bytes (Refusals.Name i) h = Unknown h.1 (ap Refusals.Name h.0)
+level_of P goal named D n bytes (Refusals.Unnamed i k) h = Known h.1.0 h.1.1 (OfName k h.1.2 (ap (λ j. Refusals.Unnamed j k) h.0))
+level_of P goal named D n bytes (Refusals.Idle i) h = Known (Split h.1.0 h.1.1) h.1.2 (OfIdle h.1.3 (ap Refusals.Idle h.0))
+level_of P goal named D n bytes (Refusals.Long i k) h = Known h.1.0 h.1.1.0 (OfLong h.1.1.1 k h.1.2 (ap (λ j. Refusals.Long j k) h.0))
+level_of P goal named D n bytes (Refusals.Fails i) h = Known h.1.0 h.1.1.0 (OfFail h.1.1.1 h.1.2 h.1.3 (ap Refusals.Fails h.0))
+level_of P goal named D n bytes (Refusals.Escape i u) h = Known h.1.0 h.1.1.0 (OfEscape h.1.1.1 h.1.2 u h.1.3 (ap (λ j. Refusals.Escape j u) h.0))
+level_of P goal named D n bytes (Refusals.Unfinished i) h = Known Unfinished h.1 (OfOpen refl (ap Refusals.Unfinished h.0))
+level_of P goal named D n bytes Refusals.Ends h = absurd h
+level_of P goal named D n bytes (Refusals.Extra i) h = absurd h
+level_of P goal named D n bytes (Refusals.Turn i) h = absurd h
 
-one_level : (P : Instance) (goal : Option ℕ) (named : List ℕ) (D : Domains) (n : ℕ) (bytes : List ℕ) (why other : LogRefusal) → IsWritable P → HasNames P → LevelFor P goal named D n bytes why → LevelFor P goal named D n bytes other → why ≡ other
+one_level : (P : Instance) (goal : Option ℕ) (named : List ℕ) (D : Domains) (n : ℕ) (bytes : List ℕ) (why other : LogRefusal) → IsWritable P → HasNames P → Level P goal named D n bytes why → Level P goal named D n bytes other → why ≡ other
 one_level P goal named D n bytes why other w m (Nothing a e) (Nothing b f) = e ∙ sym f
 one_level P goal named D n bytes why other w m (Nothing a e) (Unknown b f) = absurd (a b.0 b.1)
 one_level P goal named D n bytes why other w m (Nothing a e) (Known line b r) = absurd (a b.0 b.1)
 one_level P goal named D n bytes why other w m (Unknown a e) (Nothing b f) = absurd (b a.0 a.1)
 one_level P goal named D n bytes why other w m (Unknown a e) (Unknown b f) = e ∙ sym f
-one_level P goal named D n bytes why other w m (Unknown a e) (Known line b r) = absurd (not_unknown_for P goal bytes line w b a)
+one_level P goal named D n bytes why other w m (Unknown a e) (Known line b r) = absurd (not_unknown P goal bytes line w b a)
 one_level P goal named D n bytes why other w m (Known line a q) (Nothing b f) = absurd (b a.0 a.1)
-one_level P goal named D n bytes why other w m (Known line a q) (Unknown b f) = absurd (not_unknown_for P goal bytes line w a b)
+one_level P goal named D n bytes why other w m (Known line a q) (Unknown b f) = absurd (not_unknown P goal bytes line w a b)
 one_level P goal named D n bytes why other w m (Known line a q) (Known line' b r) =
-    one_reason P goal named D n line why other q (subst (λ l. ReasonFor P goal named D n l other) (spells_same P goal bytes line' line w m b a) r)
+    one_reason P goal named D n line why other q (subst (λ l. Reason P goal named D n l other) (spells_same P goal bytes line' line w m b a) r)
 
-pub tree_cause_same_for : (P : Instance) (goal : Option ℕ) (named : List ℕ) (D : Domains) (n : ℕ) (bytes : List ℕ) (why other : LogRefusal) → IsWritable P → HasNames P → TreeCauseFor P goal named D n bytes why → TreeCauseFor P goal named D n bytes other → why ≡ other
-tree_cause_same_for P goal named D n bytes why other w m a b = one_level P goal named D n bytes why other w m (level_of_for P goal named D n bytes why a) (level_of_for P goal named D n bytes other b)
+pub tree_cause_same : (P : Instance) (goal : Option ℕ) (named : List ℕ) (D : Domains) (n : ℕ) (bytes : List ℕ) (why other : LogRefusal) → IsWritable P → HasNames P → TreeCause P goal named D n bytes why → TreeCause P goal named D n bytes other → why ≡ other
+tree_cause_same P goal named D n bytes why other w m a b = one_level P goal named D n bytes why other w m (level_of P goal named D n bytes why a) (level_of P goal named D n bytes other b)
 
-abbrev pub Level : Instance → List ℕ → Domains → ℕ → List ℕ → LogRefusal → Type 0
-Level P named D n bytes why = LevelFor P None named D n bytes why
+pub version_cause : (kind : LogKind) (bytes : List ℕ) (why : LogRefusal) → VersionCause kind bytes why → why ≡ Refusals.Form 1
+version_cause kind bytes (Refusals.Form i) h = ap Refusals.Form h.0
+version_cause kind bytes why h = absurd h
 
-pub level_of : (P : Instance) (named : List ℕ) (D : Domains) (n : ℕ) (bytes : List ℕ) (why : LogRefusal) → TreeCause P named D n bytes why → Level P named D n bytes why
-level_of P named D n bytes why h = level_of_for P None named D n bytes why h
-
-pub version_cause : (bytes : List ℕ) (why : LogRefusal) → VersionCause bytes why → why ≡ Refusals.Form 1
-version_cause bytes (Refusals.Form i) h = ap Refusals.Form h.0
-version_cause bytes why h = absurd h
+pub goal_cause : (P : Instance) (bytes : List ℕ) (why : LogRefusal) → GoalCause P bytes why → why ≡ Refusals.Form 3
+goal_cause P bytes (Refusals.Form i) h = ap Refusals.Form h.0
+goal_cause P bytes why h = absurd h
 
 pub rules_cause : (P : Instance) (bytes : List ℕ) (why : LogRefusal) → RulesCause P bytes why → why ≡ Refusals.Form 2
 rules_cause P bytes (Refusals.Form i) h = ap Refusals.Form h.0

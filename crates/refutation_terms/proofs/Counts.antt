@@ -12,7 +12,7 @@ use Rattle.rwsp_terms.specs.Instance.{Instance, cells, shift_count, least, great
 use Rattle.rwsp_terms.specs.Roster.{MeetsDay, weeks_with}
 use Rattle.rwsp_terms.proofs.Counting.{count_mono}
 use Rattle.refutation_terms.specs.Word.{Domains, Within}
-use Rattle.refutation_terms.specs.Leaf.{is_only, fixed, possible, HasTooMany, HasTooFew}
+use Rattle.refutation_terms.specs.DayLeaf.{is_only, fixed, possible, HasTooMany, HasTooFew}
 use Rattle.refutation_terms.proofs.Tests.{right_of}
 
 apart_up : (g : ℤ) (c f : ℕ) → pos c ≤ℤ g → f ≤ c → g <ℤ pos f → ⊥

@@ -1,5 +1,5 @@
 -- Logs of the examples that aren't sharp.
-use Rattle.std.proofs.Common.{◌≡◌, ◌⊎◌, ℕ, zero, suc, ◌+◌, ◌*◌, ◌%◌, ◌<◌, ◌≤◌, List, [], ◌∷◌, ◌++◌, refl, ap, sym, subst, arith, inl, inr, Bool, true, false, IsTrue, pos, lit<, lit≤}
+use Rattle.std.proofs.Common.{◌≡◌, ◌⊎◌, ℕ, zero, suc, ◌+◌, ◌%◌, ◌<◌, ◌≤◌, List, [], ◌∷◌, ◌++◌, None, refl, ap, sym, subst, arith, inl, inr, Bool, true, false, IsTrue, pos, lit<, lit≤}
 use Rattle.std.specs.Prelude.{◌<ℤ◌, ◌*ℤ◌}
 use Rattle.std.specs.Int.Signed.{lt_z_yes, le_z_yes}
 use Rattle.std.proofs.lemmas.Int.{ints}
@@ -12,10 +12,11 @@ use Rattle.rwsp_terms.specs.Instance.{IsDay, symbol_numbered}
 use Rattle.rwsp_terms.specs.Window.{InClass}
 use Rattle.rwsp_terms.specs.Rules.{NamesShortRules}
 use Rattle.rwsp_terms.proofs.Elements.{all_from}
-use Rattle.refutation_terms.specs.declared.lines.Line.TheVariants.{Split, Day}
+use Rattle.refutation_terms.specs.declared.lines.Line.TheVariants.{Split, Closing}
+use Rattle.refutation_terms.specs.declared.lines.Leaf.TheVariants.{Day}
 use Rattle.refutation_terms.specs.Word.{full, Over, Clean, weight, total}
-use Rattle.refutation_terms.specs.Leaf.{IsDead}
-use Rattle.refutation_terms.specs.Tree.{First, narrowed, opening, turn_leaves, domains_at}
+use Rattle.refutation_terms.specs.WordsLeaf.{IsDead}
+use Rattle.refutation_terms.specs.Tree.{First, narrowed, opening, opening_leaves, domains_at}
 use Rattle.refutation_terms.specs.Log.{Holds}
 use Rattle.refutation_terms.specs.Sharp.{IsSpentAt, HoldsAtTop, IsSharp}
 use Rattle.refutation_terms.specs.Examples.{from_to, singles, odd_cycle, late_dead_log, two_on_day_one, late_day_log, two_in_a_row, late_bound_log, none_wanted, free_split_log, three_of_six, open_log, turn_to_D, on_both_days, off, shift_D}
@@ -29,10 +30,10 @@ one_of_two (suc zero) small = inr refl
 one_of_two (suc (suc z)) small = absurd (omega (arith, small))
 
 either : (days weeks : ℕ) (demand : List Bounds) (q z : ℕ) → IsTrue (opening (singles days weeks demand) turn_to_D q z) → (z ≡ 0) ⊎ (z ≡ 1)
-either days weeks demand q z h = one_of_two z (leb-true z 1 (left_of (full (singles days weeks demand) q z) (turn_leaves turn_to_D q z) h))
+either days weeks demand q z h = one_of_two z (leb-true z 1 (left_of (full (singles days weeks demand) q z) (opening_leaves turn_to_D q z) h))
 
 first_is_D : (days weeks : ℕ) (demand : List Bounds) (z : ℕ) → IsTrue (opening (singles days weeks demand) turn_to_D 0 z) → z ≡ 1
-first_is_D days weeks demand z h = eqb-true z 1 (right_of (full (singles days weeks demand) 0 z) (turn_leaves turn_to_D 0 z) h)
+first_is_D days weeks demand z h = eqb-true z 1 (right_of (full (singles days weeks demand) 0 z) (opening_leaves turn_to_D 0 z) h)
 
 -- no clean word has one of them twice in a row
 two_parts : (before : List Symbol) (a b : Symbol) (after : List Symbol) → before ++ a ∷ b ∷ after ≡ before ++ (a ∷ b ∷ []) ++ after
@@ -107,7 +108,7 @@ late_bound_is_blunt sharp =
     (sharp.top (Split 1 shift_D) refl tt).plain 0 (on_both_days (pos 1)) refl (too_light_at_top sharp.short sharp.all_short)
 
 -- D is spent in the first cell, since the day may hold none
-D_is_spent : (short : List ℕ) → IsSpentAt none_wanted (domains_at none_wanted free_split_log.turn free_split_log.lines 0) short 0 shift_D
+D_is_spent : (short : List ℕ) → IsSpentAt none_wanted (domains_at none_wanted free_split_log.opening free_split_log.lines 0) short 0 shift_D
 D_is_spent short = record {
   position = lit< tt;
   left = refl;
@@ -115,7 +116,7 @@ D_is_spent short = record {
 }
 
 -- and the day off isn't: no day leaf holds where it is alone there, and some clean word begins with it
-no_day_leaf : (j n : ℕ) (over : Bool) → IsDay none_wanted j → n ≤ 1 → Holds none_wanted (narrowed (domains_at none_wanted free_split_log.turn free_split_log.lines 0) (Split 0 off) First) (Day j (symbol_numbered n) over) → ⊥
+no_day_leaf : (j n : ℕ) (over : Bool) → IsDay none_wanted j → n ≤ 1 → Holds none_wanted None (narrowed (domains_at none_wanted free_split_log.opening free_split_log.lines 0) (Split 0 off) First) (Closing (Day j (symbol_numbered n) over)) → ⊥
 no_day_leaf zero n over day small h = let a : 0 < 0 = day.0 in omega (arith, a)
 no_day_leaf (suc (suc j)) n over day small h = let a : suc (suc j) ≤ 1 = day.1 in omega (arith, a)
 no_day_leaf (suc zero) zero true day small h = omega (arith, ints)

@@ -67,7 +67,7 @@ no_split (suc k) p x e = cc
 decided : (line : Line) → slice_get (blocks_dead ∷ []) 0 ≡ Some line → IsUnclosed line → ⊥
 decided line e h = let same : line ≡ blocks_dead = cc in subst IsUnclosed same h
 
-first_turn : IsFirstTurn three_of_six turn_log.turn
+first_turn : IsFirstTurn three_of_six turn_log.opening
 first_turn = (((lit< tt, lit≤ tt), (lit< tt, lit≤ tt), le_z_yes tt), first)
   where
     first : (j : ℕ) (x : Symbol) → IsDemanded three_of_six j x → (1 < j) ⊎ ((1 ≡ j) × (1 ≤ x.number))
@@ -99,12 +99,11 @@ open_log_is_spent = record {
   grounded = record {
     fits = record {
       named = (λ k lt. absurd (omega (arith, lt)), λ k d lt. absurd (omega (arith, lt)));
-      turn = tt;
-      is_goal = refl;
-      goal_fits = tt;
-      lines = each_at (λ k line. LineFits three_of_six line) open_log.lines ((lit< tt, lit≤ tt), (tt, (tt, tt)));
+      opening = tt;
+      goal = tt;
+      lines = each_at (λ k line. LineFits three_of_six None line) open_log.lines ((lit< tt, lit≤ tt), (tt, (tt, tt)));
     };
-    turn = tt;
+    allowed = tt;
     turn_named = λ r c. absurd c;
     named = λ k line r e c. absurd (each_at (λ k line. Cites three_of_six line r → ⊥) open_log.lines ((λ h. h), ((λ h. h), ((λ h. h), tt))) k line e c);
     short = each_at (λ k line. ListsShortOnly three_of_six line) open_log.lines (tt, (tt, (tt, tt)));

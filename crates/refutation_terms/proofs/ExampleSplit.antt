@@ -18,10 +18,12 @@ use Rattle.rwsp_terms.specs.Instance.{Instance, bounds, cells, shift_count, IsDa
 use Rattle.rwsp_terms.specs.Window.{Bad, InClass, TooLong, TooShort}
 use Rattle.rwsp_terms.specs.Roster.{IsRule, MeetsDay}
 use Rattle.rwsp_terms.proofs.Elements.{all_from}
-use Rattle.refutation_terms.specs.declared.lines.Line.TheVariants.{Split, Day}
+use Rattle.refutation_terms.specs.declared.lines.Opening.TheVariants.{Full}
+use Rattle.refutation_terms.specs.declared.lines.Line.TheVariants.{Split, Closing}
+use Rattle.refutation_terms.specs.declared.lines.Leaf.TheVariants.{Day}
 use Rattle.refutation_terms.specs.Word.{Domains, Over, Clean, full, weight, total}
-use Rattle.refutation_terms.specs.Leaf.{is_only, fixed, possible}
-use Rattle.refutation_terms.specs.Tree.{First, narrowed, opening, turn_leaves, domains_at}
+use Rattle.refutation_terms.specs.DayLeaf.{is_only, fixed, possible}
+use Rattle.refutation_terms.specs.Tree.{First, narrowed, opening, opening_leaves, domains_at}
 use Rattle.refutation_terms.specs.Log.{Holds}
 use Rattle.refutation_terms.specs.Sharp.{SomeWindowHolds, SomeDayHolds, NoWordHas, IsSpentAt, HoldsAtTop, IsSharpSplit, IsSharp}
 use Rattle.refutation_terms.specs.Examples.{from_to, singles, short_rules, odd_cycle, odd_log, off, shift_D}
@@ -102,7 +104,7 @@ abbrev odd : Instance
 odd = odd_cycle (from_to 0 3)
 
 abbrev start : Domains
-start = domains_at odd None odd_log.lines 0
+start = domains_at odd Full odd_log.lines 0
 
 over_start : (x y : Symbol) → ((q : ℕ) → IsTrue (start q x.number)) → ((q : ℕ) → IsTrue (start q y.number)) → (p n : ℕ) → Over odd start p (by_turns x y n)
 over_start x y a b p zero = tt
@@ -122,7 +124,7 @@ at_most f a b = omega (arith, ints)
 never_negative : (f : ℕ) → pos f <ℤ pos 0 → ⊥
 never_negative f a = omega (arith, ints)
 
-no_day_leaf : (D : Domains) (j n : ℕ) (over : Bool) → IsDay odd j → n ≤ 1 → Holds odd D (Day j (symbol_numbered n) over) → ⊥
+no_day_leaf : (D : Domains) (j n : ℕ) (over : Bool) → IsDay odd j → n ≤ 1 → Holds odd None D (Closing (Day j (symbol_numbered n) over)) → ⊥
 no_day_leaf D zero n over day small h = let a : 0 < 0 = day.0 in omega (arith, a)
 no_day_leaf D (suc (suc j)) n over day small h = let a : suc (suc j) ≤ 1 = day.1 in omega (arith, a)
 no_day_leaf D (suc zero) zero true day small h = at_most (fixed odd D 1 0) (count_by-le-length (λ i. is_only odd D (i * 1 + (1 - 1)) 0) (range_with_len 0 3)) h
@@ -160,7 +162,7 @@ left_there true only h = refl
 left_there false only h = absurd (cc)
 
 small_there : (q z : ℕ) → IsTrue (start q z) → z ≤ 1
-small_there q z h = leb-true z (shift_count odd) (left_of (full odd q z) (turn_leaves None q z) (left_of (opening odd None q z) true h))
+small_there q z h = leb-true z (shift_count odd) (left_of (full odd q z) (opening_leaves Full q z) (left_of (opening odd Full q z) true h))
 
 -- so nothing is spent
 nothing_is_spent : (q : ℕ) (z : Symbol) → IsSpentAt odd start short_rules q z → ⊥
@@ -178,7 +180,7 @@ split_is_sharp = record {
   forced = λ q z s. absurd (nothing_is_spent q z s);
 }
 
-splits_are_sharp : (k p : ℕ) (x : Symbol) → slice_get odd_log.lines k ≡ Some (Split p x) → IsSharpSplit odd (domains_at odd None odd_log.lines k) short_rules p x
+splits_are_sharp : (k p : ℕ) (x : Symbol) → slice_get odd_log.lines k ≡ Some (Split p x) → IsSharpSplit odd (domains_at odd Full odd_log.lines k) short_rules p x
 splits_are_sharp zero p x e =
     let same_p : 0 ≡ p = cc in
     let same_x : shift_D ≡ x = cc in
@@ -198,7 +200,7 @@ day_is_met (suc zero) day (suc zero) small = (le_z_yes tt, le_z_yes tt)
 day_is_met (suc zero) day (suc (suc x)) small = absurd (omega (arith, small))
 day_is_met (suc (suc j)) day x small = let a : suc (suc j) ≤ 1 = day.1 in absurd (omega (arith, a))
 
-no_bound : (y : List Weight) → HoldsAtTop odd (opening odd None) short_rules y → ⊥
+no_bound : (y : List Weight) → HoldsAtTop odd (opening odd Full) short_rules y → ⊥
 no_bound y h =
     too_light (weight odd y 0 D_twice) (pos 1 *ℤ total odd y)
     (h D_twice refl (refl, (refl, (refl, tt))) (alternating_is_clean 1 3 (from_to 0 3 ∷ []) short_rules D_twice (alternate shift_D off D_off off_D 3)))

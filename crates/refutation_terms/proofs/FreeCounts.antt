@@ -1,7 +1,7 @@
 -- The free weekends of rosters and of words that go through one a number of times, and why leaves of free logs leave no
 -- roster.
 use Rattle.std.proofs.Common.{◌≡◌, ◌⊎◌, ℕ, zero, suc, ◌+◌, ◌*◌, ◌%◌, ◌<◌, ◌≤◌, List, length, get_or, refl, ap, sym, ◌∙◌, subst, arith, inl, inr, Bool, true, false, cond, IsTrue, ◌&&◌, ◌==◌, count_by, pos, ℤ, mul-le-mul_left}
-use Rattle.std.specs.Prelude.{nat_lt, ◌+ℤ◌, ◌*ℤ◌, ◌≤ℤ◌}
+use Rattle.std.specs.Prelude.{Some, nat_lt, ◌+ℤ◌, ◌*ℤ◌, ◌≤ℤ◌}
 use Rattle.std.specs.List.{range_with_len}
 use Rattle.std.proofs.lemmas.Int.{ints}
 use Rattle.std.proofs.lemmas.Nat.{mod-mul-add}
@@ -17,7 +17,8 @@ use Rattle.rwsp_terms.proofs.Windows.{length-window, get_or-window}
 use Rattle.rwsp_terms.proofs.Counting.{count_next, count_same, count_mono}
 use Rattle.refutation_terms.specs.Word.{Domains, Within, weight, total}
 use Rattle.refutation_terms.specs.FreeWeekends.{is_off_at, is_free_weekend, free_weekends, free_weight}
-use Rattle.refutation_terms.specs.FreeLeaves.{may_be_free, HasTooFewFree, free_total}
+use Rattle.refutation_terms.specs.FewLeaf.{may_be_free, HasTooFewFree}
+use Rattle.refutation_terms.specs.WordsLeaf.{owed}
 use Rattle.refutation_terms.specs.Laws.{MeetsWeighedDays, FreeWeekendsAreWeeks, TurnsHaveFreeWeekends}
 use Rattle.refutation_terms.proofs.Tests.{both, left_of, right_of}
 use Rattle.refutation_terms.proofs.Sums.{times_more}
@@ -207,7 +208,7 @@ enough a b m n x y = omega (arith, ints)
 
 -- where a roster has the goal and meets the day rules that the weights bear on, a word that goes through it `turns`
 -- times weighs at least `turns` times what the demand and the goal ask for
-pub window_is_free_enough : (P : Instance) (y : List Weight) (s : List Symbol) (turns reward goal : ℕ) → P.days ≡ 7 → IsRoster P s → MeetsWeighedDays P y s → goal ≤ free_weekends s → (pos turns *ℤ free_total P y reward goal) ≤ℤ free_weight P y reward 0 (window s 0 (turns * cells P))
+pub window_is_free_enough : (P : Instance) (y : List Weight) (s : List Symbol) (turns reward goal : ℕ) → P.days ≡ 7 → IsRoster P s → MeetsWeighedDays P y s → goal ≤ free_weekends s → (pos turns *ℤ owed P (Some goal) y reward) ≤ℤ free_weight P y reward 0 (window s 0 (turns * cells P))
 window_is_free_enough P y s turns reward goal week roster met has =
     let u = window s 0 (turns * cells P) in
     let free : free_weekends u ≡ turns * free_weekends s = free_weekends_turns P s turns week roster in

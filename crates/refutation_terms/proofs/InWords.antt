@@ -5,7 +5,7 @@ use Rattle.std.proofs.lemmas.Bool.{eqb-false, or_from, or_parts, cases_Bool}
 use Rattle.rwsp_terms.specs.declared.data.Symbol.{Symbol}
 use Rattle.rwsp_terms.specs.Instance.{Instance, cells, shift_count, off_symbol}
 use Rattle.refutation_terms.specs.Word.{Domains, Over}
-use Rattle.refutation_terms.specs.Leaf.{is_only}
+use Rattle.refutation_terms.specs.DayLeaf.{is_only}
 use Rattle.refutation_terms.specs.Tree.{is_idle}
 use Rattle.refutation_terms.specs.Laws.{OverIsAsSaid, IdleIsAsSaid}
 use Rattle.refutation_terms.proofs.Counts.{only_one}

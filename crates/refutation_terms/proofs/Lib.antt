@@ -27,4 +27,3 @@ pub mod Fronts
 pub mod Causes
 pub mod OneRefusal
 pub mod Unique
-pub mod FreeUnique

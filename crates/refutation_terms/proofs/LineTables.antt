@@ -1,20 +1,22 @@
 -- The lines of a log's text are those of its tables.
-use Rattle.std.proofs.Common.{◌≡◌, ℕ, zero, suc, ◌+◌, ◌*◌, ◌/◌, ◌^◌, ◌<◌, ◌≤◌, List, [], ◌∷◌, ◌++◌, length, refl, ap, sym, ◌∙◌, subst, arith, inl, inr, Bool, Option, Some, None}
+use Rattle.std.proofs.Common.{◌≡◌, ℕ, zero, suc, ◌+◌, ◌*◌, ◌/◌, ◌^◌, ◌<◌, ◌≤◌, List, [], ◌∷◌, ◌++◌, length, refl, ap, sym, ◌∙◌, subst, arith, inl, inr, true, false, Option, Some, None}
 use Rattle.std.specs.Prelude.{codes}
 use Rattle.std.specs.List.{flat_map}
 use Rattle.std.specs.Fmt.{decimal}
 use Rattle.std.proofs.lemmas.List.{append-nil}
 use Rattle.std.proofs.Math.Nat.{le-div_iff_mul-le, div-le_self}
-use Rattle.rwsp_text.specs.Fields.{either_word, Words, IsName, NamedWeight, Values, AreInRange, spell, numbers, weight_fields}
+use Rattle.rwsp_text.specs.Fields.{Words, IsName, NamedWeight, Values, AreInRange, spell, numbers, weight_fields}
 use Rattle.rwsp_text.specs.Kinds.{Kind, IsOfKind, IsLine, AreReadable, IsReadable}
 use Rattle.rwsp_text.specs.Lines.{AreWords}
 use Rattle.rwsp_text.proofs.KindLaws.{no_words, lines_are_words, lines_say_one}
 use Rattle.rwsp_terms.specs.declared.limits.TheConstants.{GREATEST_REWARD, LONGEST_WORD}
 use Rattle.rwsp_terms.specs.Instance.{Instance, cells, IsDay}
 use Rattle.rwsp_terms.specs.Rules.{rules}
-use Rattle.refutation_terms.specs.Log.{IsLength, AreRules}
-use Rattle.refutation_terms.specs.LogText.{RawLine, RawSplit, RawWindow, RawDay, RawDead, RawBound, RawFew, RawFree, RawUnfinished, place_words, raw_fields, IsInRangeFor}
-use Rattle.refutation_terms.specs.LineKinds.{most_turns, split_kind, window_kind, day_kind, dead_kind, bound_kind, open_kind, few_kind, free_kind, own_kinds, kinds_for, version_kinds, free_version_kinds, rules_kinds, turn_kinds, goal_kinds}
+use Rattle.refutation_terms.specs.declared.lines.Version.{Version}
+use Rattle.refutation_terms.specs.declared.lines.Version.TheVariants.{Version1, Version2, Free1}
+use Rattle.refutation_terms.specs.Ranges.{IsLength, AreRules}
+use Rattle.refutation_terms.specs.LogText.{RawLine, RawSplit, RawWindow, RawDay, RawDead, RawBound, RawFew, RawFree, RawUnfinished, place_words, raw_fields, IsInRange}
+use Rattle.refutation_terms.specs.LineKinds.{most_turns, split_kind, window_kind, day_kind, dead_kind, bound_kind, open_kind, few_kind, free_kind, own_kinds, line_kinds, version_kinds, rules_kinds, turn_kinds, goal_kinds}
 use Rattle.refutation_terms.specs.TextLaws.{IsWritable}
 
 word_fits : LONGEST_WORD < 10 ^ 19
@@ -45,24 +47,21 @@ fields_readable P w =
       (few_turns P, (reward, (refl, ((many, refl), (refl, ((days, (omega arith, omega arith), tt), tt)))))),
     )
 
-pub readable_for : (P : Instance) (goal : Option ℕ) → IsWritable P → IsReadable (kinds_for P goal)
-readable_for P None w =
+pub lines_readable : (P : Instance) (goal : Option ℕ) → IsWritable P → IsReadable (line_kinds P goal)
+lines_readable P None w =
     let r = fields_readable P w in
     let own : IsReadable (own_kinds P None) = ((r.4, refl, (refl, tt)), ((tt, refl, tt), tt)) in
     ((r.0, refl, (refl, (refl, (refl, (refl, (refl, tt)))))), ((r.1, refl, (refl, (refl, (refl, (refl, tt))))), ((r.2, refl, (refl, (refl, (refl, tt)))), ((r.3, refl, (refl, (refl, tt))), own))))
-readable_for P (Some goal) w =
+lines_readable P (Some goal) w =
     let r = fields_readable P w in
     let own : IsReadable (own_kinds P (Some goal)) = ((tt, refl, (refl, (refl, tt))), ((r.5, refl, (refl, tt)), ((tt, refl, tt), tt))) in
     ((r.0, refl, (refl, (refl, (refl, (refl, (refl, (refl, tt))))))), ((r.1, refl, (refl, (refl, (refl, (refl, (refl, tt)))))), ((r.2, refl, (refl, (refl, (refl, (refl, tt))))), ((r.3, refl, (refl, (refl, (refl, tt)))), own))))
-
-pub free_version_readable : IsReadable free_version_kinds
-free_version_readable = (((refl, tt), refl, tt), tt)
 
 pub goal_readable : (P : Instance) → IsWritable P → IsReadable (goal_kinds P)
 goal_readable P w = (((omega (arith, w.1), tt), refl, tt), tt)
 
 pub version_readable : IsReadable version_kinds
-version_readable = ((((refl, refl, refl), tt), refl, tt), tt)
+version_readable = ((((refl, refl, refl), tt), refl, (refl, tt)), (((refl, tt), refl, tt), tt))
 
 pub rules_readable : (P : Instance) → IsWritable P → IsReadable (rules_kinds P)
 rules_readable P w = ((((omega (arith, w.2), tt), tt), refl, tt), tt)
@@ -76,7 +75,7 @@ some_turns : (n m : ℕ) → 0 < n * m → 1 ≤ n
 some_turns zero m h = absurd (omega (arith, h))
 some_turns (suc n) m h = omega arith
 
-some_cells : (n m : ℕ) → 0 < n * m → 0 < m
+pub some_cells : (n m : ℕ) → 0 < n * m → 0 < m
 some_cells n zero h = let e : n * zero ≡ 0 = omega arith in absurd (omega (arith, h, e))
 some_cells n (suc m) h = omega arith
 
@@ -104,13 +103,13 @@ weights_end R y = ap (λ us. numbers R ++ (codes "weights" ∷ us)) (sym (append
 rules_end : (R : List ℕ) → numbers R ≡ numbers R ++ []
 rules_end R = sym (append-nil (numbers R))
 
-pub line_for : (P : Instance) (goal : Option ℕ) (raw : RawLine) → IsInRangeFor P goal raw → IsLine (kinds_for P goal) (raw_fields P raw) raw
-line_for P goal (RawSplit p name) h = inl (refl, record { values = (p, (name, tt)); keeps = (h.0, (h.1, tt)); spelled = refl; made = refl })
-line_for P goal (RawWindow rule p len) h = inr (inl (refl, record { values = (rule, (p, (len, tt))); keeps = ((h.0, h.1), (h.2, (h.3, tt))); spelled = refl; made = refl }))
-line_for P goal (RawDay day name over) h = inr (inr (inl (refl, record { values = (day, (name, (over, tt))); keeps = (h.0, (h.1, tt)); spelled = refl; made = refl })))
-line_for P goal (RawDead p len R) h =
+pub raw_line : (P : Instance) (goal : Option ℕ) (raw : RawLine) → IsInRange P goal raw → IsLine (line_kinds P goal) (raw_fields P raw) raw
+raw_line P goal (RawSplit p name) h = inl (refl, record { values = (p, (name, tt)); keeps = (h.0, (h.1, tt)); spelled = refl; made = refl })
+raw_line P goal (RawWindow rule p len) h = inr (inl (refl, record { values = (rule, (p, (len, tt))); keeps = ((h.0, h.1), (h.2, (h.3, tt))); spelled = refl; made = refl }))
+raw_line P goal (RawDay day name over) h = inr (inr (inl (refl, record { values = (day, (name, (over, tt))); keeps = (h.0, (h.1, tt)); spelled = refl; made = refl })))
+raw_line P goal (RawDead p len R) h =
     inr (inr (inr (inl (refl, record { values = (p, (len, (R, tt))); keeps = (h.0, (h.1, (h.2, tt))); spelled = ap (λ us. place_words P p ++ (decimal len ∷ codes "rules" ∷ us)) (rules_end R); made = refl }))))
-line_for P None (RawBound p turns R y) h =
+raw_line P None (RawBound p turns R y) h =
     inr (inr (inr (inr (inl (
       refl,
       record {
@@ -120,11 +119,11 @@ line_for P None (RawBound p turns R y) h =
         made = refl;
       },
     )))))
-line_for P None RawUnfinished h = inr (inr (inr (inr (inr (inl (refl, record { values = tt; keeps = tt; spelled = refl; made = refl }))))))
-line_for P None RawFew h = absurd h
-line_for P None (RawFree turns reward R y) h = absurd h
-line_for P (Some goal) RawFew h = inr (inr (inr (inr (inl (refl, record { values = tt; keeps = tt; spelled = refl; made = refl })))))
-line_for P (Some goal) (RawFree turns reward R y) h =
+raw_line P None RawUnfinished h = inr (inr (inr (inr (inr (inl (refl, record { values = tt; keeps = tt; spelled = refl; made = refl }))))))
+raw_line P None RawFew h = absurd h
+raw_line P None (RawFree turns reward R y) h = absurd h
+raw_line P (Some goal) RawFew h = inr (inr (inr (inr (inl (refl, record { values = tt; keeps = tt; spelled = refl; made = refl })))))
+raw_line P (Some goal) (RawFree turns reward R y) h =
     inr (inr (inr (inr (inr (inl (
       refl,
       record {
@@ -134,11 +133,11 @@ line_for P (Some goal) (RawFree turns reward R y) h =
         made = refl;
       },
     ))))))
-line_for P (Some goal) RawUnfinished h = inr (inr (inr (inr (inr (inr (inl (refl, record { values = tt; keeps = tt; spelled = refl; made = refl })))))))
-line_for P (Some goal) (RawBound p turns R y) h = absurd h
+raw_line P (Some goal) RawUnfinished h = inr (inr (inr (inr (inr (inr (inl (refl, record { values = tt; keeps = tt; spelled = refl; made = refl })))))))
+raw_line P (Some goal) (RawBound p turns R y) h = absurd h
 
 abbrev Found : Instance → Option ℕ → Words → RawLine → Type 0
-Found P goal ws raw = (ws ≡ raw_fields P raw) × IsInRangeFor P goal raw
+Found P goal ws raw = (ws ≡ raw_fields P raw) × IsInRange P goal raw
 
 -- a line of a kind is a written line, where each line with values in their ranges is one
 found_by : (P : Instance) (goal : Option ℕ) (kind : Kind RawLine) (w : List ℕ) (ws : Words) (raw : RawLine) → ((v : Values kind.fields) → AreInRange kind.fields v → Found P goal (kind.word ∷ spell kind.fields v) (kind.make v)) → IsOfKind kind (w ∷ ws) raw → Found P goal (w ∷ ws) raw
@@ -169,19 +168,21 @@ own_found P (Some goal) w ws raw (inr (inr (inl l))) = found_by P (Some goal) op
 own_found P (Some goal) w ws raw (inr (inr (inr l))) = absurd l
 
 -- and a line of the table is a written line
-pub found_for : (P : Instance) (goal : Option ℕ) (ws : Words) (raw : RawLine) → IsLine (kinds_for P goal) ws raw → (ws ≡ raw_fields P raw) × IsInRangeFor P goal raw
-found_for P goal [] raw l = absurd (no_words (kinds_for P goal) raw l)
-found_for P goal (w ∷ ws) raw (inl l) = found_by P goal (split_kind P) w ws raw (λ v k. (refl, (k.0, k.1.0))) l
-found_for P goal (w ∷ ws) raw (inr (inl l)) = found_by P goal (window_kind P) w ws raw (λ v k. (refl, (k.0.0, k.0.1, k.1.0, k.1.1.0))) l
-found_for P goal (w ∷ ws) raw (inr (inr (inl l))) = found_by P goal (day_kind P) w ws raw (λ v k. (refl, (k.0, k.1.0))) l
-found_for P goal (w ∷ ws) raw (inr (inr (inr (inl l)))) =
+pub raw_found : (P : Instance) (goal : Option ℕ) (ws : Words) (raw : RawLine) → IsLine (line_kinds P goal) ws raw → (ws ≡ raw_fields P raw) × IsInRange P goal raw
+raw_found P goal [] raw l = absurd (no_words (line_kinds P goal) raw l)
+raw_found P goal (w ∷ ws) raw (inl l) = found_by P goal (split_kind P) w ws raw (λ v k. (refl, (k.0, k.1.0))) l
+raw_found P goal (w ∷ ws) raw (inr (inl l)) = found_by P goal (window_kind P) w ws raw (λ v k. (refl, (k.0.0, k.0.1, k.1.0, k.1.1.0))) l
+raw_found P goal (w ∷ ws) raw (inr (inr (inl l))) = found_by P goal (day_kind P) w ws raw (λ v k. (refl, (k.0, k.1.0))) l
+raw_found P goal (w ∷ ws) raw (inr (inr (inr (inl l)))) =
     found_by P goal (dead_kind P) w ws raw (λ v k. (ap (λ us. codes "dead" ∷ place_words P v.0 ++ (decimal v.1.0 ∷ codes "rules" ∷ us)) (sym (rules_end v.1.1.0)), (k.0, k.1.0, k.1.1.0))) l
-found_for P goal (w ∷ ws) raw (inr (inr (inr (inr l)))) = own_found P goal w ws raw l
+raw_found P goal (w ∷ ws) raw (inr (inr (inr (inr l)))) = own_found P goal w ws raw l
 
 -- the lines of a header
 
-abbrev pub version_fields : Bool → Words
-version_fields has_turn = codes "rwsp-log" ∷ either_word (codes "2") (codes "1") has_turn ∷ []
+abbrev pub version_fields : Version → Words
+version_fields Version1 = codes "rwsp-log" ∷ codes "1" ∷ []
+version_fields Version2 = codes "rwsp-log" ∷ codes "2" ∷ []
+version_fields Free1 = codes "rwsp-free" ∷ codes "1" ∷ []
 
 abbrev pub rules_fields : List ℕ → Words
 rules_fields R = codes "rules" ∷ numbers R
@@ -189,8 +190,10 @@ rules_fields R = codes "rules" ∷ numbers R
 abbrev pub turn_fields : List ℕ → ℕ → Words
 turn_fields name day = codes "turn" ∷ name ∷ decimal day ∷ []
 
-pub version_line : (has_turn : Bool) → IsLine version_kinds (version_fields has_turn) has_turn
-version_line has_turn = inl (refl, record { values = (has_turn, tt); keeps = tt; spelled = refl; made = refl })
+pub version_line : (v : Version) → IsLine version_kinds (version_fields v) v
+version_line Version1 = inl (refl, record { values = (false, tt); keeps = tt; spelled = refl; made = refl })
+version_line Version2 = inl (refl, record { values = (true, tt); keeps = tt; spelled = refl; made = refl })
+version_line Free1 = inr (inl (refl, record { values = tt; keeps = tt; spelled = refl; made = refl }))
 
 pub rules_line : (P : Instance) (R : List ℕ) → AreRules P R → IsLine (rules_kinds P) (rules_fields R) R
 rules_line P R h = inl (refl, record { values = (R, tt); keeps = (h, tt); spelled = sym (append-nil (numbers R)); made = refl })
@@ -214,8 +217,8 @@ turn_found P (w ∷ ws) name day (inr l) = absurd l
 
 -- each line has words, and says one thing
 
-pub version_words : (has_turn : Bool) → AreWords (version_fields has_turn)
-version_words has_turn = lines_are_words version_kinds (version_fields has_turn) has_turn version_readable (version_line has_turn)
+pub version_words : (v : Version) → AreWords (version_fields v)
+version_words v = lines_are_words version_kinds (version_fields v) v version_readable (version_line v)
 
 pub rules_words : (P : Instance) (R : List ℕ) → IsWritable P → AreRules P R → AreWords (rules_fields R)
 rules_words P R w h = lines_are_words (rules_kinds P) (rules_fields R) R (rules_readable P w) (rules_line P R h)
@@ -223,23 +226,14 @@ rules_words P R w h = lines_are_words (rules_kinds P) (rules_fields R) R (rules_
 pub turn_words : (P : Instance) (name : List ℕ) (day : ℕ) → IsWritable P → IsName name → IsDay P day → AreWords (turn_fields name day)
 turn_words P name day w n d = lines_are_words (turn_kinds P) (turn_fields name day) (name, day) (turn_readable P w) (turn_line P name day n d)
 
-pub line_words_for : (P : Instance) (goal : Option ℕ) (raw : RawLine) → IsWritable P → IsInRangeFor P goal raw → AreWords (raw_fields P raw)
-line_words_for P goal raw w h = lines_are_words (kinds_for P goal) (raw_fields P raw) raw (readable_for P goal w) (line_for P goal raw h)
-
-abbrev pub free_version_fields : Words
-free_version_fields = codes "rwsp-free" ∷ codes "1" ∷ []
+pub raw_words : (P : Instance) (goal : Option ℕ) (raw : RawLine) → IsWritable P → IsInRange P goal raw → AreWords (raw_fields P raw)
+raw_words P goal raw w h = lines_are_words (line_kinds P goal) (raw_fields P raw) raw (lines_readable P goal w) (raw_line P goal raw h)
 
 abbrev pub goal_fields : ℕ → Words
 goal_fields goal = codes "goal" ∷ decimal goal ∷ []
 
-pub free_version_line : IsLine free_version_kinds free_version_fields tt
-free_version_line = inl (refl, record { values = tt; keeps = tt; spelled = refl; made = refl })
-
 pub goal_line : (P : Instance) (goal : ℕ) → goal ≤ P.weeks + 1 → IsLine (goal_kinds P) (goal_fields goal) goal
 goal_line P goal h = inl (refl, record { values = (goal, tt); keeps = ((omega arith, h), tt); spelled = refl; made = refl })
-
-pub free_version_words : AreWords free_version_fields
-free_version_words = lines_are_words free_version_kinds free_version_fields tt free_version_readable free_version_line
 
 pub goal_words : (P : Instance) (goal : ℕ) → IsWritable P → goal ≤ P.weeks + 1 → AreWords (goal_fields goal)
 goal_words P goal w h = lines_are_words (goal_kinds P) (goal_fields goal) goal (goal_readable P w) (goal_line P goal h)
@@ -247,7 +241,7 @@ goal_words P goal w h = lines_are_words (goal_kinds P) (goal_fields goal) goal (
 pub goal_same : (P : Instance) (a b : ℕ) → IsWritable P → a ≤ P.weeks + 1 → b ≤ P.weeks + 1 → goal_fields a ≡ goal_fields b → a ≡ b
 goal_same P a b w h k e = lines_say_one (goal_kinds P) (goal_fields a) a b (goal_readable P w) (goal_line P a h) (subst (λ ws. IsLine (goal_kinds P) ws b) (sym e) (goal_line P b k))
 
-pub version_same : (a b : Bool) → version_fields a ≡ version_fields b → a ≡ b
+pub version_same : (a b : Version) → version_fields a ≡ version_fields b → a ≡ b
 version_same a b e = lines_say_one version_kinds (version_fields a) a b version_readable (version_line a) (subst (λ ws. IsLine version_kinds ws b) (sym e) (version_line b))
 
 pub rules_same : (P : Instance) (R Q : List ℕ) → IsWritable P → AreRules P R → AreRules P Q → rules_fields R ≡ rules_fields Q → R ≡ Q
@@ -259,5 +253,5 @@ turn_same P name name' day day' w h k e =
     lines_say_one (turn_kinds P) (turn_fields name day) (name, day) (name', day') (turn_readable P w) (turn_line P name day h.0 h.1) (subst (λ ws. IsLine (turn_kinds P) ws (name', day')) (sym e) (turn_line P name' day' k.0 k.1)) in
     (ap (λ (t : List ℕ × ℕ). t.0) both, ap (λ (t : List ℕ × ℕ). t.1) both)
 
-pub line_same_for : (P : Instance) (goal : Option ℕ) (a b : RawLine) → IsWritable P → IsInRangeFor P goal a → IsInRangeFor P goal b → raw_fields P a ≡ raw_fields P b → a ≡ b
-line_same_for P goal a b w h k e = lines_say_one (kinds_for P goal) (raw_fields P a) a b (readable_for P goal w) (line_for P goal a h) (subst (λ ws. IsLine (kinds_for P goal) ws b) (sym e) (line_for P goal b k))
+pub raw_same : (P : Instance) (goal : Option ℕ) (a b : RawLine) → IsWritable P → IsInRange P goal a → IsInRange P goal b → raw_fields P a ≡ raw_fields P b → a ≡ b
+raw_same P goal a b w h k e = lines_say_one (line_kinds P goal) (raw_fields P a) a b (lines_readable P goal w) (raw_line P goal a h) (subst (λ ws. IsLine (line_kinds P goal) ws b) (sym e) (raw_line P goal b k))

@@ -9,7 +9,7 @@ use Rattle.rwsp_terms.specs.Instance.{Instance, shift_count}
 use Rattle.rwsp_terms.specs.Roster.{IsRule}
 use Rattle.rwsp_terms.specs.Rules.{rules, rule_of, shift_rules, Names, NamesShortOnly, NamesShortRules}
 use Rattle.refutation_terms.specs.Word.{Domains, Clean}
-use Rattle.refutation_terms.specs.Leaf.{IsDead}
+use Rattle.refutation_terms.specs.WordsLeaf.{IsDead}
 
 all_append : (P : Rule → Type 0) (xs ys : List Rule) → AllByRecursion P xs → AllByRecursion P ys → AllByRecursion P (xs ++ ys)
 all_append P [] ys h k = k

@@ -1,15 +1,16 @@
 -- No domain at a line is empty where no earlier split is idle.
-use Rattle.std.proofs.Common.{◌≡◌, ◌⊎◌, ℕ, zero, suc, ◌+◌, ◌-◌, ◌<◌, ◌≤◌, List, length, take, Option, Some, None, refl, sym, subst, arith, length-append, inl, inr, true, false, IsTrue, ◌==◌}
+use Rattle.std.proofs.Common.{◌≡◌, ◌⊎◌, ℕ, zero, suc, ◌+◌, ◌-◌, ◌<◌, ◌≤◌, List, length, take, Some, refl, sym, subst, arith, length-append, inl, inr, true, false, IsTrue, ◌==◌}
 use Rattle.std.specs.Prelude.{slice_get, nat_le}
 use Rattle.std.proofs.lemmas.Bool.{eqb-true, eq-eqb, leb-true, le-leb, cases_Bool, cases_lt}
 use Rattle.rwsp_terms.specs.declared.data.Symbol.{Symbol}
 use Rattle.rwsp_terms.specs.Instance.{Instance, shift_count}
 use Rattle.refutation_terms.specs.declared.lines.Line.{Line}
 use Rattle.refutation_terms.specs.declared.lines.Line.TheVariants.{Split}
-use Rattle.refutation_terms.specs.declared.lines.Turn.{Turn}
+use Rattle.refutation_terms.specs.declared.lines.Opening.{Opening}
+use Rattle.refutation_terms.specs.declared.lines.Opening.TheVariants.{Full, Turned}
 use Rattle.refutation_terms.specs.Word.{Domains, full}
-use Rattle.refutation_terms.specs.Tree.{Tree, Leaf, Node, lines_in, Side, First, Second, side_takes, line_leaves, lines_leave, narrowed, turn_leaves, opening, is_idle}
-use Rattle.refutation_terms.specs.Log.{TurnFits}
+use Rattle.refutation_terms.specs.Tree.{Tree, Leaf, Node, lines_in, Side, First, Second, side_takes, line_leaves, lines_leave, narrowed, opening_leaves, opening, is_idle}
+use Rattle.refutation_terms.specs.Log.{OpeningFits}
 use Rattle.refutation_terms.specs.Laws.{DomainsAreNeverEmpty}
 use Rattle.refutation_terms.proofs.Tests.{both, left_of, where_passed, not_passed}
 use Rattle.refutation_terms.proofs.InWords.{there, another}
@@ -62,11 +63,11 @@ has_some_at P (Node p x a b) D (suc k) some lt h =
     (cases_lt k (length (lines_in a)))
 
 -- opening domains have a symbol everywhere
-opening_has_some : (P : Instance) (turn : Option Turn) → TurnFits P turn → HasSome (opening P turn)
-opening_has_some P None fits p = (0, both (nat_le 0 (shift_count P)) true (le-leb 0 (shift_count P) (omega arith)) refl)
-opening_has_some P (Some t) fits p = (
+opening_has_some : (P : Instance) (turn : Opening) → OpeningFits P turn → HasSome (opening P turn)
+opening_has_some P Full fits p = (0, both (nat_le 0 (shift_count P)) true (le-leb 0 (shift_count P) (omega arith)) refl)
+opening_has_some P (Turned t) fits p = (
   t.x.number,
-  both (nat_le t.x.number (shift_count P)) (turn_leaves (Some t) p t.x.number) (le-leb t.x.number (shift_count P) fits.1)
+  both (nat_le t.x.number (shift_count P)) (opening_leaves (Turned t) p t.x.number) (le-leb t.x.number (shift_count P) fits.1)
       (where_passed ((t.day - 1) == p) (t.x.number == t.x.number) (λ e. eq-eqb t.x.number t.x.number refl)),
 )
 
@@ -79,6 +80,6 @@ domains_never_empty P turn lines k fits tree lt h =
     subst (λ ls. HasSome (behind (opening P turn) (take k ls))) tree.1
     (has_some_at P t (opening P turn) k (opening_has_some P turn fits) less (subst (λ ls. NoneIdle P (opening P turn) ls k) (sym tree.1) none_idle)) in
     record {
-      symbols = λ p x inside left. leb-true x (shift_count P) (left_of (full P p x) (turn_leaves turn p x) (left_of (opening P turn p x) (lines_leave (take k lines) p x) left));
+      symbols = λ p x inside left. leb-true x (shift_count P) (left_of (full P p x) (opening_leaves turn p x) (left_of (opening P turn p x) (lines_leave (take k lines) p x) left));
       some = λ p inside. some p;
     }

@@ -7,15 +7,19 @@ use Rattle.rwsp_terms.specs.declared.data.Symbol.{Symbol}
 use Rattle.rwsp_terms.specs.Instance.{Instance, cells, shift_count, IsDay, least, greatest}
 use Rattle.rwsp_terms.proofs.Counting.{count_same}
 use Rattle.refutation_terms.specs.declared.lines.Line.{Line}
-use Rattle.refutation_terms.specs.declared.lines.Line.TheVariants.{Split, Window, Day, Dead, Bound, Few, Free, Unfinished}
-use Rattle.refutation_terms.specs.Word.{Domains, AreSame, Over, weight}
-use Rattle.refutation_terms.specs.FreeWeekends.{free_weight}
-use Rattle.refutation_terms.specs.FreeLeaves.{may_be_free, HasTooFewFree}
-use Rattle.refutation_terms.specs.Leaf.{is_only, fixed, possible}
+use Rattle.refutation_terms.specs.declared.lines.Line.TheVariants.{Split, Unfinished, Closing}
+use Rattle.refutation_terms.specs.declared.lines.Leaf.TheVariants.{Window, Day, Few, Words}
+use Rattle.refutation_terms.specs.declared.lines.WordClaim.{WordClaim}
+use Rattle.refutation_terms.specs.declared.lines.WordClaim.TheVariants.{Dead, Light}
+use Rattle.refutation_terms.specs.declared.lines.Opening.TheVariants.{Full}
+use Rattle.refutation_terms.specs.Word.{Domains, AreSame, Over}
+use Rattle.refutation_terms.specs.WordsLeaf.{WordsHold, worth}
+use Rattle.refutation_terms.specs.FewLeaf.{may_be_free, HasTooFewFree}
+use Rattle.refutation_terms.specs.DayLeaf.{is_only, fixed, possible}
 use Rattle.refutation_terms.specs.Escape.{IsCleanOver, IsHeaviestBy, IsLeastHeaviestBy}
 use Rattle.refutation_terms.specs.Tree.{is_idle}
-use Rattle.refutation_terms.specs.Log.{Holds, HoldsFree, HoldsFor, LineFits, LineFitsFor, GoalFits}
-use Rattle.refutation_terms.specs.Verdict.{Escapes, EscapesFree, EscapesFor}
+use Rattle.refutation_terms.specs.Log.{Holds, LineFits, GoalFits}
+use Rattle.refutation_terms.specs.Verdict.{Escapes}
 use Rattle.refutation_terms.proofs.Counts.{in_column}
 
 pub turned_round : (P : Instance) (D E : Domains) → AreSame P D E → AreSame P E D
@@ -65,34 +69,7 @@ same_least P D E p len R weighs u some same h = record {
   least = λ v c. h.least v (same_heaviest P E D p len R weighs v some (turned_round P D E same) c);
 }
 
--- a line that holds under the one holds under the other
-pub same_holds : (P : Instance) (D E : Domains) (line : Line) → 0 < cells P → LineFits P line → AreSame P D E → Holds P D line → Holds P E line
-same_holds P D E (Split p x) some fits same h = sym (same_idle P D E p x.number fits.0 same) ∙ h
-same_holds P D E (Window rule p len) some fits same h = (h.0, h.1, λ u long over. h.2 u long (same_over P E D p u some (turned_round P D E same) over))
-same_holds P D E (Day j x true) some fits same h = subst (λ n. greatest P x.number j <ℤ pos n) (same_fixed P D E j x.number fits.0 same) h
-same_holds P D E (Day j x false) some fits same h = subst (λ n. pos n <ℤ least P x.number j) (same_possible P D E j x.number fits.0 same) h
-same_holds P D E (Dead p len R) some fits same h = λ u long over. h u long (same_over P E D p u some (turned_round P D E same) over)
-same_holds P D E (Bound p turns R y) some fits same h = λ u long over. h u long (same_over P E D p u some (turned_round P D E same) over)
-same_holds P D E Unfinished some fits same h = h
-same_holds P D E Few some fits same h = absurd h
-same_holds P D E (Free turns reward R y) some fits same h = absurd h
-
--- and a word that escapes it under the one escapes it under the other
-pub same_escapes : (P : Instance) (D E : Domains) (line : Line) (w : List Symbol) → 0 < cells P → AreSame P D E → Escapes P D line w → Escapes P E line w
-same_escapes P D E (Split p x) w some same h = h
-same_escapes P D E (Window rule p len) w some same h = h
-same_escapes P D E (Day j x over) w some same h = h
-same_escapes P D E (Dead p len R) w some same h = record {
-  clean = same_clean P D E p len R w some same h.clean;
-  least = λ v c. h.least v (same_clean P E D p len R v some (turned_round P D E same) c);
-}
-same_escapes P D E (Bound p turns R y) w some same h = (same_least P D E p (turns * cells P) R (weight P y p) w some same h.0, h.1)
-same_escapes P D E Unfinished w some same h = h
-same_escapes P D E Few w some same h = absurd h
-same_escapes P D E (Free turns reward R y) w some same h = absurd h
-
--- the same of free logs
-
+-- as many weeks can have their weekend off
 in_week : (P : Instance) (i d : ℕ) → P.days ≡ 7 → i < P.weeks → d < 7 → i * 7 + d < cells P
 in_week P i d days less small =
     let within : i * P.days + (d + 1 - 1) < cells P = in_column P i (d + 1) (omega (arith, less)) (omega arith, omega (arith, days, small)) in
@@ -107,20 +84,31 @@ same_few : (P : Instance) (goal : ℕ) (D E : Domains) → P.days ≡ 7 → AreS
 same_few P goal D E days same h =
     subst (λ n. n < goal) (count_same (may_be_free D) (may_be_free E) 0 P.weeks (λ i le less. same_may_be_free P D E i days (omega (arith, less)) same)) h
 
-same_holds_free : (P : Instance) (goal : ℕ) (D E : Domains) (line : Line) → 0 < cells P → P.days ≡ 7 → LineFitsFor P (Some goal) line → AreSame P D E → HoldsFree P goal D line → HoldsFree P goal E line
-same_holds_free P goal D E Few some days fits same h = same_few P goal D E days same h
-same_holds_free P goal D E (Free turns reward R y) some days fits same h = λ u long over. h u long (same_over P E D 0 u some (turned_round P D E same) over)
-same_holds_free P goal D E (Bound p turns R y) some days fits same h = absurd fits
-same_holds_free P goal D E line some days fits same h = same_holds P D E line some fits same h
+-- the claim of a leaf of words is true under the other too
+same_claim : (P : Instance) (goal : Option ℕ) (D E : Domains) (p : ℕ) (R : List ℕ) (claim : WordClaim) → 0 < cells P → AreSame P D E → WordsHold P goal D p R claim → WordsHold P goal E p R claim
+same_claim P goal D E p R (Dead len) some same h = λ u long over. h u long (same_over P E D p u some (turned_round P D E same) over)
+same_claim P goal D E p R (Light turns reward y) some same h = λ u long over. h u long (same_over P E D p u some (turned_round P D E same) over)
 
-same_escapes_free : (P : Instance) (goal : ℕ) (D E : Domains) (line : Line) (w : List Symbol) → 0 < cells P → AreSame P D E → EscapesFree P goal D line w → EscapesFree P goal E line w
-same_escapes_free P goal D E (Free turns reward R y) w some same h = (same_least P D E 0 (turns * cells P) R (free_weight P y reward 0) w some same h.0, h.1)
-same_escapes_free P goal D E line w some same h = same_escapes P D E line w some same h
+-- a line that holds under the one holds under the other
+pub same_holds : (P : Instance) (goal : Option ℕ) (D E : Domains) (line : Line) → 0 < cells P → GoalFits P Full goal → LineFits P goal line → AreSame P D E → Holds P goal D line → Holds P goal E line
+same_holds P goal D E (Split p x) some weeks fits same h = sym (same_idle P D E p x.number fits.0 same) ∙ h
+same_holds P goal D E (Closing (Window rule p len)) some weeks fits same h = (h.0, h.1, λ u long over. h.2 u long (same_over P E D p u some (turned_round P D E same) over))
+same_holds P goal D E (Closing (Day j x true)) some weeks fits same h = subst (λ n. greatest P x.number j <ℤ pos n) (same_fixed P D E j x.number fits.0 same) h
+same_holds P goal D E (Closing (Day j x false)) some weeks fits same h = subst (λ n. pos n <ℤ least P x.number j) (same_possible P D E j x.number fits.0 same) h
+same_holds P goal D E (Closing (Words p R claim)) some weeks fits same h = same_claim P goal D E p R claim some same h
+same_holds P None D E (Closing Few) some weeks fits same h = h
+same_holds P (Some goal) D E (Closing Few) some weeks fits same h = same_few P goal D E weeks.1 same h
+same_holds P goal D E Unfinished some weeks fits same h = h
 
-pub same_holds_for : (P : Instance) (goal : Option ℕ) (D E : Domains) (line : Line) → 0 < cells P → GoalFits P None goal → LineFitsFor P goal line → AreSame P D E → HoldsFor P goal D line → HoldsFor P goal E line
-same_holds_for P None D E line some weeks fits same h = same_holds P D E line some fits same h
-same_holds_for P (Some goal) D E line some weeks fits same h = same_holds_free P goal D E line some weeks.1 fits same h
-
-pub same_escapes_for : (P : Instance) (goal : Option ℕ) (D E : Domains) (line : Line) (w : List Symbol) → 0 < cells P → AreSame P D E → EscapesFor P goal D line w → EscapesFor P goal E line w
-same_escapes_for P None D E line w some same h = same_escapes P D E line w some same h
-same_escapes_for P (Some goal) D E line w some same h = same_escapes_free P goal D E line w some same h
+-- and a word that escapes it under the one escapes it under the other
+pub same_escapes : (P : Instance) (goal : Option ℕ) (D E : Domains) (line : Line) (w : List Symbol) → 0 < cells P → AreSame P D E → Escapes P goal D line w → Escapes P goal E line w
+same_escapes P goal D E (Split p x) w some same h = h
+same_escapes P goal D E (Closing (Window rule p len)) w some same h = h
+same_escapes P goal D E (Closing (Day j x over)) w some same h = h
+same_escapes P goal D E (Closing (Words p R (Dead len))) w some same h = record {
+  clean = same_clean P D E p len R w some same h.clean;
+  least = λ v c. h.least v (same_clean P E D p len R v some (turned_round P D E same) c);
+}
+same_escapes P goal D E (Closing (Words p R (Light turns reward y))) w some same h = (same_least P D E p (turns * cells P) R (worth P goal y reward p) w some same h.0, h.1)
+same_escapes P goal D E (Closing Few) w some same h = h
+same_escapes P goal D E Unfinished w some same h = h

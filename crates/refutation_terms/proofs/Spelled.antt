@@ -5,18 +5,21 @@ use Rattle.std.specs.List.{AllByRecursion}
 use Rattle.std.specs.Option.{option_map}
 use Rattle.rwsp_terms.specs.declared.data.Symbol.{Symbol}
 use Rattle.rwsp_terms.specs.declared.data.Weight.{Weight}
-use Rattle.rwsp_terms.specs.Instance.{Instance, IsDay, IsSymbol, symbol_of, name_of}
+use Rattle.rwsp_terms.specs.Instance.{Instance, cells, IsDay, IsSymbol, symbol_of, name_of}
 use Rattle.rwsp_terms.specs.Weights.{ComesBefore, IsWeight}
 use Rattle.rwsp_terms.proofs.SymbolNames.{symbol_found}
 use Rattle.rwsp_terms.proofs.Elements.{all_from, all_to}
 use Rattle.refutation_terms.specs.declared.lines.Line.{Line}
-use Rattle.refutation_terms.specs.declared.lines.Line.TheVariants.{Split, Window, Day, Dead, Bound, Few, Free, Unfinished}
-use Rattle.refutation_terms.specs.Log.{AreWeightsOf, LineFits, LineFitsFor}
-use Rattle.refutation_terms.specs.LogText.{RawLine, RawSplit, RawWindow, RawDay, RawDead, RawBound, RawFew, RawFree, RawUnfinished, named_weight, raw, line_text, WeightIsInRange, IsInRangeFor, with_weight, weights_of, line_of, WeightsAscend}
+use Rattle.refutation_terms.specs.declared.lines.Line.TheVariants.{Split, Unfinished, Closing}
+use Rattle.refutation_terms.specs.declared.lines.Leaf.TheVariants.{Window, Day, Few, Words}
+use Rattle.refutation_terms.specs.declared.lines.WordClaim.TheVariants.{Dead, Light}
+use Rattle.refutation_terms.specs.Ranges.{AreWeightsOf}
+use Rattle.refutation_terms.specs.Log.{LineFits}
+use Rattle.refutation_terms.specs.LogText.{RawLine, RawSplit, RawWindow, RawDay, RawDead, RawBound, RawFew, RawFree, RawUnfinished, named_weight, raw, line_text, WeightIsInRange, IsInRange, with_weight, weights_of, line_of, WeightsAscend}
 use Rattle.rwsp_text.proofs.Numerals.{mapped}
 use Rattle.rwsp_text.specs.Fields.{NamedWeight}
-use Rattle.refutation_terms.specs.Verdict.{Spells}
 use Rattle.refutation_terms.specs.TextLaws.{HasNames, SpelledLinesFit, FittingLinesAreSpelled}
+use Rattle.refutation_terms.proofs.LineTables.{some_cells}
 
 pub symbol_of-name : (P : Instance) (name : List ℕ) (x : Symbol) → symbol_of P name ≡ Some x → IsSymbol P x × (name_of P x ≡ name)
 symbol_of-name P name x h = let f = symbol_found P name x h in (f.0, sym f.1)
@@ -56,48 +59,45 @@ weights_fit P y ys h up e =
 
 -- the line that a written line is
 abbrev FitsAs : Instance → Option ℕ → RawLine → Line → Type 0
-FitsAs P goal written line = LineFitsFor P goal line × (written ≡ raw P line)
+FitsAs P goal written line = LineFits P goal line × (written ≡ raw P goal line)
 
-fits_as : (P : Instance) (goal : Option ℕ) (written : RawLine) (line : Line) → IsInRangeFor P goal written → IfSome (line_of P written) WeightsAscend → line_of P written ≡ Some line → FitsAs P goal written line
+fits_as : (P : Instance) (goal : Option ℕ) (written : RawLine) (line : Line) → IsInRange P goal written → IfSome (line_of P written) WeightsAscend → line_of P written ≡ Some line → FitsAs P goal written line
 fits_as P goal (RawSplit p name) line h a e =
     let m = mapped (λ x. Split p x) (symbol_of P name) line e in
     let named = symbol_of-name P name m.0 m.1 in
     subst (FitsAs P goal (RawSplit p name)) m.2 ((h.0, named.0), ap (RawSplit p) (sym named.1))
 fits_as P goal (RawWindow rule p len) line h a e =
-    let same : Window rule p len ≡ line = cc in
+    let same : Closing (Window rule p len) ≡ line = cc in
     subst (FitsAs P goal (RawWindow rule p len)) same (h, refl)
 fits_as P goal (RawDay day name over) line h a e =
-    let m = mapped (λ x. Day day x over) (symbol_of P name) line e in
+    let m = mapped (λ x. Closing (Day day x over)) (symbol_of P name) line e in
     let named = symbol_of-name P name m.0 m.1 in
     subst (FitsAs P goal (RawDay day name over)) m.2 ((h.0, named.0), ap (λ n. RawDay day n over) (sym named.1))
 fits_as P goal (RawDead p len R) line h a e =
-    let same : Dead p len R ≡ line = cc in
+    let same : Closing (Words p R (Dead len)) ≡ line = cc in
     subst (FitsAs P goal (RawDead p len R)) same (h, refl)
 fits_as P goal RawUnfinished line h a e =
     let same : Unfinished ≡ line = cc in
     subst (FitsAs P goal RawUnfinished) same (tt, refl)
 fits_as P None (RawBound p turns R y) line h a e =
-    let m = mapped (λ ys. Bound p turns R ys) (weights_of P y) line e in
-    let read = weights_fit P y m.0 h.3 (subst (λ o. IfSome (option_map (λ ys. Bound p turns R ys) o) WeightsAscend) m.1 a) m.1 in
-    subst (FitsAs P None (RawBound p turns R y)) m.2 ((h.0, h.1, h.2, read.0), ap (RawBound p turns R) read.1)
+    let m = mapped (λ ys. Closing (Words p R (Light turns 0 ys))) (weights_of P y) line e in
+    let read = weights_fit P y m.0 h.3 (subst (λ o. IfSome (option_map (λ ys. Closing (Words p R (Light turns 0 ys))) o) WeightsAscend) m.1 a) m.1 in
+    subst (FitsAs P None (RawBound p turns R y)) m.2 ((h.0, h.1, h.2, read.0, refl), ap (RawBound p turns R) read.1)
 fits_as P None RawFew line h a e = absurd h
 fits_as P None (RawFree turns reward R y) line h a e = absurd h
 fits_as P (Some goal) RawFew line h a e =
-    let same : Few ≡ line = cc in
+    let same : Closing Few ≡ line = cc in
     subst (FitsAs P (Some goal) RawFew) same (tt, refl)
 fits_as P (Some goal) (RawFree turns reward R y) line h a e =
-    let m = mapped (λ ys. Free turns reward R ys) (weights_of P y) line e in
-    let read = weights_fit P y m.0 h.3 (subst (λ o. IfSome (option_map (λ ys. Free turns reward R ys) o) WeightsAscend) m.1 a) m.1 in
-    subst (FitsAs P (Some goal) (RawFree turns reward R y)) m.2 ((h.0, h.1, h.2, read.0), ap (RawFree turns reward R) read.1)
+    let m = mapped (λ ys. Closing (Words 0 R (Light turns reward ys))) (weights_of P y) line e in
+    let read = weights_fit P y m.0 h.3 (subst (λ o. IfSome (option_map (λ ys. Closing (Words 0 R (Light turns reward ys))) o) WeightsAscend) m.1 a) m.1 in
+    subst (FitsAs P (Some goal) (RawFree turns reward R y)) m.2 ((some_cells turns (cells P) h.0.0, h.0, h.2, read.0, (refl, h.1)), ap (RawFree turns reward R) read.1)
 fits_as P (Some goal) (RawBound p turns R y) line h a e = absurd h
 
-pub spelled_lines_fit_for : SpelledLinesFit
-spelled_lines_fit_for P goal bytes line spells =
+pub spelled_lines_fit : SpelledLinesFit
+spelled_lines_fit P goal bytes line spells =
     let f = fits_as P goal spells.0 line spells.1.in_range spells.1.ascends spells.2 in
     (f.0, spells.1.spelled ∙ ap (line_text P) f.1)
-
-pub spelled_lines_fit : (P : Instance) (bytes : List ℕ) (line : Line) → Spells P bytes line → LineFits P line × (bytes ≡ line_text P (raw P line))
-spelled_lines_fit P bytes line spells = spelled_lines_fit_for P None bytes line spells
 
 -- weights of the problem are read from their names
 weights_back : (P : Instance) (ys : List Weight) → HasNames P → AllByRecursion IsWeight ys → AllByRecursion (IsOf P) ys → AllByRecursion (WeightIsInRange P) (map (named_weight P) ys) × (weights_of P (map (named_weight P) ys) ≡ Some ys)
@@ -114,27 +114,28 @@ weights_named P ys names h =
     let back = weights_back P ys names (all_to IsWeight ys h.0.small) (all_to (IsOf P) ys h.1) in
     (all_from (WeightIsInRange P) (map (named_weight P) ys) back.0, back.1)
 
-pub spell_for : (P : Instance) (goal : Option ℕ) (line : Line) → HasNames P → LineFitsFor P goal line → IsInRangeFor P goal (raw P line) × (line_of P (raw P line) ≡ Some line) × WeightsAscend line
-spell_for P goal (Split p x) names h = let name = names x h.1 in ((h.0, name.0), ap (option_map (λ z. Split p z)) name.1, tt)
-spell_for P goal (Window rule p len) names h = (h, refl, tt)
-spell_for P goal (Day day x over) names h = let name = names x h.1 in ((h.0, name.0), ap (option_map (λ z. Day day z over)) name.1, tt)
-spell_for P goal (Dead p len R) names h = (h, refl, tt)
-spell_for P goal Unfinished names h = (tt, refl, tt)
-spell_for P None (Bound p turns R y) names h =
-    let back = weights_named P y names h.3 in
-    ((h.0, h.1, h.2, back.0), ap (option_map (λ ys. Bound p turns R ys)) back.1, h.3.0.ascends)
-spell_for P None Few names h = absurd h
-spell_for P None (Free turns reward R y) names h = absurd h
-spell_for P (Some goal) Few names h = (tt, refl, tt)
-spell_for P (Some goal) (Free turns reward R y) names h =
-    let back = weights_named P y names h.3 in
-    ((h.0, h.1, h.2, back.0), ap (option_map (λ ys. Free turns reward R ys)) back.1, h.3.0.ascends)
-spell_for P (Some goal) (Bound p turns R y) names h = absurd h
+pub spelled_raw : (P : Instance) (goal : Option ℕ) (line : Line) → HasNames P → LineFits P goal line → IsInRange P goal (raw P goal line) × (line_of P (raw P goal line) ≡ Some line) × WeightsAscend line
+spelled_raw P goal (Split p x) names h = let name = names x h.1 in ((h.0, name.0), ap (option_map (λ z. Split p z)) name.1, tt)
+spelled_raw P goal (Closing (Window rule p len)) names h = (h, refl, tt)
+spelled_raw P goal (Closing (Day day x over)) names h = let name = names x h.1 in ((h.0, name.0), ap (option_map (λ z. Closing (Day day z over))) name.1, tt)
+spelled_raw P goal (Closing (Words p R (Dead len))) names h = (h, refl, tt)
+spelled_raw P goal Unfinished names h = (tt, refl, tt)
+spelled_raw P None (Closing (Words p R (Light turns reward y))) names h =
+    let back = weights_named P y names h.3 in (
+      (h.0, h.1, h.2, back.0),
+      ap (option_map (λ ys. Closing (Words p R (Light turns 0 ys)))) back.1 ∙ ap (λ r. Some (Closing (Words p R (Light turns r y)))) (sym h.4),
+      h.3.0.ascends,
+    )
+spelled_raw P (Some goal) (Closing (Words p R (Light turns reward y))) names h =
+    let back = weights_named P y names h.3 in (
+      (h.1, h.4.1, h.2, back.0),
+      ap (option_map (λ ys. Closing (Words 0 R (Light turns reward ys)))) back.1 ∙ ap (λ q. Some (Closing (Words q R (Light turns reward y)))) (sym h.4.0),
+      h.3.0.ascends,
+    )
+spelled_raw P None (Closing Few) names h = absurd h
+spelled_raw P (Some goal) (Closing Few) names h = (tt, refl, tt)
 
-pub fitting_lines_are_spelled_for : FittingLinesAreSpelled
-fitting_lines_are_spelled_for P goal line names h =
-    let s = spell_for P goal line names h in
-    (raw P line, record { spelled = refl; in_range = s.0; ascends = subst (λ o. IfSome o WeightsAscend) (sym s.1) s.2 }, s.1)
-
-pub fitting_lines_are_spelled : (P : Instance) (line : Line) → HasNames P → LineFits P line → Spells P (line_text P (raw P line)) line
-fitting_lines_are_spelled P line names h = fitting_lines_are_spelled_for P None line names h
+pub fitting_lines_are_spelled : FittingLinesAreSpelled
+fitting_lines_are_spelled P goal line names h =
+    let s = spelled_raw P goal line names h in
+    (raw P goal line, record { spelled = refl; in_range = s.0; ascends = subst (λ o. IfSome o WeightsAscend) (sym s.1) s.2 }, s.1)

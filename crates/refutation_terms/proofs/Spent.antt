@@ -1,22 +1,21 @@
 -- A log that passes is not spent.
-use Rattle.std.proofs.Common.{◌≡◌, ℕ, ◌≤◌, get_or, Option, Some, None, arith, subst}
+use Rattle.std.proofs.Common.{◌≡◌, ℕ, ◌≤◌, get_or, Option, Some, arith, subst}
 use Rattle.std.specs.Prelude.{slice_get}
 use Rattle.std.proofs.lemmas.Option.{slice_get-get_or}
 use Rattle.refutation_terms.specs.declared.lines.Line.TheVariants.{Unfinished}
 use Rattle.rwsp_terms.specs.Instance.{Instance}
 use Rattle.refutation_terms.specs.Word.{Domains}
 use Rattle.refutation_terms.specs.Tree.{domains_at}
-use Rattle.refutation_terms.specs.Log.{HoldsFor, HoldsAtFor}
+use Rattle.refutation_terms.specs.Log.{Holds, HoldsAt}
 use Rattle.refutation_terms.specs.Laws.{PassingIsNotSpent}
 
-pub open_holds_not : (P : Instance) (goal : Option ℕ) (D : Domains) → HoldsFor P goal D Unfinished → ⊥
-open_holds_not P None D h = h
-open_holds_not P (Some goal) D h = h
+pub open_holds_not : (P : Instance) (goal : Option ℕ) (D : Domains) → Holds P goal D Unfinished → ⊥
+open_holds_not P goal D h = h
 
 pub passing_not_spent : PassingIsNotSpent
-passing_not_spent P goal g budget passes spent =
+passing_not_spent P g budget passes spent =
     let line = get_or g.lines budget Unfinished in
     let is_line : slice_get g.lines budget ≡ Some line = slice_get-get_or g.lines budget Unfinished spent.unfinished in
     let from : budget ≤ budget = omega arith in
     let is_open : line ≡ Unfinished = spent.rest budget line from is_line in
-    open_holds_not P goal (domains_at P g.turn g.lines budget) (subst (HoldsAtFor P goal g budget) is_open (passes.holds budget line is_line))
+    open_holds_not P g.goal (domains_at P g.opening g.lines budget) (subst (HoldsAt P g budget) is_open (passes.holds budget line is_line))

@@ -11,11 +11,12 @@ use Rattle.rwsp_terms.specs.Roster.{IsRoster, IsRule, MeetsDay, MeetsRule}
 use Rattle.rwsp_terms.specs.Rules.{Meets}
 use Rattle.refutation_terms.specs.declared.lines.Line.{Line}
 use Rattle.refutation_terms.specs.declared.lines.Line.TheVariants.{Split}
-use Rattle.refutation_terms.specs.declared.lines.Turn.{Turn}
+use Rattle.refutation_terms.specs.declared.lines.Opening.{Opening}
 use Rattle.refutation_terms.specs.Word.{Domains, AreDomains, Within, turned, Over, Clean, weight, total}
 use Rattle.refutation_terms.specs.FreeWeekends.{is_off_at, free_weekends}
 use Rattle.refutation_terms.specs.Tree.{IsLeaf, IsTree, after_trees, First, Second, side, InFirst, InSecond, narrowed, opening, domains_at, is_idle}
-use Rattle.refutation_terms.specs.Log.{Log, TurnFits, HasWeight, PassesFor, IsSpentFor}
+use Rattle.refutation_terms.specs.Ranges.{HasWeight}
+use Rattle.refutation_terms.specs.Log.{Log, OpeningFits, Passes, IsSpent}
 
 -- one leaf line
 abbrev pub IsOneLeaf : List Line → Type 0
@@ -50,8 +51,8 @@ SplitsLeave earlier p z =
 -- the domains at a line give a position the symbols of its opening domain that the splits leave
 abbrev pub DomainsAreAsSaid : Type 0
 DomainsAreAsSaid =
-    (P : Instance) (turn : Option Turn) (lines : List Line) (k p z : ℕ)
-    → IsTrue (domains_at P turn lines k p z) ↔ (IsTrue (opening P turn p z) × SplitsLeave (take k lines) p z)
+    (P : Instance) (o : Opening) (lines : List Line) (k p z : ℕ)
+    → IsTrue (domains_at P o lines k p z) ↔ (IsTrue (opening P o p z) × SplitsLeave (take k lines) p z)
 
 -- a split isn't idle where its symbol is in the domain and another symbol is too
 abbrev pub IdleIsAsSaid : Type 0
@@ -66,17 +67,17 @@ OverIsAsSaid =
     → Over P D p u ↔ EachIndex u (λ i. IsTrue (D ((p + i) % cells P) (slice_index_or u i off_symbol).number))
 
 -- no split before line k is idle
-abbrev pub HasNoIdleSplit : Instance → Option Turn → List Line → ℕ → Type 0
-HasNoIdleSplit P turn lines k =
+abbrev pub HasNoIdleSplit : Instance → Opening → List Line → ℕ → Type 0
+HasNoIdleSplit P o lines k =
     (i p : ℕ) (x : Symbol) → i < k → slice_get lines i ≡ Some (Split p x)
-    → is_idle P (domains_at P turn lines i) p x.number ≡ false
+    → is_idle P (domains_at P o lines i) p x.number ≡ false
 
 -- no domain at a line is empty where no earlier split is idle
 abbrev pub DomainsAreNeverEmpty : Type 0
 DomainsAreNeverEmpty =
-    (P : Instance) (turn : Option Turn) (lines : List Line) (k : ℕ)
-    → TurnFits P turn → IsTree lines → k < length lines → HasNoIdleSplit P turn lines k
-    → AreDomains P (domains_at P turn lines k)
+    (P : Instance) (o : Opening) (lines : List Line) (k : ℕ)
+    → OpeningFits P o → IsTree lines → k < length lines → HasNoIdleSplit P o lines k
+    → AreDomains P (domains_at P o lines k)
 
 -- within the domains, every window of a roster is a word over them, from every position and for every length
 abbrev pub WindowsAreOver : Type 0
@@ -163,8 +164,7 @@ HasGoal (Some goal) s = goal ≤ free_weekends s
 -- free weekends as the goal exclude each other
 abbrev pub PassingLeavesNoRoster : Type 0
 PassingLeavesNoRoster =
-    (P : Instance) (goal : Option ℕ) (g : Log) (s : List Symbol)
-    → PassesFor P goal g → Meets P g.named s → HasGoal goal s → ⊥
+    (P : Instance) (g : Log) (s : List Symbol) → Passes P g → Meets P g.named s → HasGoal g.goal s → ⊥
 
 -- a roster of weeks of seven days has as many free weekends as weeks with both days of the weekend off
 abbrev pub FreeWeekendsAreWeeks : Type 0
@@ -180,5 +180,4 @@ TurnsHaveFreeWeekends =
 
 -- a log that passes is not spent, whatever the budget
 abbrev pub PassingIsNotSpent : Type 0
-PassingIsNotSpent =
-    (P : Instance) (goal : Option ℕ) (g : Log) (budget : ℕ) → PassesFor P goal g → IsSpentFor P goal g budget → ⊥
+PassingIsNotSpent = (P : Instance) (g : Log) (budget : ℕ) → Passes P g → IsSpent P g budget → ⊥

@@ -1,10 +1,12 @@
 -- The kinds of lines of a log's text, as tables.
-use Rattle.std.specs.Prelude.{ℕ, ◌+◌, ◌/◌, List, [], ◌∷◌, length, Bool, Option, Some, None, codes}
+use Rattle.std.specs.Prelude.{ℕ, ◌+◌, ◌/◌, List, [], ◌∷◌, length, Bool, true, false, Option, Some, None, codes}
 use Rattle.rwsp_text.specs.Fields.{Word, Number, Name, Choice, Place, Rules, Weights}
 use Rattle.rwsp_text.specs.Kinds.{Kind}
 use Rattle.rwsp_terms.specs.declared.limits.TheConstants.{GREATEST_WEIGHT, GREATEST_REWARD, LONGEST_WORD}
 use Rattle.rwsp_terms.specs.Instance.{Instance, cells}
 use Rattle.rwsp_terms.specs.Rules.{rules}
+use Rattle.refutation_terms.specs.declared.lines.Version.{Version}
+use Rattle.refutation_terms.specs.declared.lines.Version.TheVariants.{Version1, Version2, Free1}
 use Rattle.refutation_terms.specs.LogText.{RawLine, RawSplit, RawWindow, RawDay, RawDead, RawBound, RawFew, RawFree, RawUnfinished}
 
 -- the most turns that a bound may speak of
@@ -69,12 +71,22 @@ own_kinds P None = bound_kind P ∷ open_kind ∷ []
 own_kinds P (Some goal) = few_kind ∷ free_kind P ∷ open_kind ∷ []
 
 -- the lines of the tree of a log with this goal or none
-abbrev pub kinds_for : Instance → Option ℕ → List (Kind RawLine)
-kinds_for P goal = split_kind P ∷ window_kind P ∷ day_kind P ∷ dead_kind P ∷ own_kinds P goal
+abbrev pub line_kinds : Instance → Option ℕ → List (Kind RawLine)
+line_kinds P goal = split_kind P ∷ window_kind P ∷ day_kind P ∷ dead_kind P ∷ own_kinds P goal
 
--- line 1, the version: whether there is a turn
-abbrev pub version_kind : Kind Bool
-version_kind = record { word = codes "rwsp-log"; fields = Choice (codes "2") (codes "1") ∷ []; make = λ v. v.0 }
+-- line 1, the version: of a log, which may have a turn, or of a free log
+abbrev pub log_version : Bool → Version
+log_version true = Version2
+log_version false = Version1
+
+abbrev pub version_kind : Kind Version
+version_kind = record { word = codes "rwsp-log"; fields = Choice (codes "2") (codes "1") ∷ []; make = λ v. log_version v.0 }
+
+abbrev pub free_version_kind : Kind Version
+free_version_kind = record { word = codes "rwsp-free"; fields = Word (codes "1") ∷ []; make = λ v. Free1 }
+
+abbrev pub version_kinds : List (Kind Version)
+version_kinds = version_kind ∷ free_version_kind ∷ []
 
 -- line 2, the rules
 abbrev pub rules_kind : Instance → Kind (List ℕ)
@@ -84,22 +96,12 @@ rules_kind P = record { word = codes "rules"; fields = Rules (length (rules P)) 
 abbrev pub turn_kind : Instance → Kind (List ℕ × ℕ)
 turn_kind P = record { word = codes "turn"; fields = Name ∷ Number 1 P.days ∷ []; make = λ v. (v.0, v.1.0) }
 
--- line 1 of a free log, of which there is one version
-abbrev pub free_version_kind : Kind (Unit {0})
-free_version_kind = record { word = codes "rwsp-free"; fields = Word (codes "1") ∷ []; make = λ v. tt }
-
 -- line 3 of a free log: its goal
 abbrev pub goal_kind : Instance → Kind ℕ
 goal_kind P = record { word = codes "goal"; fields = Number 0 (P.weeks + 1) ∷ []; make = λ v. v.0 }
 
-abbrev pub free_version_kinds : List (Kind (Unit {0}))
-free_version_kinds = free_version_kind ∷ []
-
 abbrev pub goal_kinds : Instance → List (Kind ℕ)
 goal_kinds P = goal_kind P ∷ []
-
-abbrev pub version_kinds : List (Kind Bool)
-version_kinds = version_kind ∷ []
 
 abbrev pub rules_kinds : Instance → List (Kind (List ℕ))
 rules_kinds P = rules_kind P ∷ []

@@ -1,5 +1,5 @@
 -- The text of a log, and which line a text spells.
-use Rattle.std.specs.Prelude.{◌≡◌, ℕ, ◌+◌, ◌*◌, ◌/◌, ◌%◌, ◌<◌, ◌≤◌, List, [], ◌∷◌, ◌++◌, length, map, All, AllPairs, Bool, true, false, Option, Some, None, IfSome, codes}
+use Rattle.std.specs.Prelude.{◌≡◌, ℕ, ◌+◌, ◌*◌, ◌/◌, ◌%◌, ◌<◌, ◌≤◌, List, [], ◌∷◌, ◌++◌, length, map, All, AllPairs, Bool, Option, Some, None, IfSome, codes}
 use Rattle.std.specs.List.{concat, flat_map}
 use Rattle.std.specs.Fmt.{decimal}
 use Rattle.std.specs.Option.{option_map}
@@ -11,9 +11,15 @@ use Rattle.rwsp_terms.specs.Instance.{Instance, cells, IsDay, symbol_of, name_of
 use Rattle.rwsp_terms.specs.Rules.{rules}
 use Rattle.rwsp_terms.specs.Weights.{ComesBefore}
 use Rattle.refutation_terms.specs.declared.lines.Line.{Line}
-use Rattle.refutation_terms.specs.declared.lines.Line.TheVariants.{Split, Window, Day, Dead, Bound, Few, Free, Unfinished}
-use Rattle.refutation_terms.specs.declared.lines.Turn.{Turn}
-use Rattle.refutation_terms.specs.Log.{Log, IsLength, AreRules}
+use Rattle.refutation_terms.specs.declared.lines.Line.TheVariants.{Split, Unfinished, Closing}
+use Rattle.refutation_terms.specs.declared.lines.Leaf.TheVariants.{Window, Day, Few, Words}
+use Rattle.refutation_terms.specs.declared.lines.WordClaim.TheVariants.{Dead, Light}
+use Rattle.refutation_terms.specs.declared.lines.Opening.{Opening}
+use Rattle.refutation_terms.specs.declared.lines.Opening.TheVariants.{Full, Turned}
+use Rattle.refutation_terms.specs.declared.lines.Version.{Version}
+use Rattle.refutation_terms.specs.declared.lines.Version.TheVariants.{Version1, Version2, Free1}
+use Rattle.refutation_terms.specs.Ranges.{IsLength, AreRules}
+use Rattle.refutation_terms.specs.Log.{Log}
 
 -- a line as it is written: with the names of symbols, as their bytes
 pub data RawLine : Type 0 where
@@ -30,16 +36,20 @@ pub data RawLine : Type 0 where
 abbrev pub named_weight : Instance → Weight → NamedWeight
 named_weight P e = record { day = e.day; name = name_of P e.symbol; value = e.value }
 
--- a line with the names of its symbols
-abbrev pub raw : Instance → Line → RawLine
-raw P (Split p x) = RawSplit p (name_of P x)
-raw P (Window rule p len) = RawWindow rule p len
-raw P (Day j x over) = RawDay j (name_of P x) over
-raw P (Dead p len R) = RawDead p len R
-raw P (Bound p turns R y) = RawBound p turns R (map (named_weight P) y)
-raw P Few = RawFew
-raw P (Free turns reward R y) = RawFree turns reward R (map (named_weight P) y)
-raw P Unfinished = RawUnfinished
+-- what is claimed of words is written in a row of its own for logs without a goal and with one
+abbrev pub raw_light : Instance → Option ℕ → ℕ → ℕ → ℕ → List ℕ → List Weight → RawLine
+raw_light P None p turns reward R y = RawBound p turns R (map (named_weight P) y)
+raw_light P (Some goal) p turns reward R y = RawFree turns reward R (map (named_weight P) y)
+
+-- a line of a log with this goal or none, with the names of its symbols
+abbrev pub raw : Instance → Option ℕ → Line → RawLine
+raw P goal (Split p x) = RawSplit p (name_of P x)
+raw P goal (Closing (Window rule p len)) = RawWindow rule p len
+raw P goal (Closing (Day j x over)) = RawDay j (name_of P x) over
+raw P goal (Closing (Words p R (Dead len))) = RawDead p len R
+raw P goal (Closing (Words p R (Light turns reward y))) = raw_light P goal p turns reward R y
+raw P goal (Closing Few) = RawFew
+raw P goal Unfinished = RawUnfinished
 
 -- the week and the day of a position, both from 1 on
 abbrev pub place_words : Instance → ℕ → List (List ℕ)
@@ -68,10 +78,11 @@ raw_fields P RawUnfinished = codes "open" ∷ []
 abbrev pub line_text : Instance → RawLine → List ℕ
 line_text P line = text_of (raw_fields P line)
 
--- line 1, the version: 2 where the log has a turn
-abbrev pub version_text : Bool → List ℕ
-version_text false = text_of (codes "rwsp-log" ∷ codes "1" ∷ [])
-version_text true = text_of (codes "rwsp-log" ∷ codes "2" ∷ [])
+-- line 1, the version
+abbrev pub version_text : Version → List ℕ
+version_text Version1 = text_of (codes "rwsp-log" ∷ codes "1" ∷ [])
+version_text Version2 = text_of (codes "rwsp-log" ∷ codes "2" ∷ [])
+version_text Free1 = text_of (codes "rwsp-free" ∷ codes "1" ∷ [])
 
 -- line 2, the named rules
 abbrev pub rules_text : List ℕ → List ℕ
@@ -81,35 +92,23 @@ rules_text R = text_of (codes "rules" ∷ numbers R)
 abbrev pub turn_text : List ℕ → ℕ → List ℕ
 turn_text name day = text_of (codes "turn" ∷ name ∷ decimal day ∷ [])
 
--- line 1 of a free log
-abbrev pub free_version_text : List ℕ
-free_version_text = text_of (codes "rwsp-free" ∷ codes "1" ∷ [])
-
--- and line 3, its goal
+-- in a free log line 3, the goal
 abbrev pub goal_text : ℕ → List ℕ
 goal_text goal = text_of (codes "goal" ∷ decimal goal ∷ [])
 
--- the header of a free log
-abbrev pub free_header_text : List ℕ → ℕ → List ℕ
-free_header_text named goal = free_version_text ++ rules_text named ++ goal_text goal
+-- the header of a log with this opening and this goal or none
+abbrev pub header_text : Instance → List ℕ → Opening → Option ℕ → List ℕ
+header_text P named Full None = version_text Version1 ++ rules_text named
+header_text P named (Turned t) None = version_text Version2 ++ rules_text named ++ turn_text (name_of P t.x) t.day
+header_text P named o (Some goal) = version_text Free1 ++ rules_text named ++ goal_text goal
 
--- that of a log without a goal
-abbrev pub header_text : Instance → List ℕ → Option Turn → List ℕ
-header_text P named None = version_text false ++ rules_text named
-header_text P named (Some t) = version_text true ++ rules_text named ++ turn_text (name_of P t.x) t.day
+-- the text of some lines of a log with this goal or none
+abbrev pub lines_text : Instance → Option ℕ → List Line → List ℕ
+lines_text P goal lines = concat (map (λ line. line_text P (raw P goal line)) lines)
 
--- the text of a log without a goal: its header and then its lines
+-- the text of a log: its header and then its lines
 abbrev pub log_text : Instance → Log → List ℕ
-log_text P g = header_text P g.named g.turn ++ concat (map (λ line. line_text P (raw P line)) g.lines)
-
--- the text of a free log with this goal
-abbrev pub free_log_text : Instance → ℕ → Log → List ℕ
-free_log_text P goal g = free_header_text g.named goal ++ concat (map (λ line. line_text P (raw P line)) g.lines)
-
--- by the goal
-abbrev pub log_text_for : Instance → Option ℕ → Log → List ℕ
-log_text_for P None g = log_text P g
-log_text_for P (Some goal) g = free_log_text P goal g
+log_text P g = header_text P g.named g.opening g.goal ++ lines_text P g.goal g.lines
 
 -- a value that isn't 0, from the least weight to the greatest, on a day of the problem
 abbrev pub WeightIsInRange : Instance → NamedWeight → Type 0
@@ -117,18 +116,18 @@ WeightIsInRange P e = IsNamedWeight P.days GREATEST_WEIGHT e
 
 -- the numbers of a written line of a log with this goal or none are in their ranges, its lists of rules ascend, and its
 -- names are names. Only a log without a goal has bounds, and only one with a goal has the last two kinds
-abbrev pub IsInRangeFor : Instance → Option ℕ → RawLine → Type 0
-IsInRangeFor P goal (RawSplit p name) = (p < cells P) × IsName name
-IsInRangeFor P goal (RawWindow rule p len) = (0 < rule) × (rule ≤ length (rules P)) × (p < cells P) × IsLength len
-IsInRangeFor P goal (RawDay day name over) = IsDay P day × IsName name
-IsInRangeFor P goal (RawDead p len R) = (p < cells P) × IsLength len × AreRules P R
-IsInRangeFor P goal RawUnfinished = Unit {0}
-IsInRangeFor P None (RawBound p turns R y) =
+abbrev pub IsInRange : Instance → Option ℕ → RawLine → Type 0
+IsInRange P goal (RawSplit p name) = (p < cells P) × IsName name
+IsInRange P goal (RawWindow rule p len) = (0 < rule) × (rule ≤ length (rules P)) × (p < cells P) × IsLength len
+IsInRange P goal (RawDay day name over) = IsDay P day × IsName name
+IsInRange P goal (RawDead p len R) = (p < cells P) × IsLength len × AreRules P R
+IsInRange P goal RawUnfinished = Unit {0}
+IsInRange P None (RawBound p turns R y) =
     (p < cells P) × IsLength (turns * cells P) × AreRules P R × All (WeightIsInRange P) y
-IsInRangeFor P (Some goal) RawFew = Unit {0}
-IsInRangeFor P (Some goal) (RawFree turns reward R y) =
+IsInRange P (Some goal) RawFew = Unit {0}
+IsInRange P (Some goal) (RawFree turns reward R y) =
     IsLength (turns * cells P) × (reward ≤ GREATEST_REWARD) × AreRules P R × All (WeightIsInRange P) y
-IsInRangeFor P goal line = ⊥
+IsInRange P goal line = ⊥
 
 -- a weight with a symbol for its name, before further weights
 abbrev pub with_weight : NamedWeight → Option Symbol → Option (List Weight) → Option (List Weight)
@@ -143,27 +142,22 @@ weights_of P (e ∷ y) = with_weight e (symbol_of P e.name) (weights_of P y)
 -- the line with symbols for its names
 abbrev pub line_of : Instance → RawLine → Option Line
 line_of P (RawSplit p name) = option_map (λ x. Split p x) (symbol_of P name)
-line_of P (RawWindow rule p len) = Some (Window rule p len)
-line_of P (RawDay day name over) = option_map (λ x. Day day x over) (symbol_of P name)
-line_of P (RawDead p len R) = Some (Dead p len R)
-line_of P (RawBound p turns R y) = option_map (λ y. Bound p turns R y) (weights_of P y)
-line_of P RawFew = Some Few
-line_of P (RawFree turns reward R y) = option_map (λ y. Free turns reward R y) (weights_of P y)
+line_of P (RawWindow rule p len) = Some (Closing (Window rule p len))
+line_of P (RawDay day name over) = option_map (λ x. Closing (Day day x over)) (symbol_of P name)
+line_of P (RawDead p len R) = Some (Closing (Words p R (Dead len)))
+line_of P (RawBound p turns R y) = option_map (λ y. Closing (Words p R (Light turns 0 y))) (weights_of P y)
+line_of P RawFew = Some (Closing Few)
+line_of P (RawFree turns reward R y) = option_map (λ y. Closing (Words 0 R (Light turns reward y))) (weights_of P y)
 line_of P RawUnfinished = Some Unfinished
 
 -- weights ascend by day and then by symbol
 abbrev pub WeightsAscend : Line → Type 0
-WeightsAscend (Bound p turns R y) = AllPairs ComesBefore y
-WeightsAscend (Free turns reward R y) = AllPairs ComesBefore y
+WeightsAscend (Closing (Words p R (Light turns reward y))) = AllPairs ComesBefore y
 WeightsAscend line = Unit {0}
 
 -- the bytes are a written line of a log with this goal or none, with its numbers in their ranges; where all its names
 -- are known, its weights ascend
-pub record IsWrittenFor (P : Instance) (goal : Option ℕ) (bytes : List ℕ) (line : RawLine) : Type 0 where
+pub record IsWritten (P : Instance) (goal : Option ℕ) (bytes : List ℕ) (line : RawLine) : Type 0 where
   pub spelled : bytes ≡ line_text P line
-  pub in_range : IsInRangeFor P goal line
+  pub in_range : IsInRange P goal line
   pub ascends : IfSome (line_of P line) WeightsAscend
-
--- of a log without a goal
-abbrev pub IsWritten : Instance → List ℕ → RawLine → Type 0
-IsWritten P bytes line = IsWrittenFor P None bytes line

@@ -1,5 +1,5 @@
 -- When a log is sharp: it splits only where no leaf is at hand, and splits on what is forced where something is.
-use Rattle.std.specs.Prelude.{◌≡◌, ◌⊎◌, ℕ, zero, suc, ◌*◌, ◌<◌, ◌≤◌, List, [], ◌∷◌, ◌++◌, length, slice_get, map, Bool, false, Option, Some, None, ℤ, pos, negsuc, ◌+ℤ◌, ◌-ℤ◌, ◌≤ℤ◌, int_lt, if◌then◌else◌}
+use Rattle.std.specs.Prelude.{◌≡◌, ◌⊎◌, ℕ, zero, suc, ◌*◌, ◌<◌, ◌≤◌, List, [], ◌∷◌, ◌++◌, length, slice_get, map, Bool, false, Some, None, ℤ, pos, negsuc, ◌+ℤ◌, ◌-ℤ◌, ◌≤ℤ◌, int_lt, if◌then◌else◌}
 use Rattle.std.specs.List.{range_with_len, flat_map}
 use Rattle.rwsp_terms.specs.declared.data.Symbol.{Symbol}
 use Rattle.rwsp_terms.specs.declared.data.Weight.{Weight}
@@ -9,22 +9,25 @@ use Rattle.rwsp_terms.specs.Roster.{weeks_with}
 use Rattle.rwsp_terms.specs.Rules.{NamesShortRules}
 use Rattle.rwsp_terms.specs.Weights.{weight_at}
 use Rattle.refutation_terms.specs.declared.lines.Line.{Line}
-use Rattle.refutation_terms.specs.declared.lines.Line.TheVariants.{Split, Window, Day, Unfinished}
-use Rattle.refutation_terms.specs.declared.lines.Turn.{Turn}
+use Rattle.refutation_terms.specs.declared.lines.Line.TheVariants.{Split, Closing, Unfinished}
+use Rattle.refutation_terms.specs.declared.lines.Leaf.TheVariants.{Window, Day}
+use Rattle.refutation_terms.specs.declared.lines.Opening.{Opening}
+use Rattle.refutation_terms.specs.declared.lines.Opening.TheVariants.{Full, Turned}
 use Rattle.refutation_terms.specs.Word.{Domains, Over, Clean}
-use Rattle.refutation_terms.specs.Leaf.{IsDead, IsTooLight}
+use Rattle.refutation_terms.specs.Ranges.{AreWeightsOf}
+use Rattle.refutation_terms.specs.WordsLeaf.{IsDead, IsTooLight}
 use Rattle.refutation_terms.specs.Tree.{First, narrowed, opening, domains_at, is_idle}
-use Rattle.refutation_terms.specs.Log.{Log, Holds, LineFits, AreWeightsOf}
+use Rattle.refutation_terms.specs.Log.{Log, Holds, LineFits}
 use Rattle.refutation_terms.specs.Escape.{IsLeastHeaviest}
 
 -- some window leaf of the problem holds
 abbrev pub SomeWindowHolds : Instance → Domains → Type 0
 SomeWindowHolds P D =
-    (number : ℕ) × (p : ℕ) × (len : ℕ) × LineFits P (Window number p len) × Holds P D (Window number p len)
+    (number : ℕ) × (p : ℕ) × (len : ℕ) × LineFits P None (Closing (Window number p len)) × Holds P None D (Closing (Window number p len))
 
 -- some day leaf of the problem holds
 abbrev pub SomeDayHolds : Instance → Domains → Type 0
-SomeDayHolds P D = (j : ℕ) × (x : Symbol) × (over : Bool) × LineFits P (Day j x over) × Holds P D (Day j x over)
+SomeDayHolds P D = (j : ℕ) × (x : Symbol) × (over : Bool) × LineFits P None (Closing (Day j x over)) × Holds P None D (Closing (Day j x over))
 
 -- no word of two turns that is clean for the list has the symbol at the position
 abbrev pub NoWordHas : Instance → Domains → List ℕ → ℕ → Symbol → Type 0
@@ -78,7 +81,7 @@ IsSearched P D R (suc k) y = (before : List Weight) × IsSearched P D R k before
 
 -- the bound of one turn from position 0 on holds
 abbrev pub HoldsAtTop : Instance → Domains → List ℕ → List Weight → Type 0
-HoldsAtTop P D R y = IsTooLight P D 0 1 R y
+HoldsAtTop P D R y = IsTooLight P None D 0 1 0 R y
 
 -- no plain bound holds, nor that of searched weights
 pub record NoBoundHolds (P : Instance) (D : Domains) (R : List ℕ) : Type 0 where
@@ -96,9 +99,9 @@ abbrev pub IsDemanded : Instance → ℕ → Symbol → Type 0
 IsDemanded P j x = IsDay P j × IsShift P x × (pos 1 ≤ℤ least P x.number j)
 
 -- no shift is demanded, or the turn is to the first that is, on the first day on which one is
-abbrev pub IsFirstTurn : Instance → Option Turn → Type 0
-IsFirstTurn P None = (j : ℕ) (x : Symbol) → IsDemanded P j x → ⊥
-IsFirstTurn P (Some t) =
+abbrev pub IsFirstTurn : Instance → Opening → Type 0
+IsFirstTurn P Full = (j : ℕ) (x : Symbol) → IsDemanded P j x → ⊥
+IsFirstTurn P (Turned t) =
     IsDemanded P t.day t.x
     × ((j : ℕ) (x : Symbol) → IsDemanded P j x → (t.day < j) ⊎ ((t.day ≡ j) × (t.x.number ≤ x.number)))
 
@@ -115,6 +118,6 @@ pub record IsSharp (P : Instance) (g : Log) : Type 0 where
   pub short : List ℕ
   pub all_short : NamesShortRules P short
   pub splits : (k p : ℕ) (x : Symbol) → slice_get g.lines k ≡ Some (Split p x)
-      → IsSharpSplit P (domains_at P g.turn g.lines k) short p x
-  pub top : (line : Line) → slice_get g.lines 0 ≡ Some line → IsUnclosed line → NoBoundHolds P (opening P g.turn) short
-  pub turn : IsFirstTurn P g.turn
+      → IsSharpSplit P (domains_at P g.opening g.lines k) short p x
+  pub top : (line : Line) → slice_get g.lines 0 ≡ Some line → IsUnclosed line → NoBoundHolds P (opening P g.opening) short
+  pub turn : IsFirstTurn P g.opening

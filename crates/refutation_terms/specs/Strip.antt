@@ -6,7 +6,10 @@ use Rattle.rwsp_terms.specs.declared.data.Rule.TheVariants as TheRules
 use Rattle.rwsp_terms.specs.Instance.{Instance}
 use Rattle.rwsp_terms.specs.Rules.{rule_of}
 use Rattle.refutation_terms.specs.declared.lines.Line.{Line}
-use Rattle.refutation_terms.specs.declared.lines.Line.TheVariants.{Dead, Bound}
+use Rattle.refutation_terms.specs.declared.lines.Line.TheVariants.{Closing}
+use Rattle.refutation_terms.specs.declared.lines.Leaf.TheVariants.{Words}
+use Rattle.refutation_terms.specs.declared.lines.WordClaim.{WordClaim}
+use Rattle.refutation_terms.specs.declared.lines.WordClaim.TheVariants.{Dead, Light}
 use Rattle.refutation_terms.specs.Log.{Log, Passes}
 
 -- the list without the number
@@ -18,17 +21,21 @@ abbrev pub without_day : Option Rule → List Weight → List Weight
 without_day (Some (TheRules.Day j)) y = filter (λ e. not (e.day == j)) y
 without_day rule y = y
 
--- a line of a log without a goal, without the rule in its lists. A window or a day leaf that cites it stays
+-- a claim without what rests on the rule besides the list
+abbrev pub strip_claim : Instance → ℕ → WordClaim → WordClaim
+strip_claim P number (Dead len) = Dead len
+strip_claim P number (Light turns reward y) = Light turns reward (without_day (rule_of P number) y)
+
+-- a line without the rule in its list. A window or a day leaf that cites it stays
 abbrev pub strip_line : Instance → ℕ → Line → Line
-strip_line P number (Dead p len R) = Dead p len (without_rule number R)
-strip_line P number (Bound p turns R y) = Bound p turns (without_rule number R) (without_day (rule_of P number) y)
+strip_line P number (Closing (Words p R claim)) = Closing (Words p (without_rule number R) (strip_claim P number claim))
 strip_line P number line = line
 
--- the log without the rule of this number. Its turn stays
+-- the log without the rule of this number. Its turn and its goal stay
 abbrev pub strip : Instance → ℕ → Log → Log
 strip P number g = record {
   named = without_rule number g.named;
-  turn = g.turn;
+  opening = g.opening;
   goal = g.goal;
   lines = map (strip_line P number) g.lines;
 }

@@ -4,13 +4,13 @@ use Rattle.std.specs.Prelude.{◌≡◌, ℕ, ◌<◌, ◌^◌, List, length, Op
 use Rattle.rwsp_terms.specs.declared.data.Symbol.{Symbol}
 use Rattle.rwsp_terms.specs.Instance.{Instance, IsSymbol, symbol_of, name_of}
 use Rattle.rwsp_terms.specs.Rules.{rules}
+use Rattle.refutation_terms.specs.declared.lines.LogKind.{LogKind}
 use Rattle.refutation_terms.specs.declared.lines.Line.{Line}
 use Rattle.refutation_terms.specs.declared.lines.LogRefusal.{LogRefusal}
-use Rattle.refutation_terms.specs.Log.{Log, FitsFor, LineFitsFor}
-use Rattle.refutation_terms.specs.LogText.{raw, line_text, log_text_for}
+use Rattle.refutation_terms.specs.Log.{Log, Fits, LineFits}
+use Rattle.refutation_terms.specs.LogText.{raw, line_text, log_text}
 use Rattle.rwsp_text.specs.Fields.{IsName}
-use Rattle.refutation_terms.specs.Verdict.{SpellsFor, IsVerdict}
-use Rattle.refutation_terms.specs.FreeVerdict.{IsFreeVerdict}
+use Rattle.refutation_terms.specs.Verdict.{Spells, IsVerdict}
 
 -- each symbol has a name of its own
 abbrev pub HasNames : Instance → Type 0
@@ -23,29 +23,22 @@ IsWritable P = (P.days < 2 ^ 32) × (P.weeks < 2 ^ 32) × (length (rules P) < 2 
 -- bytes that spell a line of a log with a goal or none are its text, and the line fits the problem
 abbrev pub SpelledLinesFit : Type 0
 SpelledLinesFit =
-    (P : Instance) (goal : Option ℕ) (bytes : List ℕ) (line : Line) → SpellsFor P goal bytes line
-    → LineFitsFor P goal line × (bytes ≡ line_text P (raw P line))
+    (P : Instance) (goal : Option ℕ) (bytes : List ℕ) (line : Line) → Spells P goal bytes line
+    → LineFits P goal line × (bytes ≡ line_text P (raw P goal line))
 
 -- the text of a line that fits the problem spells it
 abbrev pub FittingLinesAreSpelled : Type 0
 FittingLinesAreSpelled =
-    (P : Instance) (goal : Option ℕ) (line : Line) → HasNames P → LineFitsFor P goal line
-    → SpellsFor P goal (line_text P (raw P line)) line
+    (P : Instance) (goal : Option ℕ) (line : Line) → HasNames P → LineFits P goal line
+    → Spells P goal (line_text P (raw P goal line)) line
 
--- no two logs that fit a problem, with goals or without, have one text
+-- no two logs that fit a problem have one text
 abbrev pub TextsAreDistinct : Type 0
 TextsAreDistinct =
-    (P : Instance) (goal other : Option ℕ) (g h : Log) → IsWritable P → HasNames P
-    → FitsFor P goal g → FitsFor P other h → log_text_for P goal g ≡ log_text_for P other h → g ≡ h
+    (P : Instance) (g h : Log) → IsWritable P → HasNames P → Fits P g → Fits P h → log_text P g ≡ log_text P h → g ≡ h
 
--- a text has one verdict at most
+-- as a log of a kind a text has one verdict at most
 abbrev pub VerdictIsUnique : Type 0
 VerdictIsUnique =
-    (P : Instance) (text : List ℕ) (verdict other : Result Log LogRefusal) → IsWritable P → HasNames P
-    → IsVerdict P text verdict → IsVerdict P text other → verdict ≡ other
-
--- and so a text of a free log
-abbrev pub FreeVerdictIsUnique : Type 0
-FreeVerdictIsUnique =
-    (P : Instance) (text : List ℕ) (verdict other : Result Log LogRefusal) → IsWritable P → HasNames P
-    → IsFreeVerdict P text verdict → IsFreeVerdict P text other → verdict ≡ other
+    (P : Instance) (kind : LogKind) (text : List ℕ) (verdict other : Result Log LogRefusal)
+    → IsWritable P → HasNames P → IsVerdict P kind text verdict → IsVerdict P kind text other → verdict ≡ other

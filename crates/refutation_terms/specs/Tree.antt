@@ -4,9 +4,10 @@ use Rattle.rwsp_terms.specs.declared.data.Symbol.{Symbol}
 use Rattle.rwsp_terms.specs.Instance.{Instance}
 use Rattle.refutation_terms.specs.declared.lines.Line.{Line}
 use Rattle.refutation_terms.specs.declared.lines.Line.TheVariants.{Split}
-use Rattle.refutation_terms.specs.declared.lines.Turn.{Turn}
+use Rattle.refutation_terms.specs.declared.lines.Opening.{Opening}
+use Rattle.refutation_terms.specs.declared.lines.Opening.TheVariants.{Full, Turned}
 use Rattle.refutation_terms.specs.Word.{Domains, full}
-use Rattle.refutation_terms.specs.Leaf.{is_only}
+use Rattle.refutation_terms.specs.DayLeaf.{is_only}
 
 -- every line but a split
 abbrev pub IsLeaf : Line → Type 0
@@ -80,18 +81,18 @@ abbrev pub lines_leave : List Line → Domains
 lines_leave [] p z = true
 lines_leave (line ∷ later) p z = line_leaves line (side later) p z && lines_leave later p z
 
--- with a turn to x on day j, position j - 1 has x alone
-abbrev pub turn_leaves : Option Turn → Domains
-turn_leaves None p z = true
-turn_leaves (Some t) p z = not ((t.day - 1) == p) || (z == t.x.number)
+-- what is known before the first line leaves of the domains: with a turn to x on day j, position j - 1 has x alone
+abbrev pub opening_leaves : Opening → Domains
+opening_leaves Full p z = true
+opening_leaves (Turned t) p z = not ((t.day - 1) == p) || (z == t.x.number)
 
 -- the domains at the first line
-abbrev pub opening : Instance → Option Turn → Domains
-opening P turn p z = full P p z && turn_leaves turn p z
+abbrev pub opening : Instance → Opening → Domains
+opening P o p z = full P p z && opening_leaves o p z
 
 -- the domains at line k, counted from 0
-abbrev pub domains_at : Instance → Option Turn → List Line → ℕ → Domains
-domains_at P turn lines k p z = opening P turn p z && lines_leave (take k lines) p z
+abbrev pub domains_at : Instance → Opening → List Line → ℕ → Domains
+domains_at P o lines k p z = opening P o p z && lines_leave (take k lines) p z
 
 -- a split is idle where its symbol isn't in the domain, or is alone there
 abbrev pub is_idle : Instance → Domains → ℕ → ℕ → Bool

@@ -1,6 +1,6 @@
 // Laws of the definitions. Each function's contract is the law, and specs/Laws.antt states it.
 ghost use Rattle.refutation_terms.specs.Laws.{TreesAreAsSaid, WalksReadTrees, SidesAreAsSaid, DomainsAreAsSaid, IdleIsAsSaid, OverIsAsSaid, DomainsAreNeverEmpty, WindowsAreOver, SidesTakeAll, SidesShareNone, WindowsAreClean, PartsAreClean, FewerRulesAreClean, WindowsWeighEnough, WindowsWeighExactly, TurningKeepsRules, TurningKeepsLists, SomeTurnHasIt, FreeWeekendsAreWeeks, TurnsHaveFreeWeekends, PassingLeavesNoRoster, PassingIsNotSpent};
-ghost use Rattle.refutation_terms.specs.TextLaws.{SpelledLinesFit, FittingLinesAreSpelled, TextsAreDistinct, VerdictIsUnique, FreeVerdictIsUnique};
+ghost use Rattle.refutation_terms.specs.TextLaws.{SpelledLinesFit, FittingLinesAreSpelled, TextsAreDistinct, VerdictIsUnique};
 
 /// A log that passes, with a turn or a goal or without, and a roster that meets the rules that it names and has as many
 /// free weekends as the goal exclude each other.
@@ -96,8 +96,7 @@ pub fn texts_are_distinct()
     ensures { TextsAreDistinct }
 {}
 
-/// A text has one verdict at most as a log without a goal, and one as a free log.
+/// A text has one verdict at most as a log of a kind.
 pub fn the_verdict_is_unique()
-    ensures plain { VerdictIsUnique }
-    ensures free { FreeVerdictIsUnique }
+    ensures { VerdictIsUnique }
 {}

@@ -5,4 +5,4 @@ pub mod examples;
 pub mod laws;
 mod lines;
 
-pub use lines::{Line, LogRefusal, Turn};
+pub use lines::{Leaf, Line, LogKind, LogRefusal, Opening, Turn, Version, WordClaim};

@@ -2,14 +2,20 @@
 // from 1.
 use rwsp_terms::{RuleList, Symbol, Weights, Word};
 
-/// A line of a log: a split of the cases in two, or a leaf that closes a case.
+/// A line of a log: a split of the cases in two, a leaf that closes a case, or a case that wasn't worked out.
 #[derive(Drop)]
 pub enum Line {
     /// First the rosters that hold `x` at position `p`, then those that don't.
-    Split {
-        p: u32,
-        x: Symbol,
-    },
+    Split { p: u32, x: Symbol },
+    /// A leaf: no roster is left in its case.
+    Closing(Leaf),
+    /// A case that wasn't worked out, written `open`.
+    Unfinished,
+}
+
+/// Why no roster is left in a case.
+#[derive(Drop)]
+pub enum Leaf {
     /// Every word of `len` days from position `p` is bad for the rule.
     Window {
         rule: u32,
@@ -22,32 +28,31 @@ pub enum Line {
         x: Symbol,
         over: bool,
     },
-    /// No word of `len` days from position `p` is clean for the rules.
-    Dead {
+    /// What is claimed of the words from position `p` on that are clean for the rules.
+    Words {
         p: u32,
-        len: u32,
         rules: RuleList,
-    },
-    /// Every clean word of `turns` rounds through all weeks, from position `p` on, weighs less than the demand asks
-    /// for.
-    Bound {
-        p: u32,
-        turns: u32,
-        rules: RuleList,
-        weights: Weights,
+        claim: WordClaim,
     },
     /// Fewer weeks than the log's goal can have both days 6 and 7 off.
     Few,
-    /// Every clean word of `turns` rounds through all weeks, from the first day on, weighs less than the demand and
-    /// the log's goal ask for, where each free weekend weighs `reward`.
-    Free {
+}
+
+/// What a leaf claims of the clean words from a position on.
+#[derive(Drop)]
+pub enum WordClaim {
+    /// There is none of `len` days. Written `dead`.
+    Dead {
+        len: u32,
+    },
+    /// Each word of `turns` rounds through all weeks weighs less than the demand asks for. Written `bound` in a log
+    /// without a goal, where the reward is 0; and `free` in one with a goal, where the words begin on the first day,
+    /// each free weekend weighs `reward`, and the goal asks for so many.
+    Light {
         turns: u32,
         reward: u32,
-        rules: RuleList,
         weights: Weights,
     },
-    /// A case that wasn't worked out, written `open`.
-    Unfinished,
 }
 
 /// The assumption that week 1 holds `x` on the day.
@@ -55,6 +60,33 @@ pub enum Line {
 pub struct Turn {
     pub day: u32,
     pub x: Symbol,
+}
+
+/// What is known of the cells before the first line of a log.
+#[derive(Clone, Copy, Debug, PartialEq, Eq)]
+pub enum Opening {
+    /// Each cell may hold each symbol.
+    Full,
+    /// Week 1 holds the symbol of the turn on its day.
+    Turned(Turn),
+}
+
+/// What a text is read as: a log without a goal, or a free log.
+#[derive(Clone, Copy, Debug, PartialEq, Eq)]
+pub enum LogKind {
+    WithoutGoal,
+    WithGoal,
+}
+
+/// The form of a log's text, by its first line.
+#[derive(Clone, Copy, Debug, PartialEq, Eq)]
+pub enum Version {
+    /// `rwsp-log 1`, a log without a turn.
+    Version1,
+    /// `rwsp-log 2`, a log with a turn on line 3.
+    Version2,
+    /// `rwsp-free 1`, a free log with its goal on line 3.
+    Free1,
 }
 
 /// Why a log is refused. The first number is the line of the text, from 1 on; the second is the rule.
@@ -72,7 +104,7 @@ pub enum LogRefusal {
     Long(u32, u32),
     /// A window or a day leaf, or one of few free weekends, doesn't hold.
     Fails(u32),
-    /// A dead, a bound or a free leaf doesn't hold, as the word shows.
+    /// A leaf of words doesn't hold, as the word shows.
     Escape(u32, Word),
     /// The case wasn't worked out.
     Unfinished(u32),
@@ -87,8 +119,9 @@ pub enum LogRefusal {
 // Lines of a log and causes of a refusal may be sent to other threads and shared with them.
 fn shared<T: Send + Sync>(_: &T) {}
 
-fn lines_are_shared(line: &Line, turn: &Turn, why: &LogRefusal) {
+fn lines_are_shared(line: &Line, leaf: &Leaf, opening: &Opening, why: &LogRefusal) {
     shared(line);
-    shared(turn);
+    shared(leaf);
+    shared(opening);
     shared(why);
 }

@@ -1,5 +1,5 @@
 -- A split that is as the reasons of cases say is one of a sharp log.
-use Rattle.std.proofs.Common.{ℕ, ◌*◌, ◌<◌, ◌≤◌, List, refl, ap, sym, ◌∙◌, arith, inl, inr, ◌&&◌}
+use Rattle.std.proofs.Common.{ℕ, ◌*◌, ◌<◌, ◌≤◌, List, refl, ap, sym, ◌∙◌, arith, inl, inr, ◌&&◌, None}
 use Rattle.std.specs.Prelude.{◌⊎◌}
 use Rattle.rwsp_terms.specs.declared.limits.TheConstants.{MOST_CELLS}
 use Rattle.rwsp_terms.specs.declared.data.Symbol.{Symbol}
@@ -8,9 +8,11 @@ use Rattle.rwsp_terms.specs.Rules.{NamesShortRules}
 use Rattle.rwsp_model.specs.Validity.{KeepsLimits}
 use Rattle.rwsp_model.proofs.Limits.{some_cells}
 use Rattle.refutation_terms.specs.declared.lines.Line.{Line}
-use Rattle.refutation_terms.specs.declared.lines.Line.TheVariants.{Split, Window, Day, Dead}
+use Rattle.refutation_terms.specs.declared.lines.Line.TheVariants.{Split, Closing}
+use Rattle.refutation_terms.specs.declared.lines.Leaf.TheVariants.{Window, Day, Words}
+use Rattle.refutation_terms.specs.declared.lines.WordClaim.TheVariants.{Dead}
 use Rattle.refutation_terms.specs.Word.{Domains, AreSame, Clean}
-use Rattle.refutation_terms.specs.Leaf.{IsDead}
+use Rattle.refutation_terms.specs.WordsLeaf.{IsDead}
 use Rattle.refutation_terms.specs.Tree.{First, narrowed, line_leaves}
 use Rattle.refutation_terms.specs.Log.{LineFits}
 use Rattle.refutation_terms.specs.Sharp.{SomeWindowHolds, SomeDayHolds, NoWordHas, IsSpentAt, IsSharpSplit}
@@ -31,27 +33,27 @@ Spent = Store → ℕ → Symbol → Type 0
 
 no_window : (P : Instance) (leaves : Leaves) (spent : Spent) (S : Store) (D : Domains) → 0 < cells P → AreCaseReasons P leaves spent → AreSame P D (has_domain S) → (Closes P (leaves S) S → ⊥) → SomeWindowHolds P D → ⊥
 no_window P leaves spent S D some reasons same undecided h =
-    let line = Window h.0 h.1 h.2 in
-    undecided (line, reasons.plain.windows S h.0 h.1 h.2 h.3, same_holds P D (has_domain S) line some h.3 same h.4)
+    let line = Closing (Window h.0 h.1 h.2) in
+    undecided (line, reasons.plain.windows S h.0 h.1 h.2 h.3, same_holds P None D (has_domain S) line some tt h.3 same h.4)
 
 no_day : (P : Instance) (leaves : Leaves) (spent : Spent) (S : Store) (D : Domains) → 0 < cells P → AreCaseReasons P leaves spent → AreSame P D (has_domain S) → (Closes P (leaves S) S → ⊥) → SomeDayHolds P D → ⊥
 no_day P leaves spent S D some reasons same undecided h =
-    let line = Day h.0 h.1 h.2 in
-    undecided (line, reasons.plain.days S h.0 h.1 h.2 h.3, same_holds P D (has_domain S) line some h.3 same h.4)
+    let line = Closing (Day h.0 h.1 h.2) in
+    undecided (line, reasons.plain.days S h.0 h.1 h.2 h.3, same_holds P None D (has_domain S) line some tt h.3 same h.4)
 
 not_dead : (P : Instance) (leaves : Leaves) (spent : Spent) (S : Store) (D : Domains) (R : List ℕ) → KeepsLimits P → AreShortRules P R → AreCaseReasons P leaves spent → AreSame P D (has_domain S) → (Closes P (leaves S) S → ⊥) → IsDead P D 0 (2 * cells P) R → ⊥
 not_dead P leaves spent S D R limits short reasons same undecided dead =
     let some : 0 < cells P = some_cells P limits in
     let few : cells P ≤ MOST_CELLS = limits.few_cells in
-    let line = Dead 0 (2 * cells P) R in
-    let fits : LineFits P line = (some, (omega (arith, some), omega (arith, few)), short.are_rules) in
-    undecided (line, reasons.cycle S line (refl, refl, short), same_holds P D (has_domain S) line some fits same dead)
+    let line = Closing (Words 0 R (Dead (2 * cells P))) in
+    let fits : LineFits P None line = (some, (omega (arith, some), omega (arith, few)), short.are_rules) in
+    undecided (line, reasons.cycle S line (refl, refl, short), same_holds P None D (has_domain S) line some tt fits same dead)
 
 -- what a day leaf takes away rests on the domains of the positions alone
 same_day_spent : (P : Instance) (D E : Domains) (p : ℕ) (x : Symbol) → 0 < cells P → AreSame P D E → SomeDayHolds P (narrowed D (Split p x) First) → SomeDayHolds P (narrowed E (Split p x) First)
 same_day_spent P D E p x some same day =
     let cut : AreSame P (narrowed D (Split p x) First) (narrowed E (Split p x) First) = λ q z inside. ap (λ b. b && line_leaves (Split p x) First q z) (same q z inside) in
-    (day.0, day.1, day.2, day.3, same_holds P (narrowed D (Split p x) First) (narrowed E (Split p x) First) (Day day.0 day.1 day.2) some day.3 cut day.4)
+    (day.0, day.1, day.2, day.3, same_holds P None (narrowed D (Split p x) First) (narrowed E (Split p x) First) (Closing (Day day.0 day.1 day.2)) some tt day.3 cut day.4)
 
 -- which list of all short rules is taken makes no difference
 pub clean_by_other_list : (P : Instance) (R S : List ℕ) (u : List Symbol) → NamesShortRules P R → NamesShortRules P S → Clean P S u → Clean P R u

@@ -1,9 +1,9 @@
 -- The reasons by which the search of a plan closes cases.
-use Rattle.std.specs.Prelude.{ℕ, Option}
+use Rattle.std.specs.Prelude.{ℕ}
 use Rattle.rwsp_terms.specs.declared.data.Symbol.{Symbol}
 use Rattle.rwsp_terms.specs.Instance.{Instance}
 use Rattle.refutation_terms.specs.declared.lines.Line.{Line}
-use Rattle.refutation_terms.specs.declared.lines.Turn.{Turn}
+use Rattle.refutation_terms.specs.declared.lines.Opening.{Opening}
 use Rattle.refutation_terms.specs.Word.{AreSame}
 use Rattle.refutation_terms.specs.Tree.{opening}
 use Rattle.domain_store.specs.Store.{Store, has_domain}
@@ -11,8 +11,8 @@ use Rattle.propagators.specs.TopBounds.{IsTopBound}
 use Rattle.roster_planner.specs.CaseReasons.{AreCaseReasons}
 
 -- the reasons of cases, and under the opening domains the bounds of one turn
-pub record AreReasons (P : Instance) (turn : Option Turn) (leaves : Store → Line → Type 0)
+pub record AreReasons (P : Instance) (start : Opening) (leaves : Store → Line → Type 0)
     (spent : Store → ℕ → Symbol → Type 0) : Type 0 where
   pub cases : AreCaseReasons P leaves spent
-  pub top : (S : Store) (line : Line) → AreSame P (has_domain S) (opening P turn) → IsTopBound P (opening P turn) line
+  pub top : (S : Store) (line : Line) → AreSame P (has_domain S) (opening P start) → IsTopBound P (opening P start) line
       → leaves S line

@@ -1,14 +1,15 @@
 // What a planner gives its search from outside.
-ghost use Rattle.std.specs.Prelude.{◌≡◌, None, IfOk};
+ghost use Rattle.std.specs.Prelude.{◌≡◌, IfOk};
 ghost use Rattle.std.specs.Option.{IfSome};
+ghost use Rattle.refutation_terms.specs.declared.lines.Opening.TheVariants.{Full};
 ghost use Rattle.refutation_terms.specs.Log.{GoalFits};
 ghost use Rattle.domain_store.specs.Cycles.{AreShortRules};
-ghost use Rattle.roster_search.specs.Guides.{IsRosterFor};
+ghost use Rattle.roster_search.specs.Guides.{IsWantedRoster};
 
 use clean_words::Automaton;
 use domain_store::Domains;
 use nearest_weights::NearestWeights;
-use refutation_terms::{Line, Turn};
+use refutation_terms::{Line, Opening};
 use roster_finder::{Patience, RosterFinder};
 use roster_search::{Aim, Guide, NextSplit, chronological};
 use rwsp_model::Roster;
@@ -43,7 +44,7 @@ impl<'a> PlannerGuide<'a> {
     ) -> PlannerGuide<'a>
         requires short { AreShortRules automaton.now.problem automaton.now.rules }
         requires same { finder.now ≡ automaton.now.problem }
-        requires goal { GoalFits automaton.now.problem None aim.goal }
+        requires goal { GoalFits automaton.now.problem Full aim.goal }
         ensures { ⟦<PlannerGuide<'a> as Guide>⟧.serves result automaton.now.problem aim.goal }
     {
         PlannerGuide {
@@ -53,14 +54,14 @@ impl<'a> PlannerGuide<'a> {
             goal: aim.goal,
             wish,
             has_begun: false,
-            first: position_of(aim.turn),
+            first: position_of(aim.opening),
         }
     }
 }
 
 impl<'a> Guide for PlannerGuide<'a> {
     ghost serves = { λ g P goal. (g.automaton.now.problem ≡ P) × (g.finder.now ≡ P) × (g.weights.problem ≡ P)
-        × (goal ≡ g.goal) × GoalFits P None goal };
+        × (goal ≡ g.goal) × GoalFits P Full goal };
 
     fn leaf(&mut self, alloc: Global, doms: &Domains) -> Result<Option<Line>, AllocError> {
         let is_within = mem::replace(&mut self.has_begun, true);
@@ -87,8 +88,8 @@ fn found_roster(
     goal: Option<u32>,
     wish: u32,
 ) -> Result<Option<Roster>, AllocError>
-    requires { GoalFits finder.now None goal }
-    ensures { IfOk result (λ found. IfSome found (IsRosterFor finder.now goal)) }
+    requires { GoalFits finder.now Full goal }
+    ensures { IfOk result (λ found. IfSome found (IsWantedRoster finder.now goal)) }
 {
     let Some(least) = goal else {
         return finder.find(alloc, 0, Patience::Long);
@@ -103,9 +104,9 @@ fn found_roster(
 }
 
 // The position of the turn, 0 where there is none.
-fn position_of(turn: Option<Turn>) -> u32 {
-    match turn {
-        Some(turn) => turn.day.saturating_sub(1),
-        None => 0,
+fn position_of(opening: Opening) -> u32 {
+    match opening {
+        Opening::Turned(turn) => turn.day.saturating_sub(1),
+        Opening::Full => 0,
     }
 }

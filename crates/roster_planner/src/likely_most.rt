@@ -4,7 +4,7 @@ ghost use Rattle.rwsp_terms.specs.declared.limits.TheConstants.{DAYS_OF_WEEK};
 ghost use Rattle.refutation_terms.specs.declared.lines.Line.{Line};
 ghost use Rattle.domain_store.specs.Store.{BelongsTo, has_domain};
 ghost use Rattle.domain_store.specs.Cycles.{AreShortRules};
-ghost use Rattle.domain_store.specs.Leaves.{IsHoldingLeafFor};
+ghost use Rattle.domain_store.specs.Leaves.{IsHoldingLeaf};
 
 use clean_words::Automaton;
 use domain_store::Domains;
@@ -63,7 +63,7 @@ fn has_leaf(
     requires goal { goal ≤ weights.old.problem.weeks + 1 }
     ensures same { weights.new ≡ weights.old }
     ensures leaf { IfOk result (λ has. IsTrue has → (line : Line)
-        × IsHoldingLeafFor weights.old.problem (Some goal) (has_domain doms.now) line) }
+        × IsHoldingLeaf weights.old.problem (Some goal) (has_domain doms.now) line) }
 {
     let leaf = weights.leaf_at_top(alloc, doms, Some(goal))?;
     let has = leaf.is_some();

@@ -12,7 +12,7 @@ use crate::top_leaf::proof_at_top;
 use crate::{CaseReasons, case_reasons, planner_search};
 use clean_words::Automaton;
 use domain_store::{Domains, Propagator};
-use refutation_log::Found;
+use refutation_log::{Found, Opening};
 use roster_checker::free_weekends;
 use roster_finder::RosterFinder;
 use roster_search::Aim;
@@ -128,7 +128,7 @@ fn split_cases(
     automaton.problem().prove_limits();
     let mut reasons = full_reasons(alloc, automaton)?;
     let aim = Aim {
-        turn: None,
+        opening: Opening::Full,
         goal: Some(goal),
         budget,
     };

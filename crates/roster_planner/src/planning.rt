@@ -74,10 +74,10 @@ fn plan_cases<R: Threads + Sync, G: Gate>(
 {
     let problem = automaton.problem();
     problem.prove_limits();
-    let turn = first_turn(problem);
-    let mut reasons = reasons_of(rt, alloc, automaton, turn, gate)?;
+    let opening = first_turn(problem);
+    let mut reasons = reasons_of(rt, alloc, automaton, opening, gate)?;
     let aim = Aim {
-        turn,
+        opening,
         goal: None,
         budget,
     };

@@ -1,6 +1,6 @@
 // The reasons by which the search of a plan closes cases.
 ghost use Rattle.std.specs.Prelude.{◌≡◌, IfOk, Ok};
-ghost use Rattle.refutation_terms.specs.Log.{TurnFits};
+ghost use Rattle.refutation_terms.specs.Log.{OpeningFits};
 ghost use Rattle.domain_store.specs.Cycles.{AreShortRules};
 ghost use Rattle.roster_planner.specs.Reasons.{AreReasons};
 
@@ -9,7 +9,7 @@ use clean_words::Automaton;
 use domain_store::{Pair, Propagator, Walk};
 use potential_bounds::Gate;
 use propagators::RootBounds;
-use refutation_terms::Turn;
+use refutation_terms::Opening;
 use std::alloc::{AllocError, Global};
 use std::thread::Threads;
 
@@ -19,23 +19,23 @@ const WORKERS: u32 = rwsp_terms::limits::USUAL_WORKERS;
 /// The reasons of cases, and bounds at the top.
 pub type Reasons<'a> = Pair<CaseReasons<'a>, RootBounds<'a>>;
 
-/// The reasons of a plan of the automaton's problem, whose search begins with the turn. The workers pass the gate.
+/// The reasons of a plan of the automaton's problem, whose search begins with the opening. The workers pass the gate.
 pub fn reasons_of<'a, R: Threads + Sync, G: Gate>(
     rt: &R,
     alloc: Global,
     automaton: &'a Automaton,
-    turn: Option<Turn>,
+    opening: Opening,
     gate: &G,
 ) -> Result<Reasons<'a>, AllocError>
     requires short { AreShortRules automaton.now.problem automaton.now.rules }
-    requires turn { TurnFits automaton.now.problem turn }
+    requires opening { OpeningFits automaton.now.problem opening }
     ensures serves { IfOk result (λ r. ⟦<Reasons<'a> as Propagator>⟧.serves r automaton.now.problem) }
-    ensures reasons { IfOk result (λ r. AreReasons automaton.now.problem turn
+    ensures reasons { IfOk result (λ r. AreReasons automaton.now.problem opening
         (⟦<Reasons<'a> as Propagator>⟧.leaves r) (⟦<Reasons<'a> as Propagator>⟧.spent r)) }
 {
     let problem = automaton.problem();
     problem.prove_limits();
-    let walk = Walk::new(alloc, problem, turn)?;
+    let walk = Walk::new(alloc, problem, opening)?;
     let doms = walk.domains();
     let bounds = RootBounds::new(rt, alloc, automaton, doms, WORKERS, gate);
     let cases = case_reasons(alloc, automaton, doms);

@@ -9,7 +9,7 @@ use clean_words::Automaton;
 use domain_store::Domains;
 use potential_bounds::{Claim, claim_escape};
 use refutation_log::Log;
-use refutation_terms::Line;
+use refutation_terms::{Leaf, Line, Opening, WordClaim};
 use rwsp_terms::Weights;
 use std::alloc::{AllocError, Global};
 
@@ -71,12 +71,15 @@ fn log_of_top(alloc: Global, automaton: &Automaton, goal: u32) -> Result<Log, Al
     let rules = automaton.rules().copy()?;
     let weights = Weights::new(alloc);
     let lines = vec![in alloc;
-        Line::Free {
-            turns: 1,
-            reward: 1,
+        Line::Closing(Leaf::Words {
+            p: 0,
             rules,
-            weights
-        },
+            claim: WordClaim::Light {
+                turns: 1,
+                reward: 1,
+                weights
+            }
+        }),
     ]?;
-    Ok(Log::with_goal(named, goal, lines))
+    Ok(Log::new(named, Opening::Full, Some(goal), lines))
 }

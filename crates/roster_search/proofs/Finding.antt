@@ -6,7 +6,7 @@ use Rattle.refutation_log.specs.declared.found.Found.{Found}
 use Rattle.refutation_log.specs.declared.found.Found.TheVariants.{Roster, NoRoster, Undecided}
 use Rattle.roster_search.specs.declared.aim.Aim.{Aim}
 use Rattle.roster_search.specs.declared.progress.Progress.{Progress}
-use Rattle.roster_search.specs.Founds.{IsForced, AreForced, FewHoldsAtNoSplit, IsFoundFor, HasSpentBudget}
+use Rattle.roster_search.specs.Founds.{IsForced, AreForced, FewHoldsAtNoSplit, IsFound, HasSpentBudget}
 use Rattle.roster_search.specs.Written.{IsProgress, IsUnderWay, IsEnded}
 use Rattle.roster_search.proofs.Volume.{spent_budgets_small}
 use Rattle.roster_search.proofs.Forced.{Leaves, Spent, NotFew, none_said, rest_said}
@@ -15,28 +15,28 @@ use Rattle.roster_search.proofs.Forced.{Leaves, Spent, NotFew, none_said, rest_s
 pub begins_under_way : (P : Instance) (leaves : Leaves) (spent : Spent) (s : Progress) → IsProgress P s → s.lines.items ≡ [] → IsUnderWay P leaves spent s
 begins_under_way P leaves spent s written none = record {
   written = written;
-  forced = none_said (IsForced P leaves spent) P s.aim.turn s.lines.items none;
-  no_few = none_said (NotFew P s.aim.goal) P s.aim.turn s.lines.items none;
+  forced = none_said (IsForced P leaves spent) P s.aim.opening s.lines.items none;
+  no_few = none_said (NotFew P s.aim.goal) P s.aim.opening s.lines.items none;
   few = omega (arith, ap length none);
 }
 
-pub found_by : (P : Instance) (leaves : Leaves) (spent : Spent) (s : Progress) (found : Found) → IsUnderWay P leaves spent s → IsEnded P s.aim s.lines.items found → IsFoundFor P s.aim.turn s.aim.goal s.aim.budget leaves spent found
+pub found_by : (P : Instance) (leaves : Leaves) (spent : Spent) (s : Progress) (found : Found) → IsUnderWay P leaves spent s → IsEnded P s.aim s.lines.items found → IsFound P s.aim.opening s.aim.goal s.aim.budget leaves spent found
 found_by P leaves spent s (Roster r) u e = absurd e
 found_by P leaves spent s (NoRoster g) u e = (
   e.0,
   e.1,
   record {
-    of_turn = e.2;
-    splits = subst (AreForced P leaves spent s.aim.turn) (sym e.3) u.forced;
-    no_few = subst (FewHoldsAtNoSplit P s.aim.goal s.aim.turn) (sym e.3) u.no_few;
+    is_log = e.2;
+    splits = subst (AreForced P leaves spent s.aim.opening) (sym e.3) u.forced;
+    no_few = subst (FewHoldsAtNoSplit P s.aim.goal s.aim.opening) (sym e.3) u.no_few;
   },
 )
 found_by P leaves spent s (Undecided g) u e = (
   e.0,
   record {
-    of_turn = e.1;
-    splits = subst (AreForced P leaves spent s.aim.turn) (sym e.2.1) (rest_said (IsForced P leaves spent) P s.aim.turn s.lines.items e.2.0 u.forced);
-    no_few = subst (FewHoldsAtNoSplit P s.aim.goal s.aim.turn) (sym e.2.1) (rest_said (NotFew P s.aim.goal) P s.aim.turn s.lines.items e.2.0 u.no_few);
+    is_log = e.1;
+    splits = subst (AreForced P leaves spent s.aim.opening) (sym e.2.1) (rest_said (IsForced P leaves spent) P s.aim.opening s.lines.items e.2.0 u.forced);
+    no_few = subst (FewHoldsAtNoSplit P s.aim.goal s.aim.opening) (sym e.2.1) (rest_said (NotFew P s.aim.goal) P s.aim.opening s.lines.items e.2.0 u.no_few);
   },
 )
 
@@ -44,4 +44,4 @@ found_by P leaves spent s (Undecided g) u e = (
 pub undecided_small : (P : Instance) (aim : Aim) (lines : List Line) (found : Found) → IsEnded P aim lines found → HasSpentBudget found → aim.budget + 1 < 2 * (shift_count P + 1) ^ cells P
 undecided_small P aim lines (Roster r) e u = absurd u
 undecided_small P aim lines (NoRoster g) e u = absurd u
-undecided_small P aim lines (Undecided g) e u = spent_budgets_small P aim.goal g aim.budget e.0
+undecided_small P aim lines (Undecided g) e u = spent_budgets_small P g aim.budget e.0

@@ -7,7 +7,7 @@ use Rattle.rwsp_terms.specs.declared.data.Symbol.{Symbol}
 use Rattle.rwsp_terms.specs.Instance.{Instance}
 use Rattle.refutation_terms.specs.declared.lines.Line.{Line}
 use Rattle.refutation_terms.specs.declared.lines.Line.TheVariants.{Split}
-use Rattle.refutation_terms.specs.declared.lines.Turn.{Turn}
+use Rattle.refutation_terms.specs.declared.lines.Opening.{Opening}
 use Rattle.refutation_terms.specs.Word.{Domains}
 use Rattle.refutation_terms.specs.Tree.{IsLeaf, Leaf, after_trees, side, side_of, line_leaves, lines_leave, opening, domains_at}
 use Rattle.refutation_terms.proofs.Trees.{tree_is_read}
@@ -49,19 +49,19 @@ more_leave more (line ∷ ls) q z h =
     ∙ sym (and_assoc (line_leaves line (side ls) q z) (lines_leave ls q z) (lines_leave more q z))
 
 -- the domains at a line rest on the lines before it alone
-pub domains_before : (P : Instance) (turn : Option Turn) (ls more : List Line) (k : ℕ) → k ≤ length ls → domains_at P turn (ls ++ more) k ≡ domains_at P turn ls k
-domains_before P turn ls more k le = ap (behind (opening P turn)) (take-append-le k ls more le)
+pub domains_before : (P : Instance) (start : Opening) (ls more : List Line) (k : ℕ) → k ≤ length ls → domains_at P start (ls ++ more) k ≡ domains_at P start ls k
+domains_before P start ls more k le = ap (behind (opening P start)) (take-append-le k ls more le)
 
-pub domains_end : (P : Instance) (turn : Option Turn) (ls : List Line) (q z : ℕ) → domains_at P turn ls (length ls) q z ≡ (opening P turn q z && lines_leave ls q z)
-domains_end P turn ls q z = ap (λ (l : List Line). opening P turn q z && lines_leave l q z) (take_all (length ls) ls (omega arith))
+pub domains_end : (P : Instance) (start : Opening) (ls : List Line) (q z : ℕ) → domains_at P start ls (length ls) q z ≡ (opening P start q z && lines_leave ls q z)
+domains_end P start ls q z = ap (λ (l : List Line). opening P start q z && lines_leave l q z) (take_all (length ls) ls (omega arith))
 
 -- behind lines in which no open tree ends, the domains are what those leave of the domains before
-pub domains_behind : (P : Instance) (turn : Option Turn) (ls more : List Line) (q z : ℕ) → EndNone more → domains_at P turn (ls ++ more) (length (ls ++ more)) q z ≡ (domains_at P turn ls (length ls) q z && lines_leave more q z)
-domains_behind P turn ls more q z h =
-    domains_end P turn (ls ++ more) q z
-    ∙ ap (λ b. opening P turn q z && b) (more_leave more ls q z h)
-    ∙ sym (and_assoc (opening P turn q z) (lines_leave ls q z) (lines_leave more q z))
-    ∙ ap (λ b. b && lines_leave more q z) (sym (domains_end P turn ls q z))
+pub domains_behind : (P : Instance) (start : Opening) (ls more : List Line) (q z : ℕ) → EndNone more → domains_at P start (ls ++ more) (length (ls ++ more)) q z ≡ (domains_at P start ls (length ls) q z && lines_leave more q z)
+domains_behind P start ls more q z h =
+    domains_end P start (ls ++ more) q z
+    ∙ ap (λ b. opening P start q z && b) (more_leave more ls q z h)
+    ∙ sym (and_assoc (opening P start q z) (lines_leave ls q z) (lines_leave more q z))
+    ∙ ap (λ b. b && lines_leave more q z) (sym (domains_end P start ls q z))
 
 pub split_ends_none : (p : ℕ) (x : Symbol) → EndNone (Split p x ∷ [])
 split_ends_none p x n = refl
@@ -87,28 +87,28 @@ got_one line other zero e = (refl, cc)
 got_one line other (suc m) e = absurd (cc)
 
 -- a fact of each line, under the domains at it
-abbrev pub EachAt : (Domains → Line → Type 0) → Instance → Option Turn → List Line → Type 0
-EachAt Q P turn ls = (k : ℕ) (line : Line) → slice_get ls k ≡ Some line → Q (domains_at P turn ls k) line
+abbrev pub EachAt : (Domains → Line → Type 0) → Instance → Opening → List Line → Type 0
+EachAt Q P start ls = (k : ℕ) (line : Line) → slice_get ls k ≡ Some line → Q (domains_at P start ls k) line
 
-pub one_more : (Q : Domains → Line → Type 0) (P : Instance) (turn : Option Turn) (ls : List Line) (line : Line) → EachAt Q P turn ls → Q (domains_at P turn ls (length ls)) line → EachAt Q P turn (ls ++ line ∷ [])
-one_more Q P turn ls line each here k other e = elim (got_in ls (line ∷ []) k other e) [
+pub one_more : (Q : Domains → Line → Type 0) (P : Instance) (start : Opening) (ls : List Line) (line : Line) → EachAt Q P start ls → Q (domains_at P start ls (length ls)) line → EachAt Q P start (ls ++ line ∷ [])
+one_more Q P start ls line each here k other e = elim (got_in ls (line ∷ []) k other e) [
   | inl h ↦
       let le : k ≤ length ls = omega (arith, h.0) in
-      subst (λ D. Q D other) (sym (domains_before P turn ls (line ∷ []) k le)) (each k other h.1)
+      subst (λ D. Q D other) (sym (domains_before P start ls (line ∷ []) k le)) (each k other h.1)
   | inr h ↦
       let one = got_one line other h.0 h.2 in
       let at : length ls ≡ k = omega (arith, h.1, one.0) in
-      subst (λ i. Q (domains_at P turn (ls ++ line ∷ []) i) other) at
-      (subst (λ D. Q D other) (sym (domains_before P turn ls (line ∷ []) (length ls) (omega arith)))
-      (subst (Q (domains_at P turn ls (length ls))) (sym one.1) here))
+      subst (λ i. Q (domains_at P start (ls ++ line ∷ []) i) other) at
+      (subst (λ D. Q D other) (sym (domains_before P start ls (line ∷ []) (length ls) (omega arith)))
+      (subst (Q (domains_at P start ls (length ls))) (sym one.1) here))
 ]
 
 -- a fact of splits stays when a split is written, maybe with the leaf of its first side
-pub split_more : (Q : Domains → Line → Type 0) (P : Instance) (turn : Option Turn) (ls added : List Line) (p : ℕ) (x : Symbol) → EachAt Q P turn ls → Q (domains_at P turn ls (length ls)) (Split p x) → ((D : Domains) (leaf : Line) → IsLeaf leaf → Q D leaf) → IsSplitWithLeaf p x added → EachAt Q P turn (ls ++ added)
-split_more Q P turn ls added p x each here leaves (inl e) = subst (λ l. EachAt Q P turn (ls ++ l)) (sym e) (one_more Q P turn ls (Split p x) each here)
-split_more Q P turn ls added p x each here leaves (inr h) =
+pub split_more : (Q : Domains → Line → Type 0) (P : Instance) (start : Opening) (ls added : List Line) (p : ℕ) (x : Symbol) → EachAt Q P start ls → Q (domains_at P start ls (length ls)) (Split p x) → ((D : Domains) (leaf : Line) → IsLeaf leaf → Q D leaf) → IsSplitWithLeaf p x added → EachAt Q P start (ls ++ added)
+split_more Q P start ls added p x each here leaves (inl e) = subst (λ l. EachAt Q P start (ls ++ l)) (sym e) (one_more Q P start ls (Split p x) each here)
+split_more Q P start ls added p x each here leaves (inr h) =
     let leaf : Line = h.0 in
-    let both : EachAt Q P turn ((ls ++ Split p x ∷ []) ++ leaf ∷ []) =
-    one_more Q P turn (ls ++ Split p x ∷ []) leaf (one_more Q P turn ls (Split p x) each here)
-    (leaves (domains_at P turn (ls ++ Split p x ∷ []) (length (ls ++ Split p x ∷ []))) leaf h.1) in
-    subst (EachAt Q P turn) (append_assoc ls (Split p x ∷ []) (leaf ∷ []) ∙ ap (λ l. ls ++ l) (sym h.2)) both
+    let both : EachAt Q P start ((ls ++ Split p x ∷ []) ++ leaf ∷ []) =
+    one_more Q P start (ls ++ Split p x ∷ []) leaf (one_more Q P start ls (Split p x) each here)
+    (leaves (domains_at P start (ls ++ Split p x ∷ []) (length (ls ++ Split p x ∷ []))) leaf h.1) in
+    subst (EachAt Q P start) (append_assoc ls (Split p x ∷ []) (leaf ∷ []) ∙ ap (λ l. ls ++ l) (sym h.2)) both

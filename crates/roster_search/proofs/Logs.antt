@@ -10,19 +10,19 @@ use Rattle.rwsp_terms.specs.Instance.{Instance}
 use Rattle.rwsp_terms.specs.Rules.{rule_of, Names}
 use Rattle.refutation_terms.specs.declared.lines.Line.{Line}
 use Rattle.refutation_terms.specs.declared.lines.Line.TheVariants.{Unfinished}
-use Rattle.refutation_terms.specs.declared.lines.Turn.{Turn}
+use Rattle.refutation_terms.specs.declared.lines.Opening.{Opening}
 use Rattle.refutation_terms.specs.Tree.{IsTree, after_trees}
-use Rattle.refutation_terms.specs.Log.{Log, LineFitsFor, HoldsFor, HoldsAtFor, Cites, ListsShortOnly, IsAllowed, AreRules, IsGroundedFor, PassesFor, IsSpentFor, size, is_worked}
+use Rattle.refutation_terms.specs.Log.{Log, LineFits, Holds, HoldsAt, Cites, ListsShortOnly, IsAllowed, IsGrounded, Passes, IsSpent, size, is_worked}
+use Rattle.refutation_terms.specs.Ranges.{AreRules}
 use Rattle.refutation_terms.proofs.Trees.{whole_is_tree}
 use Rattle.refutation_terms.proofs.TreeDomains.{got_left}
 use Rattle.domain_store.specs.Splits.{second_sides_to_come}
 use Rattle.domain_store.specs.States.{State, open_trees}
 use Rattle.roster_search.specs.declared.progress.Progress.{Progress}
 use Rattle.refutation_log.specs.declared.found.Found.TheVariants.{NoRoster, Undecided}
-use Rattle.roster_search.specs.Founds.{IsLogOfTurn}
+use Rattle.roster_search.specs.Founds.{IsLogOf}
 use Rattle.roster_search.specs.Written.{IsProgress, IsEnded}
 use Rattle.roster_search.proofs.Growing.{got_in, domains_before}
-use Rattle.roster_search.proofs.Reaching.{open_fits}
 use Rattle.rwsp_model.proofs.Numbering.{rule_in_range}
 
 are_rules : (P : Instance) (R : List ℕ) → IsStrictlyIncreasing R → ((k : ℕ) → Contains R k → (r : Rule) × (rule_of P k ≡ Some r)) → AreRules P R
@@ -40,7 +40,7 @@ abbrev pub AreOpen : List Line → Type 0
 AreOpen rest = (m : ℕ) (line : Line) → slice_get rest m ≡ Some line → line ≡ Unfinished
 
 abbrev pub log_of : Progress → List Line → Log
-log_of s rest = record { named = s.named; turn = s.aim.turn; goal = s.aim.goal; lines = s.lines.items ++ rest }
+log_of s rest = record { named = s.named; opening = s.aim.opening; goal = s.aim.goal; lines = s.lines.items ++ rest }
 
 each_in : (Q : Line → Type 0) (ls rest : List Line) → ((k : ℕ) (line : Line) → slice_get ls k ≡ Some line → Q line) → Q Unfinished → AreOpen rest → (k : ℕ) (line : Line) → slice_get (ls ++ rest) k ≡ Some line → Q line
 each_in Q ls rest each here opened k line e = elim (got_in ls rest k line e) [
@@ -48,42 +48,42 @@ each_in Q ls rest each here opened k line e = elim (got_in ls rest k line e) [
   | inr at ↦ subst Q (sym (opened at.0 line at.2)) here
 ]
 
-grounded : (P : Instance) (s : Progress) (rest : List Line) → IsProgress P s → IsAllowed P s.aim.turn → IsStrictlyIncreasing s.named → AreOpen rest → IsGroundedFor P s.aim.goal (log_of s rest)
+grounded : (P : Instance) (s : Progress) (rest : List Line) → IsProgress P s → IsAllowed P s.aim.opening → IsStrictlyIncreasing s.named → AreOpen rest → IsGrounded P (log_of s rest)
 grounded P s rest w allowed up opened = record {
   fits = record {
     named = are_rules P s.named up w.numbers;
-    turn = w.turn_fits;
-    is_goal = refl;
-    goal_fits = w.goal_fits;
-    lines = each_in (LineFitsFor P s.aim.goal) s.lines.items rest (λ k line e. (w.stand k line e).fits) (open_fits P s.aim.goal) opened;
+    opening = w.opening_fits;
+    goal = w.goal_fits;
+    lines = each_in (LineFits P s.aim.goal) s.lines.items rest (λ k line e. (w.stand k line e).fits) tt opened;
   };
-  turn = allowed;
+  allowed = allowed;
   turn_named = λ r h. (w.cited r).1 (inl h);
   named = λ k line r e cites. (each_in (λ l. Cites P l r → Names P s.named r) s.lines.items rest (λ i l got c. (w.cited r).1 (inr (i, l, got, c))) (λ none. absurd none) opened k line e) cites;
   short = each_in (ListsShortOnly P) s.lines.items rest (λ k line e. (w.stand k line e).short) tt opened;
 }
 
-holds_before : (P : Instance) (s : Progress) (rest : List Line) → IsProgress P s → (k : ℕ) (line : Line) → k < length s.lines.items → slice_get (s.lines.items ++ rest) k ≡ Some line → HoldsAtFor P s.aim.goal (log_of s rest) k line
+holds_before : (P : Instance) (s : Progress) (rest : List Line) → IsProgress P s → (k : ℕ) (line : Line) → k < length s.lines.items → slice_get (s.lines.items ++ rest) k ≡ Some line → HoldsAt P (log_of s rest) k line
 holds_before P s rest w k line lt e = elim (got_in s.lines.items rest k line e) [
-  | inl at ↦ subst (λ D. HoldsFor P s.aim.goal D line) (sym (domains_before P s.aim.turn s.lines.items rest k (omega (arith, lt)))) (w.stand k line at.1).holds
+  | inl at ↦ subst (λ D. Holds P s.aim.goal D line) (sym (domains_before P s.aim.opening s.lines.items rest k (omega (arith, lt)))) (w.stand k line at.1).holds
   | inr at ↦ absurd (omega (arith, lt, at.1))
 ]
 
-is_log_of_turn : (P : Instance) (s : Progress) (rest : List Line) → IsProgress P s → IsLogOfTurn P s.aim.turn (log_of s rest)
-is_log_of_turn P s rest w = record {
-  same_turn = refl;
+is_log_of : (P : Instance) (s : Progress) (rest : List Line) → IsProgress P s → IsLogOf P s.aim.opening s.aim.goal (log_of s rest)
+is_log_of P s rest w = record {
+  same_opening = refl;
+  same_goal = refl;
   cited = λ r n. elim ((w.cited r).0 n) [
-    | inl turn ↦ inl turn
+    | inl start ↦ inl start
     | inr at ↦ inr (at.0, at.1, got_left s.lines.items rest at.0 at.1 at.2, at.3)
   ];
 }
 
-same_log : (g h : Log) → g.named ≡ h.named → g.turn ≡ h.turn → g.goal ≡ h.goal → g.lines ≡ h.lines → g ≡ h
+same_log : (g h : Log) → g.named ≡ h.named → g.opening ≡ h.opening → g.goal ≡ h.goal → g.lines ≡ h.lines → g ≡ h
 same_log g h a b d c =
-    ap (λ (R : List ℕ). record { named = R; turn = g.turn; goal = g.goal; lines = g.lines }) a
-    ∙ ap (λ (t : Option Turn). record { named = h.named; turn = t; goal = g.goal; lines = g.lines }) b
-    ∙ ap (λ (o : Option ℕ). record { named = h.named; turn = h.turn; goal = o; lines = g.lines }) d
-    ∙ ap (λ (ls : List Line). record { named = h.named; turn = h.turn; goal = h.goal; lines = ls }) c
+    ap (λ (R : List ℕ). record { named = R; opening = g.opening; goal = g.goal; lines = g.lines }) a
+    ∙ ap (λ (t : Opening). record { named = h.named; opening = t; goal = g.goal; lines = g.lines }) b
+    ∙ ap (λ (o : Option ℕ). record { named = h.named; opening = h.opening; goal = o; lines = g.lines }) d
+    ∙ ap (λ (ls : List Line). record { named = h.named; opening = h.opening; goal = h.goal; lines = ls }) c
 
 abbrev none : List Line
 none = []
@@ -92,20 +92,20 @@ none_open : AreOpen none
 none_open m line e = absurd (cc)
 
 -- a whole tree passes
-pub passing_end : (P : Instance) (s : Progress) (g : Log) → IsProgress P s → IsAllowed P s.aim.turn → IsStrictlyIncreasing s.named → IsTree s.lines.items → length s.lines.items ≤ s.aim.budget → g.named ≡ s.named → g.turn ≡ s.aim.turn → g.goal ≡ s.aim.goal → g.lines ≡ s.lines.items → IsEnded P s.aim s.lines.items (NoRoster g)
+pub passing_end : (P : Instance) (s : Progress) (g : Log) → IsProgress P s → IsAllowed P s.aim.opening → IsStrictlyIncreasing s.named → IsTree s.lines.items → length s.lines.items ≤ s.aim.budget → g.named ≡ s.named → g.opening ≡ s.aim.opening → g.goal ≡ s.aim.goal → g.lines ≡ s.lines.items → IsEnded P s.aim s.lines.items (NoRoster g)
 passing_end P s g w allowed up tree few a b d c =
     let whole : s.lines.items ++ none ≡ s.lines.items = append-nil s.lines.items in
     let is : log_of s none ≡ g = sym (same_log g (log_of s none) a b d (c ∙ sym whole)) in
     let worked : size g ≤ length g.lines = count_by-le-length is_worked g.lines in
     let long : length g.lines ≡ length s.lines.items = ap length c in
-    let passes : PassesFor P s.aim.goal (log_of s none) = record {
+    let passes : Passes P (log_of s none) = record {
       grounded = grounded P s none w allowed up none_open;
       tree = subst IsTree (sym whole) tree;
       holds = λ k line e. holds_before P s none w k line (omega (arith, slice_get_within (s.lines.items ++ none) k line e, ap length whole)) e;
     } in (
-      subst (PassesFor P s.aim.goal) is passes,
+      subst (Passes P) is passes,
       omega (arith, worked, long, few),
-      subst (IsLogOfTurn P s.aim.turn) is (is_log_of_turn P s none w),
+      subst (IsLogOf P s.aim.opening s.aim.goal) is (is_log_of P s none w),
       c,
     )
 
@@ -125,20 +125,20 @@ pub some_open : (w : State) → w.whole ≡ false → 1 ≤ open_trees w
 some_open w part = let e : open_trees w ≡ second_sides_to_come w.splits + 1 = ap (λ b. cond b 0 (second_sides_to_come w.splits + 1)) part in omega arith
 
 -- lines that have used up the budget, with the rest left open
-pub spent_end : (P : Instance) (s : Progress) (n : ℕ) (g : Log) → IsProgress P s → IsAllowed P s.aim.turn → IsStrictlyIncreasing s.named → IsTree (s.lines.items ++ replicate n Unfinished) → length s.lines.items ≤ s.aim.budget → s.aim.budget ≤ length s.lines.items → 1 ≤ n → g.named ≡ s.named → g.turn ≡ s.aim.turn → g.goal ≡ s.aim.goal → g.lines ≡ s.lines.items ++ replicate n Unfinished → IsEnded P s.aim s.lines.items (Undecided g)
+pub spent_end : (P : Instance) (s : Progress) (n : ℕ) (g : Log) → IsProgress P s → IsAllowed P s.aim.opening → IsStrictlyIncreasing s.named → IsTree (s.lines.items ++ replicate n Unfinished) → length s.lines.items ≤ s.aim.budget → s.aim.budget ≤ length s.lines.items → 1 ≤ n → g.named ≡ s.named → g.opening ≡ s.aim.opening → g.goal ≡ s.aim.goal → g.lines ≡ s.lines.items ++ replicate n Unfinished → IsEnded P s.aim s.lines.items (Undecided g)
 spent_end P s n g w allowed up tree few all some a b d c =
     let rest : List Line = replicate n Unfinished in
     let is : log_of s rest ≡ g = sym (same_log g (log_of s rest) a b d c) in
     let long : length (s.lines.items ++ rest) ≡ length s.lines.items + length rest = length-append s.lines.items rest in
     let many : length rest ≡ n = length-replicate n Unfinished in
-    let spent : IsSpentFor P s.aim.goal (log_of s rest) s.aim.budget = record {
+    let spent : IsSpent P (log_of s rest) s.aim.budget = record {
       grounded = grounded P s rest w allowed up (open_rest n);
       tree = tree;
       holds = λ k line lt e. holds_before P s rest w k line (omega (arith, lt, all)) e;
       rest = λ k line le e. elim (got_in s.lines.items rest k line e) [ inl at ↦ absurd (omega (arith, at.0, le, few)) | inr at ↦ open_rest n at.0 line at.2 ];
       unfinished = omega (arith, long, many, few, some);
     } in (
-      subst (λ l. IsSpentFor P s.aim.goal l s.aim.budget) is spent,
-      subst (IsLogOfTurn P s.aim.turn) is (is_log_of_turn P s rest w),
+      subst (λ l. IsSpent P l s.aim.budget) is spent,
+      subst (IsLogOf P s.aim.opening s.aim.goal) is (is_log_of P s rest w),
       (n, c),
     )

@@ -1,5 +1,5 @@
 -- The domains behind a split, maybe with the leaf of its first side.
-use Rattle.std.proofs.Common.{◌≡◌, ◌≢◌, ℕ, zero, suc, ◌<◌, List, [], ◌∷◌, ◌++◌, length, get_or, Option, ap, sym, ◌∙◌, subst, arith, inl, inr, true, false, ◌&&◌, ◌||◌, ◌==◌, not}
+use Rattle.std.proofs.Common.{◌≡◌, ◌≢◌, ℕ, zero, suc, ◌<◌, List, [], ◌∷◌, ◌++◌, length, get_or, ap, sym, ◌∙◌, subst, arith, inl, inr, true, false, ◌&&◌, ◌||◌, ◌==◌, not}
 use Rattle.std.specs.Prelude.{Contains}
 use Rattle.std.specs.List.Sorted.{IsStrictlyIncreasing}
 use Rattle.std.proofs.Math.Bool.{and-true, or-true}
@@ -11,7 +11,7 @@ use Rattle.rwsp_terms.specs.Instance.{Instance, cells}
 use Rattle.rwsp_terms.proofs.SameLists.{same_rule_lists}
 use Rattle.refutation_terms.specs.declared.lines.Line.{Line}
 use Rattle.refutation_terms.specs.declared.lines.Line.TheVariants.{Split}
-use Rattle.refutation_terms.specs.declared.lines.Turn.{Turn}
+use Rattle.refutation_terms.specs.declared.lines.Opening.{Opening}
 use Rattle.refutation_terms.specs.Word.{Domains, AreSame}
 use Rattle.refutation_terms.specs.Tree.{First, narrowed, line_leaves, lines_leave, side, domains_at}
 use Rattle.refutation_terms.proofs.Tests.{left_of}
@@ -63,24 +63,24 @@ ends_none p x added (inl e) = subst EndNone (sym e) (split_ends_none p x)
 ends_none p x added (inr h) = subst EndNone (sym h.2) (leaf_ends_one p x h.0 h.1)
 
 -- a store for the instance that has the domains behind the lines
-pub record HasDomainsBehind (P : Instance) (turn : Option Turn) (ls : List Line) (S : Store) : Type 0 where
+pub record HasDomainsBehind (P : Instance) (start : Opening) (ls : List Line) (S : Store) : Type 0 where
   pub store : IsStore S
   pub belongs : BelongsTo P S
-  pub same : AreSame P (has_domain S) (domains_at P turn ls (length ls))
+  pub same : AreSame P (has_domain S) (domains_at P start ls (length ls))
 
 -- the store behind these lines, by the store before them
-has_behind : (P : Instance) (turn : Option Turn) (ls added : List Line) (v w : Store) (p : ℕ) (x : Symbol) → HasDomainsBehind P turn ls v → HasDomainsBehind P turn (ls ++ added) w → IsSplitWithLeaf p x added → (q z : ℕ) → q < cells P → has_domain w q z ≡ (has_domain v q z && lines_leave added q z)
-has_behind P turn ls added v w p x a b added_is q z lt =
+has_behind : (P : Instance) (start : Opening) (ls added : List Line) (v w : Store) (p : ℕ) (x : Symbol) → HasDomainsBehind P start ls v → HasDomainsBehind P start (ls ++ added) w → IsSplitWithLeaf p x added → (q z : ℕ) → q < cells P → has_domain w q z ≡ (has_domain v q z && lines_leave added q z)
+has_behind P start ls added v w p x a b added_is q z lt =
     b.same q z lt
-    ∙ domains_behind P turn ls added q z (ends_none p x added added_is)
+    ∙ domains_behind P start ls added q z (ends_none p x added added_is)
     ∙ ap (λ h. h && lines_leave added q z) (sym (a.same q z lt))
 
 -- only the domain of the split's position becomes smaller
-pub narrowed_at : (P : Instance) (turn : Option Turn) (ls added : List Line) (v w : Store) (p : ℕ) (x : Symbol) → HasDomainsBehind P turn ls v → HasDomainsBehind P turn (ls ++ added) w → IsSplitWithLeaf p x added → p < cells P → IsNarrowedAt v w p
-narrowed_at P turn ls added v w p x a b added_is inside =
+pub narrowed_at : (P : Instance) (start : Opening) (ls added : List Line) (v w : Store) (p : ℕ) (x : Symbol) → HasDomainsBehind P start ls v → HasDomainsBehind P start (ls ++ added) w → IsSplitWithLeaf p x added → p < cells P → IsNarrowedAt v w p
+narrowed_at P start ls added v w p x a b added_is inside =
     let many_v : length v.sets ≡ cells P = positions_of P v a.store a.belongs in
     let many_w : length w.sets ≡ cells P = positions_of P w b.store b.belongs in
-    let has = has_behind P turn ls added v w p x a b added_is in
+    let has = has_behind P start ls added v w p x a b added_is in
     record {
       shape = record {
         days = b.belongs.days ∙ sym a.belongs.days;
@@ -100,8 +100,8 @@ narrowed_at P turn ls added v w p x a b added_is inside =
     }
 
 -- the domains at the first side of a split
-pub first_side : (P : Instance) (turn : Option Turn) (ls : List Line) (D : Domains) (p : ℕ) (x : Symbol) → AreSame P D (domains_at P turn ls (length ls)) → AreSame P (narrowed D (Split p x) First) (domains_at P turn (ls ++ Split p x ∷ []) (length (ls ++ Split p x ∷ [])))
-first_side P turn ls D p x same q z lt =
+pub first_side : (P : Instance) (start : Opening) (ls : List Line) (D : Domains) (p : ℕ) (x : Symbol) → AreSame P D (domains_at P start ls (length ls)) → AreSame P (narrowed D (Split p x) First) (domains_at P start (ls ++ Split p x ∷ []) (length (ls ++ Split p x ∷ [])))
+first_side P start ls D p x same q z lt =
     ap (λ b. b && line_leaves (Split p x) First q z) (same q z lt)
-    ∙ ap (λ b. domains_at P turn ls (length ls) q z && b) (sym (and-true (line_leaves (Split p x) First q z)))
-    ∙ sym (domains_behind P turn ls (Split p x ∷ []) q z (split_ends_none p x))
+    ∙ ap (λ b. domains_at P start ls (length ls) q z && b) (sym (and-true (line_leaves (Split p x) First q z)))
+    ∙ sym (domains_behind P start ls (Split p x ∷ []) q z (split_ends_none p x))

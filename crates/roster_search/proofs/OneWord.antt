@@ -21,14 +21,14 @@ use Rattle.rwsp_terms.proofs.Counting.{count_mono}
 use Rattle.rwsp_model.specs.Validity.{KeepsLimits, AreSmall}
 use Rattle.rwsp_model.specs.RuleNumbers.{place_of}
 use Rattle.rwsp_model.proofs.Numbering.{number_at_place, number_within}
-use Rattle.refutation_terms.specs.declared.lines.Line.TheVariants as Lines
 use Rattle.refutation_terms.specs.Word.{Over}
-use Rattle.refutation_terms.specs.Leaf.{is_only, fixed, possible}
-use Rattle.refutation_terms.specs.declared.lines.Turn.{Turn}
+use Rattle.refutation_terms.specs.DayLeaf.{DayFits, DayHolds, is_only, fixed, possible}
+use Rattle.refutation_terms.specs.WindowLeaf.{WindowFits, IsBlocked}
+use Rattle.refutation_terms.specs.declared.lines.Opening.{Opening}
 use Rattle.refutation_terms.specs.FreeWeekends.{is_off_at, free_weekends}
-use Rattle.refutation_terms.specs.FreeLeaves.{may_be_free}
+use Rattle.refutation_terms.specs.FewLeaf.{may_be_free, FewHolds}
 use Rattle.refutation_terms.specs.Laws.{HasGoal}
-use Rattle.refutation_terms.specs.Log.{LineFits, GoalFits, Holds, HoldsFor}
+use Rattle.refutation_terms.specs.Log.{GoalFits}
 use Rattle.refutation_terms.proofs.FreeCounts.{free_weekends_weeks}
 use Rattle.refutation_terms.proofs.Counts.{in_column}
 use Rattle.refutation_terms.proofs.Tests.{both, left_of, right_of}
@@ -94,10 +94,10 @@ bad_length P (Triple i) u k h = let e : length u ≡ 3 = ap length h.2 in (omega
 bad_length P (Day j) u k h = absurd h
 
 abbrev pub NoWindowHolds : Instance → Store → Type 0
-NoWindowHolds P S = (number p len : ℕ) → LineFits P (Lines.Window number p len) → Holds P (has_domain S) (Lines.Window number p len) → ⊥
+NoWindowHolds P S = (number p len : ℕ) → WindowFits P number p len → IsBlocked P (has_domain S) number p len → ⊥
 
 abbrev pub NoDayHolds : Instance → Store → Type 0
-NoDayHolds P S = (j : ℕ) (x : Symbol) (over : Bool) → LineFits P (Lines.Day j x over) → Holds P (has_domain S) (Lines.Day j x over) → ⊥
+NoDayHolds P S = (j : ℕ) (x : Symbol) (over : Bool) → DayFits P j x → DayHolds P (has_domain S) j x over → ⊥
 
 no_bad_window : (P : Instance) (S : Store) (s : List Symbol) (r : Rule) → IsAlone P S s → NoWindowHolds P S → IsRule P r → HasNoWindow (Bad P r) s
 no_bad_window P S s r a none is p len lt bad =
@@ -170,9 +170,9 @@ free_where_may_be P S s a week =
     (off (i * 7 + 6) last (right_of (has_domain S (i * 7 + 5) 0) (has_domain S (i * 7 + 6) 0) left))) in
     subst (λ n. count_by may (range_with_len 0 P.weeks) ≤ n) (sym (free_weekends_weeks P s week a.is_roster)) fewer
 
-reaches : (P : Instance) (S : Store) (s : List Symbol) (turn : Option Turn) (goal : Option ℕ) → IsAlone P S s → GoalFits P turn goal → (HoldsFor P goal (has_domain S) Lines.Few → ⊥) → HasGoal goal s
-reaches P S s turn None a fits enough = tt
-reaches P S s turn (Some goal) a fits enough =
+reaches : (P : Instance) (S : Store) (s : List Symbol) (start : Opening) (goal : Option ℕ) → IsAlone P S s → GoalFits P start goal → (FewHolds P goal (has_domain S) → ⊥) → HasGoal goal s
+reaches P S s start None a fits enough = tt
+reaches P S s start (Some goal) a fits enough =
     let free = free_where_may_be P S s a fits.1 in
     elim (cases_lt (count_by (may_be_free (has_domain S)) (range_with_len 0 P.weeks)) goal) [
       | inl less ↦ absurd (enough less)
@@ -200,6 +200,6 @@ meets_all P S s limits belongs store tests decided roster has windows days =
     }
 
 -- where the leaf of few weeks doesn't hold, it has as many free weekends as the goal
-pub has_goal : (P : Instance) (S : Store) (s : List Symbol) (turn : Option Turn) (goal : Option ℕ) → KeepsLimits P → BelongsTo P S → IsStore S → HasDomains S → IsDecided S → IsRoster P s → ((p : ℕ) (d : Symbol) → p < length s → IsTrue (has_domain S p (get_or s p d).number)) → GoalFits P turn goal → (HoldsFor P goal (has_domain S) Lines.Few → ⊥) → HasGoal goal s
-has_goal P S s turn goal limits belongs store tests decided roster has fits enough =
-    reaches P S s turn goal (alone P S s limits belongs store tests decided roster has) fits enough
+pub has_goal : (P : Instance) (S : Store) (s : List Symbol) (start : Opening) (goal : Option ℕ) → KeepsLimits P → BelongsTo P S → IsStore S → HasDomains S → IsDecided S → IsRoster P s → ((p : ℕ) (d : Symbol) → p < length s → IsTrue (has_domain S p (get_or s p d).number)) → GoalFits P start goal → (FewHolds P goal (has_domain S) → ⊥) → HasGoal goal s
+has_goal P S s start goal limits belongs store tests decided roster has fits enough =
+    reaches P S s start goal (alone P S s limits belongs store tests decided roster has) fits enough

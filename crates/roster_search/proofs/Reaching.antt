@@ -1,72 +1,47 @@
 -- Lines and rosters of a search, with a goal or without one.
 use Rattle.std.proofs.Common.{◌≡◌, ℕ, ◌+◌, ◌*◌, ◌<◌, Option, Some, None, refl, sym, subst, arith}
-use Rattle.rwsp_terms.specs.declared.data.Symbol.{Symbol}
 use Rattle.rwsp_terms.specs.Instance.{Instance, cells}
 use Rattle.refutation_terms.specs.declared.lines.Line.{Line}
-use Rattle.refutation_terms.specs.declared.lines.Line.TheVariants.{Split, Window, Day, Dead, Bound, Few, Free, Unfinished}
-use Rattle.refutation_terms.specs.declared.lines.Turn.{Turn}
+use Rattle.refutation_terms.specs.declared.lines.Line.TheVariants.{Split, Unfinished, Closing}
+use Rattle.refutation_terms.specs.declared.lines.Leaf.TheVariants.{Window, Day, Few, Words}
+use Rattle.refutation_terms.specs.declared.lines.WordClaim.TheVariants.{Dead, Light}
+use Rattle.refutation_terms.specs.declared.lines.Opening.{Opening}
+use Rattle.refutation_terms.specs.declared.lines.Opening.TheVariants.{Full}
 use Rattle.refutation_terms.specs.Word.{Domains, AreSame}
-use Rattle.refutation_terms.specs.Log.{LineFits, LineFitsFor, GoalFits, Holds, HoldsFree, HoldsFor}
-use Rattle.refutation_terms.proofs.SameDomains as SameDomains
+use Rattle.refutation_terms.specs.FewLeaf.{FewHolds}
+use Rattle.refutation_terms.specs.Log.{LineFits, GoalFits, Holds}
 use Rattle.refutation_terms.proofs.SameDomains.{turned_round, same_holds}
 use Rattle.domain_store.specs.Store.{Store}
-use Rattle.domain_store.specs.Leaves.{IsHoldingLeafFor}
+use Rattle.domain_store.specs.Leaves.{IsHoldingLeaf}
 use Rattle.domain_store.specs.Looks.{IsUnweighed}
-use Rattle.roster_search.specs.Guides.{AreUnweighedFor}
+use Rattle.roster_search.specs.Guides.{AreUnweighed}
 
--- a line that weighs no words is one of a free log too
+-- a line that weighs no words fits and holds for any goal
+unweighed_stands : (P : Instance) (goal : Option ℕ) (D : Domains) (line : Line) → IsUnweighed line → LineFits P None line → Holds P None D line → LineFits P goal line × Holds P goal D line
+unweighed_stands P goal D (Split p x) light fits h = (fits, h)
+unweighed_stands P goal D (Closing (Window number p len)) light fits h = (fits, h)
+unweighed_stands P goal D (Closing (Day j x over)) light fits h = (fits, h)
+unweighed_stands P goal D (Closing (Words p R (Dead len))) light fits h = (fits, h)
+unweighed_stands P goal D (Closing (Words p R (Light turns reward y))) light fits h = absurd light
+unweighed_stands P goal D (Closing Few) light fits h = absurd fits
+unweighed_stands P goal D Unfinished light fits h = (fits, h)
 
-free_holds : (P : Instance) (goal : ℕ) (D : Domains) (line : Line) → Holds P D line → HoldsFree P goal D line
-free_holds P goal D (Split p x) h = h
-free_holds P goal D (Window number p len) h = h
-free_holds P goal D (Day j x over) h = h
-free_holds P goal D (Dead p len R) h = h
-free_holds P goal D (Bound p turns R y) h = h
-free_holds P goal D Few h = absurd h
-free_holds P goal D (Free turns reward R y) h = absurd h
-free_holds P goal D Unfinished h = h
-
-pub plain_holds : (P : Instance) (goal : Option ℕ) (D : Domains) (line : Line) → Holds P D line → HoldsFor P goal D line
-plain_holds P None D line h = h
-plain_holds P (Some goal) D line h = free_holds P goal D line h
-
-plain_fits : (P : Instance) (goal : Option ℕ) (line : Line) → LineFits P line → IsUnweighed line → LineFitsFor P goal line
-plain_fits P goal (Split p x) fits light = fits
-plain_fits P goal (Window number p len) fits light = fits
-plain_fits P goal (Day j x over) fits light = fits
-plain_fits P goal (Dead p len R) fits light = fits
-plain_fits P goal (Bound p turns R y) fits light = absurd light
-plain_fits P goal Few fits light = absurd fits
-plain_fits P goal (Free turns reward R y) fits light = absurd fits
-plain_fits P goal Unfinished fits light = fits
-
-pub split_fits : (P : Instance) (goal : Option ℕ) (p : ℕ) (x : Symbol) → LineFits P (Split p x) → LineFitsFor P goal (Split p x)
-split_fits P goal p x fits = plain_fits P goal (Split p x) fits tt
-
-pub fitting_split : (P : Instance) (goal : Option ℕ) (p : ℕ) (x : Symbol) → LineFitsFor P goal (Split p x) → LineFits P (Split p x)
-fitting_split P goal p x fits = fits
-
-pub holding_split : (P : Instance) (goal : Option ℕ) (D : Domains) (p : ℕ) (x : Symbol) → HoldsFor P goal D (Split p x) → Holds P D (Split p x)
-holding_split P None D p x h = h
-holding_split P (Some goal) D p x h = h
-
-pub open_fits : (P : Instance) (goal : Option ℕ) → LineFitsFor P goal Unfinished
-open_fits P goal = plain_fits P goal Unfinished tt tt
-
-pub unweighed_leaf : (P : Instance) (goal : Option ℕ) (D : Domains) (line : Line) → IsHoldingLeafFor P None D line → IsUnweighed line → IsHoldingLeafFor P goal D line
-unweighed_leaf P goal D line h light = record { leaf = h.leaf; fits = plain_fits P goal line h.fits light; short = h.short; holds = plain_holds P goal D line h.holds }
+pub unweighed_leaf : (P : Instance) (goal : Option ℕ) (D : Domains) (line : Line) → IsHoldingLeaf P None D line → IsUnweighed line → IsHoldingLeaf P goal D line
+unweighed_leaf P goal D line h light =
+    let stands = unweighed_stands P goal D line light h.fits h.holds in
+    record { leaf = h.leaf; fits = stands.0; short = h.short; holds = stands.1 }
 
 -- a leaf of the propagator
-pub given_leaf : (P : Instance) (goal : Option ℕ) (leaves : Store → Line → Type 0) (S : Store) (D : Domains) (line : Line) → AreUnweighedFor goal leaves → leaves S line → IsHoldingLeafFor P None D line → IsHoldingLeafFor P goal D line
+pub given_leaf : (P : Instance) (goal : Option ℕ) (leaves : Store → Line → Type 0) (S : Store) (D : Domains) (line : Line) → AreUnweighed goal leaves → leaves S line → IsHoldingLeaf P None D line → IsHoldingLeaf P goal D line
 given_leaf P None leaves S D line light among h = h
 given_leaf P (Some goal) leaves S D line light among h = unweighed_leaf P (Some goal) D line h (light S line among)
 
 -- the leaf of few weeks
-pub few_leaf : (P : Instance) (goal : Option ℕ) (D : Domains) → HoldsFor P goal D Few → IsHoldingLeafFor P goal D Few
+pub few_leaf : (P : Instance) (goal : Option ℕ) (D : Domains) → FewHolds P goal D → IsHoldingLeaf P goal D (Closing Few)
 few_leaf P None D h = absurd h
 few_leaf P (Some goal) D h = record { leaf = tt; fits = tt; short = tt; holds = h }
 
-pub unweighed_by : (goal : Option ℕ) (leaves leaves' : Store → Line → Type 0) → ((S : Store) (line : Line) → leaves' S line → leaves S line) → AreUnweighedFor goal leaves → AreUnweighedFor goal leaves'
+pub unweighed_by : (goal : Option ℕ) (leaves leaves' : Store → Line → Type 0) → ((S : Store) (line : Line) → leaves' S line → leaves S line) → AreUnweighed goal leaves → AreUnweighed goal leaves'
 unweighed_by None leaves leaves' back light = tt
 unweighed_by (Some goal) leaves leaves' back light = λ S line among. light S line (back S line among)
 
@@ -75,14 +50,21 @@ unweighed_by (Some goal) leaves leaves' back light = λ S line among. light S li
 pub weekend_within : (P : Instance) (i : ℕ) → P.days ≡ 7 → i < P.weeks → i * 7 + 6 < cells P
 weekend_within P i week less = subst (λ d. i * 7 + 6 < P.weeks * d) (sym week) (omega (arith, less))
 
--- a line that holds under the one holds under the other
-same_holds_for : (P : Instance) (turn : Option Turn) (goal : Option ℕ) (D E : Domains) (line : Line) → 0 < cells P → GoalFits P turn goal → LineFitsFor P goal line → AreSame P D E → HoldsFor P goal D line → HoldsFor P goal E line
-same_holds_for P turn None D E line some goal_fits fits same h = same_holds P D E line some fits same h
-same_holds_for P turn (Some goal) D E line some goal_fits fits same h = SameDomains.same_holds_for P (Some goal) D E line some (refl, goal_fits.1, goal_fits.2) fits same h
+-- what fits an opening fits a log that begins with all symbols
+pub goal_fits_full : (P : Instance) (start : Opening) (goal : Option ℕ) → GoalFits P start goal → GoalFits P Full goal
+goal_fits_full P start None fits = tt
+goal_fits_full P start (Some goal) fits = (refl, fits.1, fits.2)
 
-pub same_leaf : (P : Instance) (turn : Option Turn) (goal : Option ℕ) (D E : Domains) (line : Line) → 0 < cells P → GoalFits P turn goal → AreSame P D E → IsHoldingLeafFor P goal D line → IsHoldingLeafFor P goal E line
-same_leaf P turn goal D E line some goal_fits same h = record { leaf = h.leaf; fits = h.fits; short = h.short; holds = same_holds_for P turn goal D E line some goal_fits h.fits same h.holds }
+-- a leaf that holds under the one holds under the other
+pub same_leaf : (P : Instance) (start : Opening) (goal : Option ℕ) (D E : Domains) (line : Line) → 0 < cells P → GoalFits P start goal → AreSame P D E → IsHoldingLeaf P goal D line → IsHoldingLeaf P goal E line
+same_leaf P start goal D E line some goal_fits same h = record {
+  leaf = h.leaf;
+  fits = h.fits;
+  short = h.short;
+  holds = same_holds P goal D E line some (goal_fits_full P start goal goal_fits) h.fits same h.holds;
+}
 
 -- few weeks don't hold under the other either
-pub no_few_for : (P : Instance) (turn : Option Turn) (goal : Option ℕ) (D E : Domains) → 0 < cells P → GoalFits P turn goal → AreSame P D E → (HoldsFor P goal D Few → ⊥) → HoldsFor P goal E Few → ⊥
-no_few_for P turn goal D E some goal_fits same none h = none (same_holds_for P turn goal E D Few some goal_fits (few_leaf P goal E h).fits (turned_round P D E same) h)
+pub still_not_few : (P : Instance) (start : Opening) (goal : Option ℕ) (D E : Domains) → 0 < cells P → GoalFits P start goal → AreSame P D E → (FewHolds P goal D → ⊥) → FewHolds P goal E → ⊥
+still_not_few P start goal D E some goal_fits same none h =
+    none (same_leaf P start goal E D (Closing Few) some goal_fits (turned_round P D E same) (few_leaf P goal E h)).holds

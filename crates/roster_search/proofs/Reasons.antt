@@ -1,14 +1,15 @@
 -- A search goes on with a propagator that has the same reasons.
 use Rattle.std.proofs.Common.{◌≡◌, ℕ, Option, subst, sym}
 use Rattle.rwsp_terms.specs.Instance.{Instance}
-use Rattle.refutation_terms.specs.declared.lines.Line.TheVariants.{Window, Day}
+use Rattle.refutation_terms.specs.declared.lines.Line.TheVariants.{Closing}
+use Rattle.refutation_terms.specs.declared.lines.Leaf.TheVariants.{Window, Day}
 use Rattle.domain_store.specs.Store.{Store}
 use Rattle.domain_store.specs.Looks.{HasPlainLeaves, IsSame}
 use Rattle.roster_search.specs.declared.aim.Aim.{Aim}
 use Rattle.roster_search.specs.declared.progress.Progress.{Progress}
 use Rattle.roster_search.specs.declared.sight.Sight.{Sight}
 use Rattle.roster_search.specs.declared.sight.Sight.TheVariants.{Leaf, Roster, Cut, Quiet}
-use Rattle.roster_search.specs.Guides.{AreUnweighedFor, IsOpen, IsSight}
+use Rattle.roster_search.specs.Guides.{AreUnweighed, IsOpen, IsSight}
 use Rattle.roster_search.specs.Written.{IsUnderWay, IsSearching}
 use Rattle.roster_search.proofs.Reaching.{unweighed_by}
 use Rattle.roster_search.proofs.Forced.{Leaves, Spent}
@@ -67,14 +68,14 @@ sight_by P goal served lines symbols v w S sight same h = by_kind sight h
     by_kind Quiet h = (still_open h.0, λ p x spent. h.1 p x ((same.spent S p x).1 spent))
 
 -- behind lines that the propagator was told of
-pub searching_on : {A : Type 0} (P : Instance) (served : A → Serves) (tracked : A → Store → Type 0) (lines : A → Leaves) (symbols : A → Spent) (v w : A) (a b : Progress) → served v P → HasPlainLeaves P (lines v) → AreUnweighedFor a.aim.goal (lines v) → IsSame served lines symbols v w → b.aim ≡ a.aim → tracked w b.walk.store → IsUnderWay P (lines v) (symbols v) b → IsSearching P served tracked lines symbols w b
+pub searching_on : {A : Type 0} (P : Instance) (served : A → Serves) (tracked : A → Store → Type 0) (lines : A → Leaves) (symbols : A → Spent) (v w : A) (a b : Progress) → served v P → HasPlainLeaves P (lines v) → AreUnweighed a.aim.goal (lines v) → IsSame served lines symbols v w → b.aim ≡ a.aim → tracked w b.walk.store → IsUnderWay P (lines v) (symbols v) b → IsSearching P served tracked lines symbols w b
 searching_on P served tracked lines symbols v w a b serves plain light same aim tracks u = record {
   serves = (same.serves P).0 serves;
   tracks = tracks;
   plain = record {
-    windows = λ S number p len fits. (same.leaves S (Window number p len)).0 (plain.windows S number p len fits);
-    days = λ S j x over fits. (same.leaves S (Day j x over)).0 (plain.days S j x over fits);
+    windows = λ S number p len fits. (same.leaves S (Closing (Window number p len))).0 (plain.windows S number p len fits);
+    days = λ S j x over fits. (same.leaves S (Closing (Day j x over))).0 (plain.days S j x over fits);
   };
-  unweighed = subst (λ (m : Aim). AreUnweighedFor m.goal (lines w)) (sym aim) (unweighed_by a.aim.goal (lines v) (lines w) (λ S line. (same.leaves S line).1) light);
+  unweighed = subst (λ (m : Aim). AreUnweighed m.goal (lines w)) (sym aim) (unweighed_by a.aim.goal (lines v) (lines w) (λ S line. (same.leaves S line).1) light);
   under_way = under_way_by P served lines symbols v w b same u;
 }

@@ -1,5 +1,5 @@
 -- How many leaves a tree can have: no more than there are words over the domains.
-use Rattle.std.proofs.Common.{◌≡◌, ◌≢◌, ◌⊎◌, ℕ, zero, suc, ◌+◌, ◌*◌, ◌^◌, ◌<◌, ◌≤◌, [], ◌++◌, length, Option, Some, refl, ap, sym, ◌∙◌, subst, arith, length-append, inl, inr, cond, Bool, true, false, List, IsTrue, ◌&&◌, ◌||◌, ◌==◌, not, count_by}
+use Rattle.std.proofs.Common.{◌≡◌, ◌≢◌, ◌⊎◌, ℕ, zero, suc, ◌+◌, ◌*◌, ◌^◌, ◌<◌, ◌≤◌, [], ◌++◌, length, Some, refl, ap, sym, ◌∙◌, subst, arith, length-append, inl, inr, cond, Bool, true, false, List, IsTrue, ◌&&◌, ◌||◌, ◌==◌, not, count_by, None}
 use Rattle.std.specs.List.{range_with_len}
 use Rattle.std.proofs.Math.Nat.{mul-add, add-mul, mul-le-mul, mul-pos, pow-suc, pow-zero}
 use Rattle.std.proofs.Math.Bool.{and-true}
@@ -12,17 +12,16 @@ use Rattle.rwsp_terms.specs.Instance.{Instance, cells, shift_count}
 use Rattle.rwsp_terms.proofs.Counting.{count_same, count_next}
 use Rattle.refutation_terms.specs.declared.lines.Line.{Line}
 use Rattle.refutation_terms.specs.declared.lines.Line.TheVariants.{Split, Unfinished}
-use Rattle.refutation_terms.specs.declared.lines.Turn.{Turn}
+use Rattle.refutation_terms.specs.declared.lines.Opening.{Opening}
 use Rattle.refutation_terms.specs.Word.{Domains}
-use Rattle.refutation_terms.specs.Tree.{Tree, IsTree, IsLeaf, Leaf, Node, lines_in, First, Second, lines_leave, narrowed, opening, domains_at, is_idle}
-use Rattle.refutation_terms.specs.Log.{Log, TurnFits, LineFits, LineFitsFor, FitsFor, IsSpentFor}
+use Rattle.refutation_terms.specs.Tree.{Tree, IsTree, IsLeaf, Leaf, Node, lines_in, First, Second, lines_leave, narrowed, opening, is_idle}
+use Rattle.refutation_terms.specs.Log.{Log, OpeningFits, LineFits, Fits, IsSpent}
 use Rattle.refutation_terms.specs.Laws.{HasNoIdleSplit}
 use Rattle.refutation_terms.proofs.Tests.{both, left_of}
 use Rattle.refutation_terms.proofs.InWords.{there, another}
 use Rattle.refutation_terms.proofs.NeverEmpty.{domains_never_empty}
 use Rattle.refutation_terms.proofs.TreeDomains.{EachLine, EachInOrder, in_tree}
 use Rattle.roster_search.specs.Laws.{is_leaf, TreesHaveFewLeaves, SpentBudgetsAreSmall}
-use Rattle.roster_search.proofs.Reaching.{fitting_split, holding_split}
 
 -- the product of the first n numbers
 abbrev product : (ℕ → ℕ) → ℕ → ℕ
@@ -119,7 +118,7 @@ line_count (Node p x a b) =
 
 -- a split that isn't idle
 abbrev IsUseful : Instance → Domains → Line → Type 0
-IsUseful P D line = (p : ℕ) (x : Symbol) → line ≡ Split p x → LineFits P (Split p x) × (is_idle P D p x.number ≡ false)
+IsUseful P D line = (p : ℕ) (x : Symbol) → line ≡ Split p x → LineFits P None (Split p x) × (is_idle P D p x.number ≡ false)
 
 abbrev HasSome : Instance → Domains → Type 0
 HasSome P D = (q : ℕ) → q < cells P → 0 < size_at (shift_count P) D q
@@ -131,7 +130,7 @@ record IsParted (P : Instance) (D A B : Domains) (p : ℕ) : Type 0 where
   some_first : 0 < size_at (shift_count P) A p
   some_second : 0 < size_at (shift_count P) B p
 
-parted : (P : Instance) (D : Domains) (p : ℕ) (x : Symbol) → LineFits P (Split p x) → is_idle P D p x.number ≡ false → IsParted P D (narrowed D (Split p x) First) (narrowed D (Split p x) Second) p
+parted : (P : Instance) (D : Domains) (p : ℕ) (x : Symbol) → LineFits P None (Split p x) → is_idle P D p x.number ≡ false → IsParted P D (narrowed D (Split p x) First) (narrowed D (Split p x) Second) p
 parted P D p x fits useful =
     let last : ℕ = shift_count P in
     let A : Domains = narrowed D (Split p x) First in
@@ -196,49 +195,49 @@ leaves_counted (Node p x a b) =
     let second : count_by is_leaf (lines_in b) ≡ leaf_count b = leaves_counted b in
     omega (arith, split, sides, first, second)
 
-useful_splits : (P : Instance) (goal : Option ℕ) (g : Log) → FitsFor P goal g → HasNoIdleSplit P g.turn g.lines (length g.lines) → EachInOrder (IsUseful P) (opening P g.turn) g.lines
-useful_splits P goal g fits none k line e p x is = (
-  fitting_split P goal p x (subst (LineFitsFor P goal) is (fits.lines k line e)),
+useful_splits : (P : Instance) (g : Log) → Fits P g → HasNoIdleSplit P g.opening g.lines (length g.lines) → EachInOrder (IsUseful P) (opening P g.opening) g.lines
+useful_splits P g fits none k line e p x is = (
+  subst (LineFits P g.goal) is (fits.lines k line e),
   none k p x (slice_get_within g.lines k line e) (e ∙ ap (λ (l : Line). Some l) is),
 )
 
-opening_has_some : (P : Instance) (turn : Option Turn) (lines : List Line) → TurnFits P turn → IsTree lines → 0 < length lines → HasSome P (opening P turn)
-opening_has_some P turn lines fits tree lt q inside =
-    let D : Domains = opening P turn in
-    let all = domains_never_empty P turn lines 0 fits tree lt (λ i p x less. absurd (omega (arith, less))) in
+opening_has_some : (P : Instance) (start : Opening) (lines : List Line) → OpeningFits P start → IsTree lines → 0 < length lines → HasSome P (opening P start)
+opening_has_some P start lines fits tree lt q inside =
+    let D : Domains = opening P start in
+    let all = domains_never_empty P start lines 0 fits tree lt (λ i p x less. absurd (omega (arith, less))) in
     let one = all.some q inside in
     let small : one.0 ≤ shift_count P = all.symbols q one.0 inside one.1 in
     count_some (D q) 0 (shift_count P + 1) one.0 (omega arith) (omega (arith, small)) (left_of (D q one.0) (lines_leave [] q one.0) one.1)
 
 -- at most as many leaves as there are assignments
-tree_is_small : (P : Instance) (goal : Option ℕ) (g : Log) (tree : IsTree g.lines) → FitsFor P goal g → HasNoIdleSplit P g.turn g.lines (length g.lines) → leaf_count tree.0 ≤ (shift_count P + 1) ^ cells P
-tree_is_small P goal g tree fits none =
+tree_is_small : (P : Instance) (g : Log) (tree : IsTree g.lines) → Fits P g → HasNoIdleSplit P g.opening g.lines (length g.lines) → leaf_count tree.0 ≤ (shift_count P + 1) ^ cells P
+tree_is_small P g tree fits none =
     let t : Tree = tree.0 in
-    let D : Domains = opening P g.turn in
-    let each : EachLine (IsUseful P) D t = in_tree (IsUseful P) D t (subst (EachInOrder (IsUseful P) D) (sym tree.1) (useful_splits P goal g fits none)) in
+    let D : Domains = opening P g.opening in
+    let each : EachLine (IsUseful P) D t = in_tree (IsUseful P) D t (subst (EachInOrder (IsUseful P) D) (sym tree.1) (useful_splits P g fits none)) in
     let lines : 0 < length g.lines = subst (λ (ls : List Line). 0 < length ls) tree.1 (some_lines t) in
-    let few : leaf_count t ≤ product (size_at (shift_count P) D) (cells P) = leaves_are_few P t D each (opening_has_some P g.turn g.lines fits.turn tree lines) in
+    let few : leaf_count t ≤ product (size_at (shift_count P) D) (cells P) = leaves_are_few P t D each (opening_has_some P g.opening g.lines fits.opening tree lines) in
     let most : product (size_at (shift_count P) D) (cells P) ≤ (shift_count P + 1) ^ cells P = product_most (size_at (shift_count P) D) (shift_count P + 1) (cells P) (size_small (shift_count P) D) in
     omega (arith, few, most)
 
 pub few_leaves : TreesHaveFewLeaves
-few_leaves P goal g fits tree none =
+few_leaves P g fits tree none =
     let counted : count_by is_leaf (lines_in tree.0) ≡ leaf_count tree.0 = leaves_counted tree.0 in
     let same : count_by is_leaf (lines_in tree.0) ≡ count_by is_leaf g.lines = ap (count_by is_leaf) tree.1 in
-    let few = tree_is_small P goal g tree fits none in
+    let few = tree_is_small P g tree fits none in
     omega (arith, counted, same, few)
 
 -- no split of a spent log is idle: it holds, or is unfinished and no split
-spent_none_idle : (P : Instance) (goal : Option ℕ) (g : Log) (budget : ℕ) → IsSpentFor P goal g budget → HasNoIdleSplit P g.turn g.lines (length g.lines)
-spent_none_idle P goal g budget s k p x inside at =
+spent_none_idle : (P : Instance) (g : Log) (budget : ℕ) → IsSpent P g budget → HasNoIdleSplit P g.opening g.lines (length g.lines)
+spent_none_idle P g budget s k p x inside at =
     elim (cases_lt k budget) [
-      | inl early ↦ holding_split P goal (domains_at P g.turn g.lines k) p x (s.holds k (Split p x) early at)
+      | inl early ↦ s.holds k (Split p x) early at
       | inr late ↦ let clash : Split p x ≡ Unfinished = s.rest k (Split p x) late at in absurd (cc)
     ]
 
 pub spent_budgets_small : SpentBudgetsAreSmall
-spent_budgets_small P goal g budget s =
-    let few = tree_is_small P goal g s.tree s.grounded.fits (spent_none_idle P goal g budget s) in
+spent_budgets_small P g budget s =
+    let few = tree_is_small P g s.tree s.grounded.fits (spent_none_idle P g budget s) in
     let lines : length (lines_in s.tree.0) + 1 ≡ 2 * leaf_count s.tree.0 = line_count s.tree.0 in
     let same : length (lines_in s.tree.0) ≡ length g.lines = ap length s.tree.1 in
     let more : budget < length g.lines = s.unfinished in

@@ -1,16 +1,17 @@
 -- What a search finds.
-use Rattle.std.specs.Prelude.{◌≡◌, ℕ, ◌≤◌, List, slice_get, Option, Some, None}
+use Rattle.std.specs.Prelude.{◌≡◌, ℕ, ◌≤◌, List, slice_get, Option, Some}
 use Rattle.rwsp_terms.specs.declared.data.Symbol.{Symbol}
 use Rattle.rwsp_terms.specs.Instance.{Instance}
 use Rattle.refutation_terms.specs.declared.lines.Line.{Line}
-use Rattle.refutation_terms.specs.declared.lines.Line.TheVariants.{Split, Few}
-use Rattle.refutation_terms.specs.declared.lines.Turn.{Turn}
+use Rattle.refutation_terms.specs.declared.lines.Line.TheVariants.{Split}
+use Rattle.refutation_terms.specs.declared.lines.Opening.{Opening}
 use Rattle.refutation_terms.specs.Word.{Domains, AreSame}
 use Rattle.refutation_terms.specs.Tree.{domains_at}
-use Rattle.refutation_terms.specs.Log.{Log, HoldsFor, PassesFor, IsSpentFor, NamesOnlyCited, size}
+use Rattle.refutation_terms.specs.FewLeaf.{FewHolds}
+use Rattle.refutation_terms.specs.Log.{Log, Passes, IsSpent, NamesOnlyCited, size}
 use Rattle.domain_store.specs.Store.{Store, BelongsTo, IsStore, has_domain}
 use Rattle.domain_store.specs.Looks.{Closes}
-use Rattle.roster_search.specs.Guides.{IsRosterFor}
+use Rattle.roster_search.specs.Guides.{IsWantedRoster}
 use Rattle.refutation_log.specs.declared.found.Found.{Found}
 use Rattle.refutation_log.specs.declared.found.Found.TheVariants.{Roster, NoRoster, Undecided}
 
@@ -26,50 +27,41 @@ pub record IsForced (P : Instance) (leaves : Store → Line → Type 0) (spent :
   pub forced : (q : ℕ) (z : Symbol) → spent store q z → spent store p x
 
 -- this is said of each split, by the domains at it, its position and its symbol
-abbrev pub AtEachSplit : (Domains → ℕ → Symbol → Type 0) → Instance → Option Turn → List Line → Type 0
-AtEachSplit Said P turn lines =
-    (k p : ℕ) (x : Symbol) → slice_get lines k ≡ Some (Split p x) → Said (domains_at P turn lines k) p x
+abbrev pub AtEachSplit : (Domains → ℕ → Symbol → Type 0) → Instance → Opening → List Line → Type 0
+AtEachSplit Said P start lines =
+    (k p : ℕ) (x : Symbol) → slice_get lines k ≡ Some (Split p x) → Said (domains_at P start lines k) p x
 
 -- each split is as the propagator says
-abbrev pub AreForced : Instance → (Store → Line → Type 0) → (Store → ℕ → Symbol → Type 0) → Option Turn → List Line
+abbrev pub AreForced : Instance → (Store → Line → Type 0) → (Store → ℕ → Symbol → Type 0) → Opening → List Line
     → Type 0
-AreForced P leaves spent turn lines = AtEachSplit (IsForced P leaves spent) P turn lines
+AreForced P leaves spent start lines = AtEachSplit (IsForced P leaves spent) P start lines
 
 -- with a goal, at each split as many weeks as that can still have a free weekend
-abbrev pub FewHoldsAtNoSplit : Instance → Option ℕ → Option Turn → List Line → Type 0
-FewHoldsAtNoSplit P goal turn lines = AtEachSplit (λ D p x. HoldsFor P goal D Few → ⊥) P turn lines
+abbrev pub FewHoldsAtNoSplit : Instance → Option ℕ → Opening → List Line → Type 0
+FewHoldsAtNoSplit P goal start lines = AtEachSplit (λ D p x. FewHolds P goal D → ⊥) P start lines
 
--- a log with this turn that names what it cites and no more
-pub record IsLogOfTurn (P : Instance) (turn : Option Turn) (g : Log) : Type 0 where
-  pub same_turn : g.turn ≡ turn
+-- a log from this opening, for this goal or none, that names what it cites and no more
+pub record IsLogOf (P : Instance) (start : Opening) (goal : Option ℕ) (g : Log) : Type 0 where
+  pub same_opening : g.opening ≡ start
+  pub same_goal : g.goal ≡ goal
   pub cited : NamesOnlyCited P g
 
--- such a log, whose splits are as the propagator says, for this goal or none
-pub record IsSearchLogFor (P : Instance) (turn : Option Turn) (goal : Option ℕ) (leaves : Store → Line → Type 0)
+-- such a log, whose splits are as the propagator says, and at none of them is the leaf of few weeks at hand
+pub record IsSearchLog (P : Instance) (start : Opening) (goal : Option ℕ) (leaves : Store → Line → Type 0)
     (spent : Store → ℕ → Symbol → Type 0) (g : Log) : Type 0 where
-  pub of_turn : IsLogOfTurn P turn g
-  pub splits : AreForced P leaves spent turn g.lines
-  pub no_few : FewHoldsAtNoSplit P goal turn g.lines
-
--- the same without a goal
-abbrev pub IsSearchLog : Instance → Option Turn → (Store → Line → Type 0) → (Store → ℕ → Symbol → Type 0) → Log
-    → Type 0
-IsSearchLog P turn leaves spent g = IsSearchLogFor P turn None leaves spent g
+  pub is_log : IsLogOf P start goal g
+  pub splits : AreForced P leaves spent start g.lines
+  pub no_few : FewHoldsAtNoSplit P goal start g.lines
 
 -- a roster that meets every rule and has as many free weekends as the goal, where there is one; or a log that passes,
 -- of at most the budget's size; or one that has spent the budget
-abbrev pub IsFoundFor : Instance → Option Turn → Option ℕ → ℕ → (Store → Line → Type 0)
+abbrev pub IsFound : Instance → Opening → Option ℕ → ℕ → (Store → Line → Type 0)
     → (Store → ℕ → Symbol → Type 0) → Found → Type 0
-IsFoundFor P turn goal budget leaves spent (Roster s) = IsRosterFor P goal s
-IsFoundFor P turn goal budget leaves spent (NoRoster g) =
-    PassesFor P goal g × (size g ≤ budget) × IsSearchLogFor P turn goal leaves spent g
-IsFoundFor P turn goal budget leaves spent (Undecided g) =
-    IsSpentFor P goal g budget × IsSearchLogFor P turn goal leaves spent g
-
--- the same without a goal
-abbrev pub IsFound : Instance → Option Turn → ℕ → (Store → Line → Type 0) → (Store → ℕ → Symbol → Type 0) → Found
-    → Type 0
-IsFound P turn budget leaves spent found = IsFoundFor P turn None budget leaves spent found
+IsFound P start goal budget leaves spent (Roster s) = IsWantedRoster P goal s
+IsFound P start goal budget leaves spent (NoRoster g) =
+    Passes P g × (size g ≤ budget) × IsSearchLog P start goal leaves spent g
+IsFound P start goal budget leaves spent (Undecided g) =
+    IsSpent P g budget × IsSearchLog P start goal leaves spent g
 
 -- the budget was spent
 abbrev pub HasSpentBudget : Found → Type 0

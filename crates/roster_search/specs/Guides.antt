@@ -6,12 +6,11 @@ use Rattle.rwsp_terms.specs.Instance.{Instance}
 use Rattle.rwsp_terms.specs.Roster.{MeetsAll}
 use Rattle.rwsp_model.specs.Schedule.{Schedule}
 use Rattle.refutation_terms.specs.declared.lines.Line.{Line}
-use Rattle.refutation_terms.specs.declared.lines.Line.TheVariants.{Few}
-use Rattle.refutation_terms.specs.Log.{HoldsFor}
+use Rattle.refutation_terms.specs.FewLeaf.{FewHolds}
 use Rattle.refutation_terms.specs.Laws.{HasGoal}
 use Rattle.domain_store.specs.Store.{Store, has_domain}
 use Rattle.domain_store.specs.Splits.{is_idle_in}
-use Rattle.domain_store.specs.Leaves.{IsHoldingLeafFor}
+use Rattle.domain_store.specs.Leaves.{IsHoldingLeaf}
 use Rattle.domain_store.specs.Looks.{IsUnweighed, Closes, IsCut}
 use Rattle.roster_search.specs.declared.order.NextSplit.{NextSplit}
 use Rattle.roster_search.specs.declared.sight.Sight.{Sight}
@@ -19,16 +18,16 @@ use Rattle.roster_search.specs.declared.sight.Sight.TheVariants.{Leaf, Roster, C
 
 -- a leaf that holds under the domains, or none
 abbrev pub IsLeafGiven : Instance → Option ℕ → Store → Option Line → Type 0
-IsLeafGiven P goal S line = IfSome line (IsHoldingLeafFor P goal (has_domain S))
+IsLeafGiven P goal S line = IfSome line (IsHoldingLeaf P goal (has_domain S))
 
 -- a roster of the problem's days that meets every rule and has as many free weekends as the goal, where there is one
-abbrev pub IsRosterFor : Instance → Option ℕ → Schedule → Type 0
-IsRosterFor P goal s = (s.days ≡ P.days) × MeetsAll P s.cells × HasGoal goal s.cells
+abbrev pub IsWantedRoster : Instance → Option ℕ → Schedule → Type 0
+IsWantedRoster P goal s = (s.days ≡ P.days) × MeetsAll P s.cells × HasGoal goal s.cells
 
--- where there is a goal, no leaf of the propagator is a bound
-abbrev pub AreUnweighedFor : Option ℕ → (Store → Line → Type 0) → Type 0
-AreUnweighedFor None leaves = Unit {0}
-AreUnweighedFor (Some goal) leaves = (S : Store) (line : Line) → leaves S line → IsUnweighed line
+-- where there is a goal, no leaf of the propagator weighs words
+abbrev pub AreUnweighed : Option ℕ → (Store → Line → Type 0) → Type 0
+AreUnweighed None leaves = Unit {0}
+AreUnweighed (Some goal) leaves = (S : Store) (line : Line) → leaves S line → IsUnweighed line
 
 -- a position, and a symbol of its domain that has another beside it
 abbrev pub IsSplitIn : Store → NextSplit → Type 0
@@ -40,13 +39,13 @@ IsEmpty S p = (x : ℕ) → x ≤ S.shifts → has_domain S p x ≡ false
 
 -- a leaf or a roster that a guide gave
 abbrev pub IsGiven : Instance → Option ℕ → Store → Sight → Type 0
-IsGiven P goal S (Leaf line) = IsHoldingLeafFor P goal (has_domain S) line
-IsGiven P goal S (Roster s) = IsRosterFor P goal s
+IsGiven P goal S (Leaf line) = IsHoldingLeaf P goal (has_domain S) line
+IsGiven P goal S (Roster s) = IsWantedRoster P goal s
 IsGiven P goal S sight = ⊥
 
 -- no leaf of the propagator holds, and with a goal, as many weeks as that can still have a free weekend
 abbrev pub IsOpen : Instance → Option ℕ → (Line → Type 0) → Store → Type 0
-IsOpen P goal leaves S = (Closes P leaves S → ⊥) × (HoldsFor P goal (has_domain S) Few → ⊥)
+IsOpen P goal leaves S = (Closes P leaves S → ⊥) × (FewHolds P goal (has_domain S) → ⊥)
 
 -- a leaf that holds, a roster that meets every rule and the goal, or what is seen of open domains
 abbrev pub IsSight : Instance → Option ℕ → (Line → Type 0) → (ℕ → Symbol → Type 0) → Store → Sight → Type 0

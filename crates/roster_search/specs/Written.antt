@@ -6,15 +6,15 @@ use Rattle.rwsp_terms.specs.Instance.{Instance}
 use Rattle.rwsp_terms.specs.Rules.{rule_of, Names}
 use Rattle.refutation_terms.specs.declared.lines.Line.{Line}
 use Rattle.refutation_terms.specs.declared.lines.Line.TheVariants.{Split, Unfinished}
-use Rattle.refutation_terms.specs.declared.lines.Turn.{Turn}
+use Rattle.refutation_terms.specs.declared.lines.Opening.{Opening}
 use Rattle.refutation_terms.specs.Word.{Domains}
 use Rattle.refutation_terms.specs.Tree.{IsLeaf, domains_at}
-use Rattle.refutation_terms.specs.Log.{LineFitsFor, TurnFits, GoalFits, HoldsFor, Cites, TurnCites, ListsShortOnly, PassesFor, IsSpentFor, size}
+use Rattle.refutation_terms.specs.Log.{LineFits, OpeningFits, GoalFits, Holds, Cites, OpeningCites, ListsShortOnly, Passes, IsSpent, size}
 use Rattle.domain_store.specs.Store.{Store}
 use Rattle.domain_store.specs.States.{IsStateOf, open_trees}
 use Rattle.domain_store.specs.Looks.{HasPlainLeaves, IsNarrowedAt}
-use Rattle.roster_search.specs.Founds.{AreForced, FewHoldsAtNoSplit, IsLogOfTurn}
-use Rattle.roster_search.specs.Guides.{AreUnweighedFor}
+use Rattle.roster_search.specs.Founds.{AreForced, FewHoldsAtNoSplit, IsLogOf}
+use Rattle.roster_search.specs.Guides.{AreUnweighed}
 use Rattle.roster_search.specs.declared.aim.Aim.{Aim}
 use Rattle.roster_search.specs.declared.progress.Progress.{Progress}
 use Rattle.refutation_log.specs.declared.found.Found.{Found}
@@ -22,24 +22,24 @@ use Rattle.refutation_log.specs.declared.found.Found.TheVariants.{Roster, NoRost
 
 -- a line that holds, with its numbers in their ranges and with short rules only in its list, for this goal or none
 pub record Stands (P : Instance) (goal : Option ℕ) (D : Domains) (line : Line) : Type 0 where
-  pub holds : HoldsFor P goal D line
-  pub fits : LineFitsFor P goal line
+  pub holds : Holds P goal D line
+  pub fits : LineFits P goal line
   pub short : ListsShortOnly P line
 
--- the rule is that of the turn, or one of the lines cites it
-abbrev pub IsCitedIn : Instance → Option Turn → List Line → Rule → Type 0
-IsCitedIn P turn lines r =
-    TurnCites turn r ⊎ ((k : ℕ) × (line : Line) × (slice_get lines k ≡ Some line) × Cites P line r)
+-- the rule is that of the turn of the opening, or one of the lines cites it
+abbrev pub IsCitedIn : Instance → Opening → List Line → Rule → Type 0
+IsCitedIn P start lines r =
+    OpeningCites start r ⊎ ((k : ℕ) × (line : Line) × (slice_get lines k ≡ Some line) × Cites P line r)
 
--- the lines hold and fit under the domains at them (`Stands`), the walk is behind them, and what they and the turn cite
--- is named
+-- the lines hold and fit under the domains at them (`Stands`), the walk is behind them, and what they and the opening
+-- cite is named
 pub record IsProgress (P : Instance) (s : Progress) : Type 0 where
-  pub state : IsStateOf P s.aim.turn s.lines.items s.walk
-  pub turn_fits : TurnFits P s.aim.turn
-  pub goal_fits : GoalFits P s.aim.turn s.aim.goal
+  pub state : IsStateOf P s.aim.opening s.lines.items s.walk
+  pub opening_fits : OpeningFits P s.aim.opening
+  pub goal_fits : GoalFits P s.aim.opening s.aim.goal
   pub stand : (k : ℕ) (line : Line) → slice_get s.lines.items k ≡ Some line
-      → Stands P s.aim.goal (domains_at P s.aim.turn s.lines.items k) line
-  pub cited : (r : Rule) → Names P s.named r ↔ IsCitedIn P s.aim.turn s.lines.items r
+      → Stands P s.aim.goal (domains_at P s.aim.opening s.lines.items k) line
+  pub cited : (r : Rule) → Names P s.named r ↔ IsCitedIn P s.aim.opening s.lines.items r
   pub numbers : (k : ℕ) → Contains s.named k → (r : Rule) × (rule_of P k ≡ Some r)
   pub few_open : open_trees s.walk ≤ length s.lines.items + 1
 
@@ -60,8 +60,8 @@ pub record IsSplitOff (P : Instance) (before after : Progress) (p : ℕ) (x : Sy
 pub record IsUnderWay (P : Instance) (leaves : Store → Line → Type 0) (spent : Store → ℕ → Symbol → Type 0)
     (s : Progress) : Type 0 where
   pub written : IsProgress P s
-  pub forced : AreForced P leaves spent s.aim.turn s.lines.items
-  pub no_few : FewHoldsAtNoSplit P s.aim.goal s.aim.turn s.lines.items
+  pub forced : AreForced P leaves spent s.aim.opening s.lines.items
+  pub no_few : FewHoldsAtNoSplit P s.aim.goal s.aim.opening s.lines.items
   pub few : length s.lines.items ≤ s.aim.budget
 
 -- a search between two lines: the propagator serves it and tracks the domains behind its lines
@@ -71,7 +71,7 @@ pub record IsSearching {A : Type 0} (P : Instance) (served : A → Instance → 
   pub serves : served propagator P
   pub tracks : tracked propagator s.walk.store
   pub plain : HasPlainLeaves P (lines propagator)
-  pub unweighed : AreUnweighedFor s.aim.goal (lines propagator)
+  pub unweighed : AreUnweighed s.aim.goal (lines propagator)
   pub under_way : IsUnderWay P (lines propagator) (symbols propagator) s
 
 -- a tree is still open, and the budget has room for one more line
@@ -86,7 +86,7 @@ IsLonger before after = (after.aim ≡ before.aim) × (length before.lines.items
 abbrev pub IsEnded : Instance → Aim → List Line → Found → Type 0
 IsEnded P aim lines (Roster s) = ⊥
 IsEnded P aim lines (NoRoster g) =
-    PassesFor P aim.goal g × (size g ≤ aim.budget) × IsLogOfTurn P aim.turn g × (g.lines ≡ lines)
+    Passes P g × (size g ≤ aim.budget) × IsLogOf P aim.opening aim.goal g × (g.lines ≡ lines)
 IsEnded P aim lines (Undecided g) =
-    IsSpentFor P aim.goal g aim.budget × IsLogOfTurn P aim.turn g
+    IsSpent P g aim.budget × IsLogOf P aim.opening aim.goal g
     × ((n : ℕ) × (g.lines ≡ lines ++ replicate n Unfinished))

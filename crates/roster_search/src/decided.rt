@@ -1,12 +1,13 @@
 // Rosters of decided domains.
-ghost use Rattle.std.specs.Prelude.{◌≡◌, ℕ, Bool, Option, IfOk};
+ghost use Rattle.std.specs.Prelude.{ℕ, Bool, IfOk};
 ghost use Rattle.rwsp_terms.specs.declared.data.Symbol.{Symbol};
-ghost use Rattle.rwsp_terms.specs.Roster.{MeetsAll};
-ghost use Rattle.refutation_terms.specs.declared.lines.Line.TheVariants.{Window, Day, Few};
-ghost use Rattle.refutation_terms.specs.declared.lines.Turn.{Turn};
-ghost use Rattle.refutation_terms.specs.Log.{LineFits, GoalFits, Holds, HoldsFor};
-ghost use Rattle.refutation_terms.specs.Laws.{HasGoal};
+ghost use Rattle.refutation_terms.specs.declared.lines.Opening.{Opening};
+ghost use Rattle.refutation_terms.specs.WindowLeaf.{WindowFits, IsBlocked};
+ghost use Rattle.refutation_terms.specs.DayLeaf.{DayFits, DayHolds};
+ghost use Rattle.refutation_terms.specs.FewLeaf.{FewHolds};
+ghost use Rattle.refutation_terms.specs.Log.{GoalFits};
 ghost use Rattle.domain_store.specs.Store.{has_domain, BelongsTo, IsDecided};
+ghost use Rattle.roster_search.specs.Guides.{IsWantedRoster};
 
 use domain_store::Domains;
 use rwsp_model::{Problem, Roster};
@@ -19,17 +20,15 @@ pub fn met_roster(
     goal: Option<u32>,
     domains: &Domains,
 ) -> Result<Roster, AllocError>
-    requires goal { (turn : Option Turn) × GoalFits problem.now turn goal }
+    requires goal { (start : Opening) × GoalFits problem.now start goal }
     requires decided { IsDecided domains.now }
     requires belongs { BelongsTo problem.now domains.now }
-    requires windows { (number p len : ℕ) → LineFits problem.now (Window number p len)
-        → Holds problem.now (has_domain domains.now) (Window number p len) → ⊥ }
-    requires days { (j : ℕ) (x : Symbol) (over : Bool) → LineFits problem.now (Day j x over)
-        → Holds problem.now (has_domain domains.now) (Day j x over) → ⊥ }
-    requires few { HoldsFor problem.now goal (has_domain domains.now) Few → ⊥ }
-    ensures days { IfOk result (λ s. s.days ≡ problem.now.days) }
-    ensures meets { IfOk result (λ s. MeetsAll problem.now s.cells) }
-    ensures free { IfOk result (λ s. HasGoal goal s.cells) }
+    requires windows { (number p len : ℕ) → WindowFits problem.now number p len
+        → IsBlocked problem.now (has_domain domains.now) number p len → ⊥ }
+    requires days { (j : ℕ) (x : Symbol) (over : Bool) → DayFits problem.now j x
+        → DayHolds problem.now (has_domain domains.now) j x over → ⊥ }
+    requires few { FewHolds problem.now goal (has_domain domains.now) → ⊥ }
+    ensures { IfOk result (IsWantedRoster problem.now goal) }
 {
     problem.prove_limits();
     domains.prove_facts();

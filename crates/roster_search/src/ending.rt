@@ -1,10 +1,7 @@
 // The logs that a search ends with.
 ghost use Rattle.std.specs.Prelude.{◌≡◌, ℕ, ◌+◌, ◌<◌, ◌≤◌, ◌++◌, length, replicate, false, IfOk};
-ghost use Rattle.rwsp_terms.specs.Instance.{Instance};
-ghost use Rattle.rwsp_terms.specs.declared.limits.TheConstants.{MOST_LINES};
 ghost use Rattle.refutation_terms.specs.declared.lines.Line.TheVariants.{Unfinished};
-ghost use Rattle.refutation_terms.specs.Tree.{IsTree};
-ghost use Rattle.refutation_terms.specs.Log.{IsAllowed, GoalFits};
+ghost use Rattle.refutation_terms.specs.Log.{IsAllowed};
 ghost use Rattle.roster_search.specs.Written.{IsProgress, IsEnded};
 
 use crate::Aim;
@@ -12,7 +9,6 @@ use crate::progress::Progress;
 use refutation_log::{Found, Log};
 use refutation_terms::Line;
 use rwsp_model::Problem;
-use rwsp_terms::RuleList;
 use rwsp_terms::limits::GREATEST_BUDGET;
 use std::alloc::AllocError;
 
@@ -20,7 +16,7 @@ use std::alloc::AllocError;
 /// unfinished.
 pub fn end(problem: &Problem, progress: Progress) -> Result<Found, AllocError>
     requires written { IsProgress problem.now progress }
-    requires allowed { IsAllowed problem.now progress.aim.turn }
+    requires allowed { IsAllowed problem.now progress.aim.opening }
     requires few { length progress.lines.items ≤ progress.aim.budget }
     requires budget { progress.aim.budget ≤ GREATEST_BUDGET }
     requires spent { progress.walk.whole ≡ false → progress.aim.budget ≤ length progress.lines.items }
@@ -38,26 +34,10 @@ pub fn end(problem: &Problem, progress: Progress) -> Result<Found, AllocError>
     let count = walk.open_count();
     drop(walk);
     if is_whole {
-        return Ok(Found::NoRoster(log_of(named, aim, lines)));
+        return Ok(Found::NoRoster(Log::new(named, aim.opening, aim.goal, lines)));
     }
     leave_open(&mut lines, count)?;
-    Ok(Found::Undecided(log_of(named, aim, lines)))
-}
-
-// The log of these rules and lines, with the turn or the goal.
-fn log_of(named: RuleList, aim: Aim, lines: Vec<Line>) -> Log
-    requires goal { (P : Instance) × GoalFits P aim.turn aim.goal }
-    requires tree { IsTree lines.items }
-    requires few { length lines.items ≤ MOST_LINES }
-    ensures named { result.named ≡ named }
-    ensures turn { result.turn ≡ aim.turn }
-    ensures goal { result.goal ≡ aim.goal }
-    ensures lines { result.lines ≡ lines.items }
-{
-    match aim.goal {
-        Some(goal) => Log::with_goal(named, goal, lines),
-        None => Log::of(named, aim.turn, lines),
-    }
+    Ok(Found::Undecided(Log::new(named, aim.opening, aim.goal, lines)))
 }
 
 // Writes `count` unfinished lines.

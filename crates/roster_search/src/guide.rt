@@ -1,11 +1,9 @@
 // What a search may be given from outside.
-ghost use Rattle.std.specs.Prelude.{◌≡◌, ◌↔◌, ℕ, Option, IfOk};
+ghost use Rattle.std.specs.Prelude.{◌↔◌, ℕ, Option, IfOk};
 ghost use Rattle.std.specs.Option.{IfSome};
 ghost use Rattle.rwsp_terms.specs.Instance.{Instance};
-ghost use Rattle.rwsp_terms.specs.Roster.{MeetsAll};
-ghost use Rattle.refutation_terms.specs.Laws.{HasGoal};
 ghost use Rattle.domain_store.specs.Store.{BelongsTo};
-ghost use Rattle.roster_search.specs.Guides.{IsLeafGiven, IsSplitIn};
+ghost use Rattle.roster_search.specs.Guides.{IsLeafGiven, IsSplitIn, IsWantedRoster};
 
 use crate::NextSplit;
 use domain_store::Domains;
@@ -31,12 +29,8 @@ pub trait Guide {
     /// the search begins with these domains and no leaf closes them.
     fn roster(&mut self, alloc: Global, doms: &Domains) -> Result<Option<Roster>, AllocError>
         requires problem { (P : Instance) × (goal : Option ℕ) × serves self.old P goal × BelongsTo P doms.now }
-        ensures days { IfOk result (λ found.
-            (P : Instance) (goal : Option ℕ) → serves self.old P goal → IfSome found (λ s. s.days ≡ P.days)) }
-        ensures meets { IfOk result (λ found.
-            (P : Instance) (goal : Option ℕ) → serves self.old P goal → IfSome found (λ s. MeetsAll P s.cells)) }
-        ensures free { IfOk result (λ found.
-            (P : Instance) (goal : Option ℕ) → serves self.old P goal → IfSome found (λ s. HasGoal goal s.cells)) }
+        ensures wanted { IfOk result (λ found.
+            (P : Instance) (goal : Option ℕ) → serves self.old P goal → IfSome found (IsWantedRoster P goal)) }
         ensures serves { (P : Instance) (goal : Option ℕ) → serves self.old P goal ↔ serves self.new P goal };
 
     /// Where to split, if it has a choice. It is asked where there is no leaf and no spent symbol.

@@ -4,23 +4,23 @@ ghost use Rattle.rwsp_terms.specs.Instance.{Instance, cells};
 ghost use Rattle.refutation_terms.specs.declared.lines.Line.TheVariants.{Split};
 ghost use Rattle.refutation_terms.specs.Word.{AreSame};
 ghost use Rattle.refutation_terms.specs.Tree.{First, narrowed, domains_at, is_idle};
-ghost use Rattle.refutation_terms.specs.Log.{TurnFits, GoalFits, TurnCites};
+ghost use Rattle.refutation_terms.specs.Log.{OpeningFits, GoalFits, OpeningCites};
 ghost use Rattle.rwsp_terms.specs.Rules.{rule_of, Names};
 ghost use Rattle.rwsp_terms.specs.declared.data.Rule.{Rule};
 ghost use Rattle.domain_store.specs.Store.{has_domain, IsStore, HasDomains};
 ghost use Rattle.domain_store.specs.Splits.{is_idle_in};
-ghost use Rattle.domain_store.specs.Leaves.{IsHoldingLeafFor};
+ghost use Rattle.domain_store.specs.Leaves.{IsHoldingLeaf};
 ghost use Rattle.roster_search.specs.Written.{IsProgress, IsSplitOff, HasRoom};
 
 use crate::Aim;
 use domain_store::Walk;
-use refutation_log::{put_cited_for, put_turn_cited};
-use refutation_terms::{Line, Turn};
+use refutation_log::{put_cited, put_opening_cited};
+use refutation_terms::{Line, Opening};
 use rwsp_model::Problem;
 use rwsp_terms::{RuleList, Symbol};
 use std::alloc::{AllocError, Global};
 
-/// The lines that were written, the domains behind them, and the rules that they and the turn cite.
+/// The lines that were written, the domains behind them, and the rules that they and the opening cite.
 #[derive(Drop)]
 pub struct Progress {
     pub aim: Aim,
@@ -32,14 +32,14 @@ pub struct Progress {
 impl Progress {
     /// No line yet.
     pub fn new(alloc: Global, problem: &Problem, aim: Aim) -> Result<Progress, AllocError>
-        requires turn { TurnFits problem.now aim.turn }
-        requires goal { GoalFits problem.now aim.turn aim.goal }
+        requires opening { OpeningFits problem.now aim.opening }
+        requires goal { GoalFits problem.now aim.opening aim.goal }
         ensures written { IfOk result (λ s. IsProgress problem.now s) }
         ensures aim { IfOk result (λ s. s.aim ≡ aim) }
         ensures none { IfOk result (λ s. s.lines.items ≡ []) }
     {
-        let walk = Walk::new(alloc, problem, aim.turn)?;
-        let named = turn_rules(alloc, problem, aim.turn)?;
+        let walk = Walk::new(alloc, problem, aim.opening)?;
+        let named = opening_rules(alloc, problem, aim.opening)?;
         Ok(Progress {
             aim,
             walk,
@@ -68,7 +68,7 @@ impl Progress {
         ensures tests { HasDomains self.now.walk.store }
         ensures same { (P : Instance) → IsProgress P self.now
             → AreSame P (has_domain self.now.walk.store)
-            (domains_at P self.now.aim.turn self.now.lines.items (length self.now.lines.items)) }
+            (domains_at P self.now.aim.opening self.now.lines.items (length self.now.lines.items)) }
     {
         self.walk.domains().prove_facts();
     }
@@ -77,13 +77,13 @@ impl Progress {
     pub fn close(&mut self, problem: &Problem, line: Line) -> Result<(), AllocError>
         requires part { self.old.walk.whole ≡ false }
         requires written { IsProgress problem.now self.old }
-        requires leaf { IsHoldingLeafFor problem.now self.old.aim.goal
-            (domains_at problem.now self.old.aim.turn self.old.lines.items (length self.old.lines.items)) line }
+        requires leaf { IsHoldingLeaf problem.now self.old.aim.goal
+            (domains_at problem.now self.old.aim.opening self.old.lines.items (length self.old.lines.items)) line }
         ensures written { IfOk result (λ _. IsProgress problem.now self.new) }
         ensures aim { self.new.aim ≡ self.old.aim }
         ensures lines { IfOk result (λ _. self.new.lines.items ≡ self.old.lines.items ++ line ∷ []) }
     {
-        put_cited_for(&mut self.named, problem, &line)?;
+        put_cited(&mut self.named, problem, &line)?;
         self.lines.push(line)?;
         self.walk.read_leaf();
         Ok(())
@@ -119,7 +119,7 @@ impl Progress {
         requires written { IsProgress problem.now self.old }
         requires position { p < cells problem.now }
         requires useful { is_idle problem.now (has_domain self.old.walk.store) p x.number ≡ false }
-        requires leaf { IsHoldingLeafFor problem.now self.old.aim.goal
+        requires leaf { IsHoldingLeaf problem.now self.old.aim.goal
             (narrowed (has_domain self.old.walk.store) (Split p x) First) line }
         ensures off { IfOk result (λ _. IsSplitOff problem.now self.old self.new p x) }
         ensures few { IfOk result (λ _. length self.new.lines.items ≤ self.old.aim.budget) }
@@ -139,18 +139,13 @@ impl Progress {
     }
 }
 
-// The rules that a turn rests on.
-fn turn_rules(alloc: Global, problem: &Problem, turn: Option<Turn>) -> Result<RuleList, AllocError>
-    requires { TurnFits problem.now turn }
-    ensures cited { IfOk result (λ R. (r : Rule) → Names problem.now R r ↔ TurnCites turn r) }
+// The rules that an opening rests on.
+fn opening_rules(alloc: Global, problem: &Problem, opening: Opening) -> Result<RuleList, AllocError>
+    requires { OpeningFits problem.now opening }
+    ensures cited { IfOk result (λ R. (r : Rule) → Names problem.now R r ↔ OpeningCites opening r) }
     ensures numbers { IfOk result (λ R. (k : ℕ) → Contains R k → (r : Rule) × (rule_of problem.now k ≡ Some r)) }
 {
     let mut named = RuleList::new(alloc);
-    match turn {
-        Some(turn) => {
-            put_turn_cited(&mut named, problem, turn)?;
-            Ok(named)
-        }
-        None => Ok(named),
-    }
+    put_opening_cited(&mut named, problem, opening)?;
+    Ok(named)
 }

@@ -1,11 +1,11 @@
-// One turn of a search.
+// One step of a search.
 ghost use Rattle.std.specs.Prelude.{◌≡◌, ℕ, ◌↔◌, Option, IfOk, IfSome, MatchOption, None};
 ghost use Rattle.rwsp_terms.specs.declared.data.Symbol.{Symbol};
 ghost use Rattle.rwsp_terms.specs.Instance.{Instance};
 ghost use Rattle.domain_store.specs.Store.{BelongsTo, IsDecided, has_domain};
-ghost use Rattle.domain_store.specs.Leaves.{IsHoldingLeafFor};
+ghost use Rattle.domain_store.specs.Leaves.{IsHoldingLeaf};
 ghost use Rattle.domain_store.specs.Looks.{IsCut, IsSame};
-ghost use Rattle.roster_search.specs.Guides.{IsSplitIn, IsRosterFor, IsOpen, IsSight};
+ghost use Rattle.roster_search.specs.Guides.{IsSplitIn, IsWantedRoster, IsOpen, IsSight};
 ghost use Rattle.roster_search.specs.Written.{IsSearching, HasRoom, IsLonger};
 
 use crate::decided::met_roster;
@@ -36,7 +36,7 @@ pub fn step<A: Propagator, G: Guide>(
     ensures searching { IfOk result (λ found. found ≡ None
         → IsSearching problem.now A.serves A.tracks A.leaves A.spent propagator.new progress.new) }
     ensures longer { IfOk result (λ found. found ≡ None → IsLonger progress.old progress.new) }
-    ensures roster { IfOk result (λ found. IfSome found (IsRosterFor problem.now progress.old.aim.goal)) }
+    ensures roster { IfOk result (λ found. IfSome found (IsWantedRoster problem.now progress.old.aim.goal)) }
     ensures same { IsSame A.serves A.leaves A.spent propagator.old propagator.new }
     ensures guide { (P : Instance) (goal : Option ℕ) → G.serves guide.old P goal ↔ G.serves guide.new P goal }
 {
@@ -62,7 +62,7 @@ fn write_seen<A: Propagator, G: Guide>(
     ensures searching { IfOk result (λ found. found ≡ None
         → IsSearching problem.now A.serves A.tracks A.leaves A.spent propagator.new progress.new) }
     ensures longer { IfOk result (λ found. found ≡ None → IsLonger progress.old progress.new) }
-    ensures roster { IfOk result (λ found. IfSome found (IsRosterFor problem.now progress.old.aim.goal)) }
+    ensures roster { IfOk result (λ found. IfSome found (IsWantedRoster problem.now progress.old.aim.goal)) }
     ensures same { IsSame A.serves A.leaves A.spent propagator.old propagator.new }
     ensures guide { (P : Instance) (goal : Option ℕ) → G.serves guide.old P goal ↔ G.serves guide.new P goal }
 {
@@ -97,7 +97,7 @@ fn write_choice<A: Propagator, G: Guide>(
     ensures searching { IfOk result (λ found. found ≡ None
         → IsSearching problem.now A.serves A.tracks A.leaves A.spent propagator.new progress.new) }
     ensures longer { IfOk result (λ found. found ≡ None → IsLonger progress.old progress.new) }
-    ensures roster { IfOk result (λ found. IfSome found (IsRosterFor problem.now progress.old.aim.goal)) }
+    ensures roster { IfOk result (λ found. IfSome found (IsWantedRoster problem.now progress.old.aim.goal)) }
     ensures same { IsSame A.serves A.leaves A.spent propagator.old propagator.new }
     ensures guide { (P : Instance) (goal : Option ℕ) → G.serves guide.old P goal ↔ G.serves guide.new P goal }
 {
@@ -119,7 +119,7 @@ fn write_leaf<A: Propagator>(
 ) -> Result<(), AllocError>
     requires searching { IsSearching problem.now A.serves A.tracks A.leaves A.spent propagator.old progress.old }
     requires room { HasRoom progress.old }
-    requires leaf { IsHoldingLeafFor problem.now progress.old.aim.goal (has_domain progress.old.walk.store) line }
+    requires leaf { IsHoldingLeaf problem.now progress.old.aim.goal (has_domain progress.old.walk.store) line }
     ensures searching { IfOk result (λ _.
         IsSearching problem.now A.serves A.tracks A.leaves A.spent propagator.new progress.new) }
     ensures longer { IfOk result (λ _. IsLonger progress.old progress.new) }

@@ -1,10 +1,10 @@
 // The search.
 ghost use Rattle.std.specs.Prelude.{◌≡◌, ℕ, ◌+◌, ◌*◌, ◌^◌, ◌<◌, ◌≤◌, ◌↔◌, length, Option, None, false, IfOk, IfSome};
 ghost use Rattle.rwsp_terms.specs.Instance.{Instance, cells, shift_count};
-ghost use Rattle.refutation_terms.specs.Log.{TurnFits, GoalFits, IsAllowed};
+ghost use Rattle.refutation_terms.specs.Log.{OpeningFits, GoalFits, IsAllowed};
 ghost use Rattle.domain_store.specs.Looks.{HasPlainLeaves, IsSame};
-ghost use Rattle.roster_search.specs.Founds.{IsFoundFor, HasSpentBudget};
-ghost use Rattle.roster_search.specs.Guides.{IsRosterFor, AreUnweighedFor};
+ghost use Rattle.roster_search.specs.Founds.{IsFound, HasSpentBudget};
+ghost use Rattle.roster_search.specs.Guides.{IsWantedRoster, AreUnweighed};
 ghost use Rattle.roster_search.specs.Written.{IsSearching};
 
 use crate::ending::end;
@@ -28,13 +28,13 @@ pub fn search<A: Propagator, G: Guide>(
     guide: &mut G,
 ) -> Result<Found, AllocError>
     requires budget { (1 ≤ aim.budget) × (aim.budget ≤ GREATEST_BUDGET) }
-    requires turn { TurnFits problem.now aim.turn × IsAllowed problem.now aim.turn }
-    requires goal { GoalFits problem.now aim.turn aim.goal }
+    requires opening { OpeningFits problem.now aim.opening × IsAllowed problem.now aim.opening }
+    requires goal { GoalFits problem.now aim.opening aim.goal }
     requires serves { A.serves propagator.old problem.now }
     requires plain { HasPlainLeaves problem.now (A.leaves propagator.old) }
-    requires unweighed { AreUnweighedFor aim.goal (A.leaves propagator.old) }
+    requires unweighed { AreUnweighed aim.goal (A.leaves propagator.old) }
     requires guide { G.serves guide.old problem.now aim.goal }
-    ensures found { IfOk result (λ found. IsFoundFor problem.now aim.turn aim.goal aim.budget
+    ensures found { IfOk result (λ found. IsFound problem.now aim.opening aim.goal aim.budget
         (A.leaves propagator.old) (A.spent propagator.old) found) }
     ensures complete { IfOk result (λ found.
         HasSpentBudget found → aim.budget + 1 < 2 * (shift_count problem.now + 1) ^ cells problem.now) }
@@ -72,7 +72,7 @@ fn write_lines<A: Propagator, G: Guide>(
     ensures aim { IfOk result (λ found. found ≡ None → progress.new.aim ≡ progress.old.aim) }
     ensures ended { IfOk result (λ found. found ≡ None
         → progress.new.walk.whole ≡ false → progress.new.aim.budget ≤ length progress.new.lines.items) }
-    ensures roster { IfOk result (λ found. IfSome found (IsRosterFor problem.now progress.old.aim.goal)) }
+    ensures roster { IfOk result (λ found. IfSome found (IsWantedRoster problem.now progress.old.aim.goal)) }
     ensures same { IsSame A.serves A.leaves A.spent propagator.old propagator.new }
     ensures guide { (P : Instance) (goal : Option ℕ) → G.serves guide.old P goal ↔ G.serves guide.new P goal }
 {

@@ -2,9 +2,9 @@
 ghost use Rattle.std.specs.Prelude.{◌≡◌, ◌⊎◌, ℕ, ◌↔◌, Option, IsTrue, IfOk};
 ghost use Rattle.std.specs.Option.{IfSome};
 ghost use Rattle.rwsp_terms.specs.Instance.{Instance};
-ghost use Rattle.refutation_terms.specs.declared.lines.Line.TheVariants.{Few};
-ghost use Rattle.refutation_terms.specs.declared.lines.Turn.{Turn};
-ghost use Rattle.refutation_terms.specs.Log.{GoalFits, HoldsFor};
+ghost use Rattle.refutation_terms.specs.declared.lines.Opening.{Opening};
+ghost use Rattle.refutation_terms.specs.FewLeaf.{FewHolds};
+ghost use Rattle.refutation_terms.specs.Log.{GoalFits};
 ghost use Rattle.domain_store.specs.Store.{BelongsTo, has_domain};
 ghost use Rattle.domain_store.specs.Looks.{IsSame};
 ghost use Rattle.roster_search.specs.Guides.{IsLeafGiven, IsGiven, IsSight};
@@ -14,7 +14,7 @@ use crate::Guide;
 use crate::progress::Progress;
 use domain_store::{Domains, Look, Propagator};
 use plain_leaves::few_holds;
-use refutation_terms::Line;
+use refutation_terms::{Leaf, Line};
 use rwsp_model::{Problem, Roster};
 use rwsp_terms::Symbol;
 use std::alloc::{AllocError, Global};
@@ -96,7 +96,7 @@ pub fn see<A: Propagator, G: Guide>(
 {
     let doms = progress.walk.domains();
     if is_short_of(problem, progress.aim.goal, doms) {
-        return Ok(Sight::Leaf(Line::Few));
+        return Ok(Sight::Leaf(Line::Closing(Leaf::Few)));
     }
     match propagator.look(alloc, doms)? {
         Look::Closed(line) => Ok(Sight::Leaf(line)),
@@ -136,8 +136,8 @@ fn given_or<G: Guide>(
 // Whether fewer weeks than the goal, where there is one, can still have a free weekend.
 fn is_short_of(problem: &Problem, goal: Option<u32>, doms: &Domains) -> bool
     requires belongs { BelongsTo problem.now doms.now }
-    requires goal { (turn : Option Turn) × GoalFits problem.now turn goal }
-    ensures { IsTrue result ↔ HoldsFor problem.now goal (has_domain doms.now) Few }
+    requires goal { (start : Opening) × GoalFits problem.now start goal }
+    ensures { IsTrue result ↔ FewHolds problem.now goal (has_domain doms.now) }
 {
     match goal {
         Some(goal) => few_holds(problem, doms, goal),

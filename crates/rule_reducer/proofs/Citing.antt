@@ -1,5 +1,5 @@
 -- The rules that lines cite, found line by line, and what a strip leaves of them.
-use Rattle.std.proofs.Common.{◌≡◌, ℕ, zero, suc, ◌+◌, ◌<◌, ◌≤◌, List, [], ◌∷◌, length, take, ap, sym, ◌∙◌, subst, arith, ◌⊎◌, inl, inr, ⊎_elim, Some, None, Option, Bool, true, false}
+use Rattle.std.proofs.Common.{◌≡◌, ℕ, zero, suc, ◌+◌, ◌<◌, ◌≤◌, List, [], ◌∷◌, length, take, ap, sym, ◌∙◌, subst, arith, ◌⊎◌, inl, inr, ⊎_elim, Some, Bool, true, false}
 use Rattle.std.specs.Prelude.{Contains, ◌↔◌, slice_get}
 use Rattle.std.proofs.lemmas.Bool.{cases_lt}
 use Rattle.std.proofs.lemmas.List.{take_all}
@@ -9,8 +9,8 @@ use Rattle.rwsp_terms.specs.Instance.{Instance}
 use Rattle.rwsp_terms.specs.Rules.{rule_of, Names}
 use Rattle.rwsp_model.proofs.Numbering.{one_number}
 use Rattle.refutation_terms.specs.declared.lines.Line.{Line}
-use Rattle.refutation_terms.specs.declared.lines.Turn.{Turn}
-use Rattle.refutation_terms.specs.Log.{Log, Fits, Cites, TurnCites}
+use Rattle.refutation_terms.specs.declared.lines.Opening.{Opening}
+use Rattle.refutation_terms.specs.Log.{Log, Fits, Cites, OpeningCites}
 use Rattle.refutation_terms.specs.Strip.{strip, strip_line, StripsTo}
 use Rattle.rule_reducer.specs.Citing.{is_plain, OneCites, AreCited}
 use Rattle.rule_reducer.proofs.Stripped.{cited_before, plain_stays, plain_same}
@@ -79,24 +79,16 @@ cited_none P plain start lines r = (
   λ h. ⊎_elim (λ (n : Names P start r). n) (λ (c : OneCites P plain (take 0 lines) r). let no = from_front lines 0 c.0 c.1 c.2 in absurd (omega (arith, no.0))) h,
 )
 
--- the rule of a turn
+-- the rule of an opening
 
-pub turn_cited_alone : (P : Instance) (turn : Option Turn) (t : Turn) (old new : List ℕ) → turn ≡ Some t → old ≡ [] → ((r : Rule) → Names P new r ↔ (Names P old r ⊎ TurnCites (Some t) r)) → (r : Rule) → Names P new r ↔ TurnCites turn r
-turn_cited_alone P turn t old new is none put r =
-    subst (λ (o : Option Turn). Names P new r ↔ TurnCites o r) (sym is) (
-      λ n. ⊎_elim
-          (λ (o : Names P old r). let empty : Contains {X = ℕ} [] o.0 = subst (λ l. Contains l o.0) none o.1 in absurd (omega (arith, empty.1)))
-          (λ (c : TurnCites (Some t) r). c)
-          ((put r).0 n),
-      λ c. (put r).1 (inr c),
-    )
-
-pub no_turn_cited : (P : Instance) (turn : Option Turn) (rules : List ℕ) → turn ≡ None → rules ≡ [] → (r : Rule) → Names P rules r ↔ TurnCites turn r
-no_turn_cited P turn rules is none r =
-    subst (λ (o : Option Turn). Names P rules r ↔ TurnCites o r) (sym is) (
-      λ n. let empty : Contains {X = ℕ} [] n.0 = subst (λ l. Contains l n.0) none n.1 in absurd (omega (arith, empty.1)),
-      λ c. absurd c,
-    )
+pub opening_cited : (P : Instance) (o : Opening) (old new : List ℕ) → old ≡ [] → ((r : Rule) → Names P new r ↔ (Names P old r ⊎ OpeningCites o r)) → (r : Rule) → Names P new r ↔ OpeningCites o r
+opening_cited P o old new none put r = (
+  λ n. ⊎_elim
+      (λ (named : Names P old r). let empty : Contains {X = ℕ} [] named.0 = subst (λ l. Contains l named.0) none named.1 in absurd (omega (arith, empty.1)))
+      (λ (c : OpeningCites o r). c)
+      ((put r).0 n),
+  λ c. (put r).1 (inr c),
+)
 
 -- the rules of one line, put where the line is of the kind
 
@@ -126,13 +118,13 @@ true_not_false b t f = let clash : false ≡ true = sym f ∙ t in cc
 
 -- the rules of all lines
 
-pub both_kinds : (P : Instance) (g : Log) (turned for_good empty in_lists : List ℕ) → ((r : Rule) → Names P turned r ↔ TurnCites g.turn r)
-    → ((r : Rule) → Names P for_good r ↔ (Names P turned r ⊎ OneCites P true g.lines r))
+pub both_kinds : (P : Instance) (g : Log) (opened for_good empty in_lists : List ℕ) → ((r : Rule) → Names P opened r ↔ OpeningCites g.opening r)
+    → ((r : Rule) → Names P for_good r ↔ (Names P opened r ⊎ OneCites P true g.lines r))
     → ((r : Rule) → Names P in_lists r ↔ (Names P empty r ⊎ OneCites P false g.lines r)) → AreCited P g for_good in_lists
-both_kinds P g turned for_good empty in_lists turn plain lists = record {
+both_kinds P g opened for_good empty in_lists opening plain lists = record {
   lasting = λ r. (
-    λ n. ⊎_elim (λ (t : Names P turned r). inl ((turn r).0 t)) (λ (c : OneCites P true g.lines r). inr c) ((plain r).0 n),
-    λ h. ⊎_elim (λ (t : TurnCites g.turn r). (plain r).1 (inl ((turn r).1 t))) (λ (c : OneCites P true g.lines r). (plain r).1 (inr c)) h,
+    λ n. ⊎_elim (λ (t : Names P opened r). inl ((opening r).0 t)) (λ (c : OneCites P true g.lines r). inr c) ((plain r).0 n),
+    λ h. ⊎_elim (λ (t : OpeningCites g.opening r). (plain r).1 (inl ((opening r).1 t))) (λ (c : OneCites P true g.lines r). (plain r).1 (inr c)) h,
   );
   listed = λ r c. (lists r).1 (inr c);
 }
@@ -151,18 +143,18 @@ cited_once P n plain g r fits c =
       old.0,
       old.1,
       sym (plain_stays P n old.0) ∙ ap is_plain old.2 ∙ c.3,
-      cited_before P n old.0 r (fits.lines c.0 old.0 old.1) (subst (λ l. Cites P l r) (sym old.2) c.4),
+      cited_before P n g.goal old.0 r (fits.lines c.0 old.0 old.1) (subst (λ l. Cites P l r) (sym old.2) c.4),
     )
 
 pub cited_still : (P : Instance) (n : ℕ) (g : Log) (a b : List ℕ) → Fits P g → AreCited P g a b → AreCited P (strip P n g) a b
 cited_still P n g a b fits cited = record {
   lasting = λ r. (
     λ names. ⊎_elim
-        (λ (t : TurnCites g.turn r). inl t)
+        (λ (t : OpeningCites g.opening r). inl t)
         (λ (c : OneCites P true g.lines r). inr (cites_still P n g r c))
         ((cited.lasting r).0 names),
     λ h. ⊎_elim
-        (λ (t : TurnCites g.turn r). (cited.lasting r).1 (inl t))
+        (λ (t : OpeningCites g.opening r). (cited.lasting r).1 (inl t))
         (λ (c : OneCites P true (strip P n g).lines r). (cited.lasting r).1 (inr (cited_once P n true g r fits c)))
         h,
   );

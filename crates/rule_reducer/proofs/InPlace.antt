@@ -1,8 +1,7 @@
 -- A list whose elements are replaced one by one.
 use Rattle.std.proofs.Common.{◌≡◌, ℕ, suc, ◌+◌, ◌-◌, ◌<◌, ◌≤◌, List, [], ◌∷◌, ◌++◌, length, take, drop, map, set, get_or, ap, sym, ◌∙◌, arith, append_assoc, add-one}
 use Rattle.std.proofs.Math.Seq.{drop-cons, set-append_seam}
-use Rattle.std.proofs.lemmas.List.{take_more, length-take-le, map-append, get_or-append_right, take_all, length-map}
-use Rattle.std.proofs.lemmas.List.{append-nil}
+use Rattle.std.proofs.lemmas.List.{take_more, length-take-le, map-append, get_or-append_right, take_all, length-map, append-nil}
 
 -- the first i elements are replaced
 abbrev pub replaced : {X : Type 0} → (X → X) → List X → ℕ → List X

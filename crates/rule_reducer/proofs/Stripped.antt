@@ -13,11 +13,15 @@ use Rattle.rwsp_terms.specs.Weights.{AreWeights, IsWeight}
 use Rattle.rwsp_terms.proofs.Ascending.{Contains-first, Contains-later}
 use Rattle.rwsp_model.proofs.Numbering.{one_number}
 use Rattle.refutation_terms.specs.declared.lines.Line.{Line}
-use Rattle.refutation_terms.specs.declared.lines.Line.TheVariants.{Split, Window, Day, Dead, Bound, Few, Free, Unfinished}
+use Rattle.refutation_terms.specs.declared.lines.Line.TheVariants.{Split, Unfinished, Closing}
+use Rattle.refutation_terms.specs.declared.lines.Leaf.{Leaf}
+use Rattle.refutation_terms.specs.declared.lines.Leaf.TheVariants.{Window, Day, Few, Words}
+use Rattle.refutation_terms.specs.declared.lines.WordClaim.{WordClaim}
+use Rattle.refutation_terms.specs.declared.lines.WordClaim.TheVariants.{Dead, Light}
 use Rattle.refutation_terms.specs.Word.{Domains}
-use Rattle.refutation_terms.specs.Tree.{domains_at}
-use Rattle.refutation_terms.specs.Log.{Log, LineFits, Holds, HasWeight, Cites, TurnCites, ListsShortOnly, Passes}
-use Rattle.refutation_terms.specs.Strip.{without_rule, without_day, strip_line, strip}
+use Rattle.refutation_terms.specs.Log.{Log, LineFits, Holds, HoldsAt, Cites, OpeningCites, ListsShortOnly, Passes}
+use Rattle.refutation_terms.specs.Ranges.{HasWeight}
+use Rattle.refutation_terms.specs.Strip.{without_rule, without_day, strip_claim, strip_line, strip}
 use Rattle.refutation_log.proofs.CitedRules.{weight_of_entry, entry_of_weight, read_at}
 use Rattle.rule_reducer.specs.Citing.{is_plain, OneCites, CitesForGood}
 use Rattle.rule_reducer.specs.Without.{HoldsWithout}
@@ -92,41 +96,40 @@ weighed_before P (Some (TheRules.Day j)) y i are h = (weight_left y j i are h).0
 weighed_before P other y i are h = h
 
 -- a rule that a stripped line cites was cited before
-pub cited_before : (P : Instance) (n : ℕ) (line : Line) (r : Rule) → LineFits P line → Cites P (strip_line P n line) r → Cites P line r
-cited_before P n (Dead p len R) r fits c = (c.0, (was_listed n R c.0 c.1).0, c.2)
-cited_before P n (Bound p turns R y) r fits (inl c) = inl (c.0, (was_listed n R c.0 c.1).0, c.2)
-cited_before P n (Bound p turns R y) r fits (inr c) = inr (c.0, weighed_before P (rule_of P n) y c.0 fits.3.0 c.1, c.2)
-cited_before P n line r fits c = c
+pub cited_before : (P : Instance) (n : ℕ) (goal : Option ℕ) (line : Line) (r : Rule) → LineFits P goal line → Cites P (strip_line P n line) r → Cites P line r
+cited_before P n goal (Closing (Words p R (Dead len))) r fits c = (c.0, (was_listed n R c.0 c.1).0, c.2)
+cited_before P n goal (Closing (Words p R (Light turns reward y))) r fits (inl c) = inl (c.0, (was_listed n R c.0 c.1).0, c.2)
+cited_before P n goal (Closing (Words p R (Light turns reward y))) r fits (inr c) = inr (c.0, weighed_before P (rule_of P n) y c.0 fits.3.0 c.1, c.2)
+cited_before P n goal line r fits c = c
 
 not_in_list : (P : Instance) (n : ℕ) (r : Rule) (R : List ℕ) → rule_of P n ≡ Some r → Names P (without_rule n R) r → ⊥
 not_in_list P n r R is named = (was_listed n R named.0 named.1).1 (one_number P named.0 n r named.2 is)
 
 -- a line that is no plain leaf doesn't cite the rule once it was stripped
-stripped_cites_not : (P : Instance) (n : ℕ) (line : Line) (r : Rule) → rule_of P n ≡ Some r → LineFits P line → is_plain line ≡ false → Cites P (strip_line P n line) r → ⊥
-stripped_cites_not P n (Split p x) r is fits other c = c
-stripped_cites_not P n (Window number p len) r is fits other c = cc
-stripped_cites_not P n (Day j x over) r is fits other c = cc
-stripped_cites_not P n (Dead p len R) r is fits other c = not_in_list P n r R is c
-stripped_cites_not P n (Bound p turns R y) r is fits other (inl c) = not_in_list P n r R is c
-stripped_cites_not P n (Bound p turns R y) r is fits other (inr c) =
+stripped_cites_not : (P : Instance) (n : ℕ) (goal : Option ℕ) (line : Line) (r : Rule) → rule_of P n ≡ Some r → LineFits P goal line → is_plain line ≡ false → Cites P (strip_line P n line) r → ⊥
+stripped_cites_not P n goal (Split p x) r is fits other c = c
+stripped_cites_not P n goal (Closing (Window number p len)) r is fits other c = cc
+stripped_cites_not P n goal (Closing (Day j x over)) r is fits other c = cc
+stripped_cites_not P n goal (Closing (Words p R (Dead len))) r is fits other c = not_in_list P n r R is c
+stripped_cites_not P n goal (Closing (Words p R (Light turns reward y))) r is fits other (inl c) = not_in_list P n r R is c
+stripped_cites_not P n goal (Closing (Words p R (Light turns reward y))) r is fits other (inr c) =
     let day : rule_of P n ≡ Some (TheRules.Day c.0) = is ∙ ap (λ (z : Rule). Some z) c.2 in
     let has : HasWeight (without_day (Some (TheRules.Day c.0)) y) c.0 = subst (λ o. HasWeight (without_day o y) c.0) day c.1 in
     (weight_left y c.0 c.0 fits.3.0 has).1 refl
-stripped_cites_not P n Few r is fits other c = c
-stripped_cites_not P n (Free turns reward R y) r is fits other c = absurd fits
-stripped_cites_not P n Unfinished r is fits other c = c
+stripped_cites_not P n goal (Closing Few) r is fits other c = c
+stripped_cites_not P n goal Unfinished r is fits other c = c
 
 same_weights_for : (r : Rule) (y : List Weight) → AreWeights y → ((j : ℕ) → HasWeight y j → r ≡ TheRules.Day j → ⊥) → without_day (Some r) y ≡ y
 same_weights_for (TheRules.Day j) y are none = no_day_lost y j are (λ has. none j has refl)
 same_weights_for other y are none = refl
 
 -- a line that doesn't cite the rule is the same without it
-pub same_stripped : (P : Instance) (n : ℕ) (line : Line) (r : Rule) → rule_of P n ≡ Some r → LineFits P line → (Cites P line r → ⊥) → strip_line P n line ≡ line
-same_stripped P n (Dead p len R) r is fits none = ap (Dead p len) (none_left_out n R (λ c. none (n, c, is)))
-same_stripped P n (Bound p turns R y) r is fits none =
-    ap (λ l. Bound p turns l (without_day (rule_of P n) y)) (none_left_out n R (λ c. none (inl (n, c, is))))
-    ∙ ap (Bound p turns R) (ap (λ o. without_day o y) is ∙ same_weights_for r y fits.3.0 (λ j has e. none (inr (j, has, e))))
-same_stripped P n line r is fits none = refl
+pub same_stripped : (P : Instance) (n : ℕ) (goal : Option ℕ) (line : Line) (r : Rule) → rule_of P n ≡ Some r → LineFits P goal line → (Cites P line r → ⊥) → strip_line P n line ≡ line
+same_stripped P n goal (Closing (Words p R (Dead len))) r is fits none = ap (λ a. Closing (Words p a (Dead len))) (none_left_out n R (λ c. none (n, c, is)))
+same_stripped P n goal (Closing (Words p R (Light turns reward y))) r is fits none =
+    ap (λ l. Closing (Words p l (Light turns reward (without_day (rule_of P n) y)))) (none_left_out n R (λ c. none (inl (n, c, is))))
+    ∙ ap (λ a. Closing (Words p R (Light turns reward a))) (ap (λ o. without_day o y) is ∙ same_weights_for r y fits.3.0 (λ j has e. none (inr (j, has, e))))
+same_stripped P n goal line r is fits none = refl
 
 -- what tells that a strip can't change a line
 
@@ -136,21 +139,24 @@ day_none_lost r y j is none = subst (λ (z : Rule). without_day (Some z) y ≡ y
 pub not_held : (b : Bool) (C : Type 0) → (IsTrue b ↔ C) → b ≡ false → C → ⊥
 not_held b C h e c = let yes : b ≡ true = h.1 c in cc
 
-pub same_dead : (P : Instance) (n p len : ℕ) (R : List ℕ) (line : Line) → line ≡ Dead p len R → (Contains R n → ⊥) → strip_line P n line ≡ line
-same_dead P n p len R line e none = subst (λ l. strip_line P n l ≡ l) (sym e) (ap (Dead p len) (none_left_out n R none))
+pub same_light : (P : Instance) (n turns reward : ℕ) (y : List Weight) (r : Rule) (claim : WordClaim) → claim ≡ Light turns reward y → rule_of P n ≡ Some r → without_day (Some r) y ≡ y → strip_claim P n claim ≡ claim
+same_light P n turns reward y r claim e is same =
+    subst (λ c. strip_claim P n c ≡ c) (sym e) (ap (λ a. Light turns reward a) (ap (λ o. without_day o y) is ∙ same))
 
-pub same_bound : (P : Instance) (n p turns : ℕ) (R : List ℕ) (y : List Weight) (r : Rule) (line : Line) → line ≡ Bound p turns R y → rule_of P n ≡ Some r → (Contains R n → ⊥) → without_day (Some r) y ≡ y → strip_line P n line ≡ line
-same_bound P n p turns R y r line e is none same =
-    subst (λ l. strip_line P n l ≡ l) (sym e)
-    (ap (λ l. Bound p turns l (without_day (rule_of P n) y)) (none_left_out n R none) ∙ ap (Bound p turns R) (ap (λ o. without_day o y) is ∙ same))
+pub same_dead : (P : Instance) (n len : ℕ) (claim : WordClaim) → claim ≡ Dead len → strip_claim P n claim ≡ claim
+same_dead P n len claim e = subst (λ c. strip_claim P n c ≡ c) (sym e) refl
+
+pub same_words : (P : Instance) (n p : ℕ) (R : List ℕ) (claim : WordClaim) (leaf : Leaf) → leaf ≡ Words p R claim → (Contains R n → ⊥) → strip_claim P n claim ≡ claim → strip_line P n (Closing leaf) ≡ Closing leaf
+same_words P n p R claim leaf e none same =
+    subst (λ l. strip_line P n (Closing l) ≡ Closing l) (sym e)
+    (ap (λ l. Closing (Words p l (strip_claim P n claim))) (none_left_out n R none) ∙ ap (λ a. Closing (Words p R a)) same)
 
 pub plain_stays : (P : Instance) (n : ℕ) (line : Line) → is_plain (strip_line P n line) ≡ is_plain line
-plain_stays P n (Split p x) = refl
+plain_stays P n (Closing (Words p R claim)) = refl
 plain_stays P n line = refl
 
 pub plain_same : (P : Instance) (n : ℕ) (line : Line) → is_plain line ≡ true → strip_line P n line ≡ line
-plain_same P n (Dead p len R) e = absurd (cc)
-plain_same P n (Bound p turns R y) e = absurd (cc)
+plain_same P n (Closing (Words p R claim)) e = absurd (cc)
 plain_same P n line e = refl
 
 -- the test
@@ -163,32 +169,28 @@ still_named : (P : Instance) (n : ℕ) (r z : Rule) (named : List ℕ) → rule_
 still_named P n r z named is ne names =
     (names.0, still_listed n named names.0 names.1 (λ e. ne (other_rule P n names.0 r z is e names.2)), names.2)
 
-short_still : (P : Instance) (n : ℕ) (line : Line) → ListsShortOnly P line → ListsShortOnly P (strip_line P n line)
-short_still P n (Dead p len R) h = λ r c. h r (c.0, (was_listed n R c.0 c.1).0, c.2)
-short_still P n (Bound p turns R y) h = λ r c. h r (c.0, (was_listed n R c.0 c.1).0, c.2)
+pub short_still : (P : Instance) (n : ℕ) (line : Line) → ListsShortOnly P line → ListsShortOnly P (strip_line P n line)
+short_still P n (Closing (Words p R claim)) h = λ r c. h r (c.0, (was_listed n R c.0 c.1).0, c.2)
 short_still P n line h = h
 
-pub short_stripped : (P : Instance) (n : ℕ) (line : Line) → ListsShortOnly P line → ListsShortOnly P (strip_line P n line)
-short_stripped P n line h = short_still P n line h
-
 -- a plain leaf of the log isn't cited, or the line is no plain leaf
-cites_other : (P : Instance) (n k : ℕ) (r : Rule) (g : Log) (line : Line) → rule_of P n ≡ Some r → (CitesForGood P g r → ⊥) → slice_get g.lines k ≡ Some line → LineFits P line → (b : Bool) → is_plain line ≡ b → Cites P (strip_line P n line) r → ⊥
-cites_other P n k r g line is free got fits true e c = free (inr (k, line, got, e, cited_before P n line r fits c))
-cites_other P n k r g line is free got fits false e c = stripped_cites_not P n line r is fits e c
+cites_other : (P : Instance) (n k : ℕ) (r : Rule) (g : Log) (line : Line) → rule_of P n ≡ Some r → (CitesForGood P g r → ⊥) → slice_get g.lines k ≡ Some line → LineFits P g.goal line → (b : Bool) → is_plain line ≡ b → Cites P (strip_line P n line) r → ⊥
+cites_other P n k r g line is free got fits true e c = free (inr (k, line, got, e, cited_before P n g.goal line r fits c))
+cites_other P n k r g line is free got fits false e c = stripped_cites_not P n g.goal line r is fits e c
 
 pub passes_without : (P : Instance) (n : ℕ) (r : Rule) (g : Log) → rule_of P n ≡ Some r → Passes P g → (CitesForGood P g r → ⊥) → HoldsWithout P n g → Passes P (strip P n g)
 passes_without P n r g is passes free holds = record {
   grounded = record {
     fits = fits_still P n g passes.grounded.fits;
-    turn = passes.grounded.turn;
-    turn_named = λ z c. still_named P n r z g.named is (λ e. free (inl (subst (TurnCites g.turn) e c))) (passes.grounded.turn_named z c);
+    allowed = passes.grounded.allowed;
+    turn_named = λ z c. still_named P n r z g.named is (λ e. free (inl (subst (OpeningCites g.opening) e c))) (passes.grounded.turn_named z c);
     named = λ k line z got c.
         let old = line_before P n g.lines k line got in
         let fits = passes.grounded.fits.lines k old.0 old.1 in
         let cites : Cites P (strip_line P n old.0) z = subst (λ l. Cites P l z) (sym old.2) c in
         still_named P n r z g.named is
         (λ e. cites_other P n k r g old.0 is free old.1 fits (is_plain old.0) refl (subst (Cites P (strip_line P n old.0)) e cites))
-        (passes.grounded.named k old.0 z old.1 (cited_before P n old.0 z fits cites));
+        (passes.grounded.named k old.0 z old.1 (cited_before P n g.goal old.0 z fits cites));
     short = λ k line got.
         let old = line_before P n g.lines k line got in
         subst (ListsShortOnly P) old.2 (short_still P n old.0 (passes.grounded.short k old.0 old.1));
@@ -196,14 +198,14 @@ passes_without P n r g is passes free holds = record {
   tree = tree_stays P n g.lines passes.tree;
   holds = λ k line got.
       let old = line_before P n g.lines k line got in
-      subst (λ (D : Domains). Holds P D line) (sym (domains_stay P n g.turn g.lines k))
-      (subst (Holds P (domains_at P g.turn g.lines k)) old.2 (holds k old.0 old.1));
+      subst (λ (D : Domains). Holds P g.goal D line) (sym (domains_stay P n g.opening g.lines k))
+      (subst (HoldsAt P g k) old.2 (holds k old.0 old.1));
 }
 
 -- and the other way round
-pub line_without : (P : Instance) (n : ℕ) (g : Log) (k : ℕ) (line : Line) → slice_get g.lines k ≡ Some line → Passes P (strip P n g) → Holds P (domains_at P g.turn g.lines k) (strip_line P n line)
+pub line_without : (P : Instance) (n : ℕ) (g : Log) (k : ℕ) (line : Line) → slice_get g.lines k ≡ Some line → Passes P (strip P n g) → HoldsAt P g k (strip_line P n line)
 line_without P n g k line got passes =
-    subst (λ (D : Domains). Holds P D (strip_line P n line)) (domains_stay P n g.turn g.lines k)
+    subst (λ (D : Domains). Holds P g.goal D (strip_line P n line)) (domains_stay P n g.opening g.lines k)
     (passes.holds k (strip_line P n line) (line_after P n g.lines k line got))
 
 pub cited_for_good : (P : Instance) (n : ℕ) (r : Rule) (g : Log) → rule_of P n ≡ Some r → CitesForGood P g r → Passes P (strip P n g) → ⊥
@@ -220,8 +222,8 @@ cites_none P r g k line free none got false e c = none (k, line, got, e, c)
 -- a rule that nothing cites is dropped without judging anything
 pub uncited : (P : Instance) (n : ℕ) (r : Rule) (g : Log) → rule_of P n ≡ Some r → Passes P g → (CitesForGood P g r → ⊥) → (OneCites P false g.lines r → ⊥) → HoldsWithout P n g
 uncited P n r g is passes free none = λ k line got.
-    let same = same_stripped P n line r is (passes.grounded.fits.lines k line got) (cites_none P r g k line free none got (is_plain line) refl) in
-    subst (Holds P (domains_at P g.turn g.lines k)) (sym same) (passes.holds k line got)
+    let same = same_stripped P n g.goal line r is (passes.grounded.fits.lines k line got) (cites_none P r g k line free none got (is_plain line) refl) in
+    subst (HoldsAt P g k) (sym same) (passes.holds k line got)
 
 -- what the tries of a rule tell
 

@@ -13,10 +13,13 @@ use Rattle.rwsp_terms.specs.Instance.{Instance, IsDay, IsSymbol}
 use Rattle.rwsp_terms.specs.Rules.{rule_of, rules}
 use Rattle.rwsp_terms.specs.Weights.{ComesBefore, IsWeight}
 use Rattle.refutation_terms.specs.declared.lines.Line.{Line}
-use Rattle.refutation_terms.specs.declared.lines.Line.TheVariants.{Split, Day, Dead, Bound}
-use Rattle.refutation_terms.specs.declared.lines.Turn.{Turn}
+use Rattle.refutation_terms.specs.declared.lines.Line.TheVariants.{Split, Closing}
+use Rattle.refutation_terms.specs.declared.lines.Leaf.TheVariants.{Words}
+use Rattle.refutation_terms.specs.declared.lines.WordClaim.TheVariants.{Dead, Light}
+use Rattle.refutation_terms.specs.declared.lines.Opening.{Opening}
 use Rattle.refutation_terms.specs.Tree.{IsLeaf, Tree, Leaf, Node, lines_in, IsTree, after_trees, Side, side, side_of, line_leaves, lines_leave, opening, domains_at}
-use Rattle.refutation_terms.specs.Log.{Log, AreRules, AreWeightsOf, LineFits, Fits}
+use Rattle.refutation_terms.specs.Log.{Log, LineFits, Fits}
+use Rattle.refutation_terms.specs.Ranges.{AreRules, AreWeightsOf}
 use Rattle.refutation_terms.specs.Strip.{without_rule, without_day, strip_line, strip}
 use Rattle.refutation_terms.proofs.TreeDomains.{same_domains}
 
@@ -24,6 +27,7 @@ use Rattle.refutation_terms.proofs.TreeDomains.{same_domains}
 
 leaf_stays : (P : Instance) (n : ℕ) (line : Line) → IsLeaf line → IsLeaf (strip_line P n line)
 leaf_stays P n (Split p x) h = h
+leaf_stays P n (Closing (Words p R claim)) h = h
 leaf_stays P n line h = h
 
 mapped_append : (f : Line → Line) (xs ys : List Line) → map f (xs ++ ys) ≡ map f xs ++ map f ys
@@ -50,6 +54,7 @@ after_stays : (P : Instance) (n count : ℕ) (lines : List Line) → after_trees
 after_stays P n zero lines = refl
 after_stays P n (suc count) [] = refl
 after_stays P n (suc count) (Split p x ∷ lines) = after_stays P n (suc (suc count)) lines
+after_stays P n (suc count) (Closing (Words p R claim) ∷ lines) = after_stays P n count lines
 after_stays P n (suc count) (line ∷ lines) = after_stays P n count lines
 
 side_of_mapped : (f : List Line → List Line) (one two : Option (List Line)) → side_of (option_map f one) (option_map f two) ≡ side_of one two
@@ -66,6 +71,7 @@ side_stays P n between =
 
 line_leaves_same : (P : Instance) (n : ℕ) (line : Line) (s : Side) (p z : ℕ) → line_leaves (strip_line P n line) s p z ≡ line_leaves line s p z
 line_leaves_same P n (Split q x) s p z = refl
+line_leaves_same P n (Closing (Words q R claim)) s p z = refl
 line_leaves_same P n line s p z = refl
 
 lines_leave_same : (P : Instance) (n : ℕ) (lines : List Line) (p z : ℕ) → lines_leave (map (strip_line P n) lines) p z ≡ lines_leave lines p z
@@ -76,12 +82,12 @@ lines_leave_same P n (line ∷ later) p z =
     ∙ ap (λ b. b && lines_leave (map f later) p z) (line_leaves_same P n line (side later) p z)
     ∙ ap (λ b. line_leaves line (side later) p z && b) (lines_leave_same P n later p z)
 
-pub domains_stay : (P : Instance) (n : ℕ) (turn : Option Turn) (lines : List Line) (k : ℕ) → domains_at P turn (map (strip_line P n) lines) k ≡ domains_at P turn lines k
-domains_stay P n turn lines k =
-    same_domains (domains_at P turn (map (strip_line P n) lines) k) (domains_at P turn lines k)
+pub domains_stay : (P : Instance) (n : ℕ) (o : Opening) (lines : List Line) (k : ℕ) → domains_at P o (map (strip_line P n) lines) k ≡ domains_at P o lines k
+domains_stay P n o lines k =
+    same_domains (domains_at P o (map (strip_line P n) lines) k) (domains_at P o lines k)
     (λ p z.
-    ap (λ l. opening P turn p z && lines_leave l p z) (take-map (strip_line P n) k lines)
-    ∙ ap (λ b. opening P turn p z && b) (lines_leave_same P n (take k lines) p z))
+    ap (λ l. opening P o p z && lines_leave l p z) (take-map (strip_line P n) k lines)
+    ∙ ap (λ b. opening P o p z && b) (lines_leave_same P n (take k lines) p z))
 
 -- a line of the stripped log, and where it comes from
 pub line_after : (P : Instance) (n : ℕ) (lines : List Line) (k : ℕ) (line : Line) → slice_get lines k ≡ Some line → slice_get (map (strip_line P n) lines) k ≡ Some (strip_line P n line)
@@ -119,18 +125,17 @@ weights_stay : (P : Instance) (r : Option Rule) (y : List Weight) → AreWeights
 weights_stay P (Some (TheRules.Day j)) y are = weights_filtered P (λ (e : Weight). not (e.day == j)) y are
 weights_stay P other y are = are
 
-pub line_fits_still : (P : Instance) (n : ℕ) (line : Line) → LineFits P line → LineFits P (strip_line P n line)
-line_fits_still P n (Dead p len R) h = (h.0, h.1, rules_stay P n R h.2)
-line_fits_still P n (Bound p turns R y) h = (h.0, h.1, rules_stay P n R h.2, weights_stay P (rule_of P n) y h.3)
-line_fits_still P n line h = h
+pub line_fits_still : (P : Instance) (n : ℕ) (goal : Option ℕ) (line : Line) → LineFits P goal line → LineFits P goal (strip_line P n line)
+line_fits_still P n goal (Closing (Words p R (Dead len))) h = (h.0, h.1, rules_stay P n R h.2)
+line_fits_still P n goal (Closing (Words p R (Light turns reward y))) h = (h.0, h.1, rules_stay P n R h.2, weights_stay P (rule_of P n) y h.3, h.4)
+line_fits_still P n goal line h = h
 
 pub fits_still : (P : Instance) (n : ℕ) (g : Log) → Fits P g → Fits P (strip P n g)
 fits_still P n g fits = record {
   named = rules_stay P n g.named fits.named;
-  turn = fits.turn;
-  is_goal = fits.is_goal;
-  goal_fits = tt;
+  opening = fits.opening;
+  goal = fits.goal;
   lines = λ k line got.
       let old = line_before P n g.lines k line got in
-      subst (LineFits P) old.2 (line_fits_still P n old.0 (fits.lines k old.0 old.1));
+      subst (LineFits P g.goal) old.2 (line_fits_still P n g.goal old.0 (fits.lines k old.0 old.1));
 }

@@ -9,11 +9,14 @@ use Rattle.rwsp_terms.specs.Instance.{Instance}
 use Rattle.rwsp_terms.specs.Rules.{rule_of, rules, Names, NamesShortOnly}
 use Rattle.rwsp_model.proofs.Numbering.{one_number}
 use Rattle.refutation_terms.specs.declared.lines.Line.{Line}
-use Rattle.refutation_terms.specs.declared.lines.Line.TheVariants.{Split, Window, Day, Dead, Bound, Few, Free, Unfinished}
+use Rattle.refutation_terms.specs.declared.lines.Line.TheVariants.{Split, Unfinished, Closing}
+use Rattle.refutation_terms.specs.declared.lines.Leaf.TheVariants.{Window, Day, Few, Words}
+use Rattle.refutation_terms.specs.declared.lines.WordClaim.TheVariants.{Dead, Light}
 use Rattle.refutation_terms.specs.Word.{Domains}
-use Rattle.refutation_terms.specs.Leaf.{IsTooLight}
+use Rattle.refutation_terms.specs.WordsLeaf.{IsTooLight}
 use Rattle.refutation_terms.specs.Tree.{IsTree, domains_at}
-use Rattle.refutation_terms.specs.Log.{Log, AreRules, LineFits, Fits, Holds, HasWeight, Cites, ListsShortOnly, Passes}
+use Rattle.refutation_terms.specs.Log.{Log, LineFits, Fits, Holds, Cites, ListsShortOnly, Passes}
+use Rattle.refutation_terms.specs.Ranges.{AreRules, HasWeight}
 use Rattle.refutation_terms.specs.Strip.{without_rule, without_day, strip_line, strip}
 use Rattle.refutation_terms.proofs.Windows.{clean-fewer}
 use Rattle.refutation_log.proofs.CitedRules.{rule_there}
@@ -29,8 +32,7 @@ abbrev pub ListIsNamed : Instance → List ℕ → List ℕ → Type 0
 ListIsNamed P named R = ((k : ℕ) → Contains R k → Contains named k) × NamesShortOnly P R
 
 abbrev pub ListsAreNamed : Instance → List ℕ → Line → Type 0
-ListsAreNamed P named (Dead p len R) = ListIsNamed P named R
-ListsAreNamed P named (Bound p turns R y) = ListIsNamed P named R
+ListsAreNamed P named (Closing (Words p R claim)) = ListIsNamed P named R
 ListsAreNamed P named line = Unit {0}
 
 -- a log with all that passing asks for, except what strips may change
@@ -49,8 +51,7 @@ list_stays P n named R h = (
 )
 
 lists_stay : (P : Instance) (n : ℕ) (named : List ℕ) (line : Line) → ListsAreNamed P named line → ListsAreNamed P (without_rule n named) (strip_line P n line)
-lists_stay P n named (Dead p len R) h = list_stays P n named R h
-lists_stay P n named (Bound p turns R y) h = list_stays P n named R h
+lists_stay P n named (Closing (Words p R claim)) h = list_stays P n named R h
 lists_stay P n named line h = h
 
 laid_out_still : (P : Instance) (n : ℕ) (g : Log) → IsLaidOut P g → IsLaidOut P (strip P n g)
@@ -70,17 +71,17 @@ list_named P named R are h k c =
     let m = h r.0 (k, c, r.1) in
     subst (Contains named) (one_number P m.0 k r.0 m.2 r.1) m.1
 
-lists_named : (P : Instance) (named : List ℕ) (line : Line) → LineFits P line → ((r : Rule) → Cites P line r → Names P named r) → ListsShortOnly P line → ListsAreNamed P named line
-lists_named P named (Dead p len R) fits h short = (list_named P named R fits.2 h, short)
-lists_named P named (Bound p turns R y) fits h short = (list_named P named R fits.2 (λ r c. h r (inl c)), short)
-lists_named P named line fits h short = tt
+lists_named : (P : Instance) (named : List ℕ) (goal : Option ℕ) (line : Line) → LineFits P goal line → ((r : Rule) → Cites P line r → Names P named r) → ListsShortOnly P line → ListsAreNamed P named line
+lists_named P named goal (Closing (Words p R (Dead len))) fits h short = (list_named P named R fits.2 h, short)
+lists_named P named goal (Closing (Words p R (Light turns reward y))) fits h short = (list_named P named R fits.2 (λ r c. h r (inl c)), short)
+lists_named P named goal line fits h short = tt
 
 passing_laid_out : (P : Instance) (g : Log) → Passes P g → IsLaidOut P g
 passing_laid_out P g passes = record {
   fits = passes.grounded.fits;
   tree = passes.tree;
   listed = λ k line got.
-      lists_named P g.named line (passes.grounded.fits.lines k line got) (λ r c. passes.grounded.named k line r got c) (passes.grounded.short k line got);
+      lists_named P g.named g.goal line (passes.grounded.fits.lines k line got) (λ r c. passes.grounded.named k line r got c) (passes.grounded.short k line got);
 }
 
 -- a window rule takes no weights along
@@ -91,45 +92,42 @@ no_day other y h = refl
 -- the rules that a line cites are named where those are that it cites without one rule
 line_named : (P : Instance) (n : ℕ) (named : List ℕ) (line : Line) → IsWindowRule P n → ListsAreNamed P named line → ((r : Rule) → Cites P (strip_line P n line) r → Names P (without_rule n named) r) → (r : Rule) → Cites P line r → Names P named r
 line_named P n named (Split p x) window lists h r c = absurd c
-line_named P n named (Window number p len) window lists h r c = more_named P n named r (h r c)
-line_named P n named (Day j x over) window lists h r c = more_named P n named r (h r c)
-line_named P n named (Dead p len R) window lists h r c = (c.0, lists.0 c.0 c.1, c.2)
-line_named P n named (Bound p turns R y) window lists h r (inl c) = (c.0, lists.0 c.0 c.1, c.2)
-line_named P n named (Bound p turns R y) window lists h r (inr c) =
+line_named P n named (Closing (Window number p len)) window lists h r c = more_named P n named r (h r c)
+line_named P n named (Closing (Day j x over)) window lists h r c = more_named P n named r (h r c)
+line_named P n named (Closing (Words p R (Dead len))) window lists h r c = (c.0, lists.0 c.0 c.1, c.2)
+line_named P n named (Closing (Words p R (Light turns reward y))) window lists h r (inl c) = (c.0, lists.0 c.0 c.1, c.2)
+line_named P n named (Closing (Words p R (Light turns reward y))) window lists h r (inr c) =
     more_named P n named r (h r (inr (c.0, subst (λ z. HasWeight z c.0) (sym (no_day (rule_of P n) y window)) c.1, c.2)))
-line_named P n named Few window lists h r c = absurd c
-line_named P n named (Free turns reward R y) window lists h r c = more_named P n named r (h r c)
+line_named P n named (Closing Few) window lists h r c = absurd c
 line_named P n named Unfinished window lists h r c = absurd c
 
-lists_short : (P : Instance) (named : List ℕ) (line : Line) → LineFits P line → ListsAreNamed P named line → ListsShortOnly P line
-lists_short P named (Dead p len R) fits h = h.1
-lists_short P named (Bound p turns R y) fits h = h.1
-lists_short P named (Free turns reward R y) fits h = absurd fits
-lists_short P named line fits h = h
+lists_short : (P : Instance) (named : List ℕ) (line : Line) → ListsAreNamed P named line → ListsShortOnly P line
+lists_short P named (Closing (Words p R claim)) h = h.1
+lists_short P named line h = h
 
 -- a line that holds without a window rule holds with it
-holds_with : (P : Instance) (n : ℕ) (D : Domains) (line : Line) → IsWindowRule P n → Holds P D (strip_line P n line) → Holds P D line
-holds_with P n D (Dead p len R) window h = λ u long over clean. h u long over (clean-fewer P R (without_rule n R) u (λ k c. (was_listed n R k c).0) clean)
-holds_with P n D (Bound p turns R y) window h = λ u long over clean.
-    let light : IsTooLight P D p turns (without_rule n R) y = subst (λ z. IsTooLight P D p turns (without_rule n R) z) (no_day (rule_of P n) y window) h in
+holds_with : (P : Instance) (n : ℕ) (goal : Option ℕ) (D : Domains) (line : Line) → IsWindowRule P n → Holds P goal D (strip_line P n line) → Holds P goal D line
+holds_with P n goal D (Closing (Words p R (Dead len))) window h = λ u long over clean. h u long over (clean-fewer P R (without_rule n R) u (λ k c. (was_listed n R k c).0) clean)
+holds_with P n goal D (Closing (Words p R (Light turns reward y))) window h = λ u long over clean.
+    let light : IsTooLight P goal D p turns reward (without_rule n R) y = subst (λ z. IsTooLight P goal D p turns reward (without_rule n R) z) (no_day (rule_of P n) y window) h in
     light u long over (clean-fewer P R (without_rule n R) u (λ k c. (was_listed n R k c).0) clean)
-holds_with P n D line window h = h
+holds_with P n goal D line window h = h
 
 passes_with : (P : Instance) (n : ℕ) (g : Log) → IsLaidOut P g → IsWindowRule P n → Passes P (strip P n g) → Passes P g
 passes_with P n g laid window passes = record {
   grounded = record {
     fits = laid.fits;
-    turn = passes.grounded.turn;
+    allowed = passes.grounded.allowed;
     turn_named = λ r c. more_named P n g.named r (passes.grounded.turn_named r c);
     named = λ k line r got c.
         line_named P n g.named line window (laid.listed k line got)
         (λ z cited. passes.grounded.named k (strip_line P n line) z (line_after P n g.lines k line got) cited) r c;
-    short = λ k line got. lists_short P g.named line (laid.fits.lines k line got) (laid.listed k line got);
+    short = λ k line got. lists_short P g.named line (laid.listed k line got);
   };
   tree = laid.tree;
   holds = λ k line got.
-      holds_with P n (domains_at P g.turn g.lines k) line window
-      (subst (λ (D : Domains). Holds P D (strip_line P n line)) (domains_stay P n g.turn g.lines k) (passes.holds k (strip_line P n line) (line_after P n g.lines k line got)));
+      holds_with P n g.goal (domains_at P g.opening g.lines k) line window
+      (subst (λ (D : Domains). Holds P g.goal D (strip_line P n line)) (domains_stay P n g.opening g.lines k) (passes.holds k (strip_line P n line) (line_after P n g.lines k line got)));
 }
 
 passes_with_all : (P : Instance) (numbers : List ℕ) (g : Log) → IsLaidOut P g → All (IsWindowRule P) numbers → Passes P (strip_all P numbers g) → Passes P g

@@ -4,13 +4,14 @@ use Rattle.rwsp_terms.specs.declared.data.Rule.{Rule}
 use Rattle.rwsp_terms.specs.Instance.{Instance}
 use Rattle.rwsp_terms.specs.Rules.{Names}
 use Rattle.refutation_terms.specs.declared.lines.Line.{Line}
-use Rattle.refutation_terms.specs.declared.lines.Line.TheVariants.{Window, Day, Dead, Bound}
-use Rattle.refutation_terms.specs.Log.{Log, Cites, TurnCites}
+use Rattle.refutation_terms.specs.declared.lines.Line.TheVariants.{Closing}
+use Rattle.refutation_terms.specs.declared.lines.Leaf.TheVariants.{Window, Day, Words}
+use Rattle.refutation_terms.specs.Log.{Log, Cites, OpeningCites}
 
 -- a window or a day leaf, which rests on one rule by itself and not by a list
 abbrev pub is_plain : Line → Bool
-is_plain (Window number p len) = true
-is_plain (Day j x over) = true
+is_plain (Closing (Window number p len)) = true
+is_plain (Closing (Day j x over)) = true
 is_plain line = false
 
 -- one of the lines, a plain leaf or another line, cites the rule
@@ -20,7 +21,7 @@ OneCites P plain lines r =
 
 -- a plain leaf or the turn cites the rule, and no strip takes it out there
 abbrev pub CitesForGood : Instance → Log → Rule → Type 0
-CitesForGood P g r = TurnCites g.turn r ⊎ OneCites P true g.lines r
+CitesForGood P g r = OpeningCites g.opening r ⊎ OneCites P true g.lines r
 
 -- the first list names the rules that are cited for good; the second names each rule that another line cites, and maybe
 -- rules that lines cited once
@@ -28,8 +29,7 @@ pub record AreCited (P : Instance) (g : Log) (for_good in_lists : List ℕ) : Ty
   pub lasting : (r : Rule) → Names P for_good r ↔ CitesForGood P g r
   pub listed : (r : Rule) → OneCites P false g.lines r → Names P in_lists r
 
--- a dead or a bound leaf, which rests on a list of rules
+-- a leaf of words, which rests on a list of rules
 abbrev pub HasList : Line → Type 0
-HasList (Dead p len R) = Unit {0}
-HasList (Bound p turns R y) = Unit {0}
+HasList (Closing (Words p R claim)) = Unit {0}
 HasList line = ⊥

@@ -3,12 +3,12 @@ ghost use Rattle.std.specs.Prelude.{◌≡◌, ◌↔◌, ◌⊎◌, ℕ, slice_
 ghost use Rattle.rwsp_terms.specs.declared.data.Rule.{Rule};
 ghost use Rattle.rwsp_terms.specs.Rules.{Names};
 ghost use Rattle.refutation_terms.specs.declared.lines.Line.{Line};
-ghost use Rattle.refutation_terms.specs.Log.{Fits, LineFits, TurnFits, Cites, TurnCites};
+ghost use Rattle.refutation_terms.specs.Log.{Fits, LineFits, OpeningFits, Cites, OpeningCites};
 ghost use Rattle.rule_reducer.specs.Citing.{is_plain, OneCites, AreCited};
 
 use crate::shrinking_log::ShrinkingLog;
-use refutation_log::{Turn, put_cited, put_turn_cited};
-use refutation_terms::Line;
+use refutation_log::{put_cited, put_opening_cited};
+use refutation_terms::{Leaf, Line, Opening};
 use rwsp_model::Problem;
 use rwsp_terms::RuleList;
 use std::alloc::{AllocError, Global};
@@ -18,7 +18,7 @@ use std::alloc::{AllocError, Global};
 pub struct Citations {
     /// Those that the turn or a window or a day leaf cites: no strip takes them out there.
     pub for_good: RuleList,
-    /// Those that dead and bound leaves cite by their lists and their weights.
+    /// Those that leaves of words cite by their lists and their weights.
     pub in_lists: RuleList,
 }
 
@@ -27,14 +27,14 @@ fn is_plain(line: &Line) -> bool
     ensures { result ≡ is_plain line.now }
 {
     match line {
-        Line::Window { .. } | Line::Day { .. } => true,
+        Line::Closing(Leaf::Window { .. }) | Line::Closing(Leaf::Day { .. }) => true,
         _ => false,
     }
 }
 
 // Puts the rule that a plain leaf cites into the list.
 fn put_plain(rules: &mut RuleList, problem: &Problem, line: &Line) -> Result<(), AllocError>
-    requires { LineFits problem.now line.now }
+    requires { (goal : Option ℕ) × LineFits problem.now goal line.now }
     ensures { OnOk result ((r : Rule) →
         Names problem.now rules.new r ↔
         (Names problem.now rules.old r ⊎ ((is_plain line.now ≡ true) × Cites problem.now line.now r))) }
@@ -47,7 +47,7 @@ fn put_plain(rules: &mut RuleList, problem: &Problem, line: &Line) -> Result<(),
 
 // Puts the rules that a line cites which is no plain leaf into the list.
 fn put_listed(rules: &mut RuleList, problem: &Problem, line: &Line) -> Result<(), AllocError>
-    requires { LineFits problem.now line.now }
+    requires { (goal : Option ℕ) × LineFits problem.now goal line.now }
     ensures { OnOk result ((r : Rule) →
         Names problem.now rules.new r ↔
         (Names problem.now rules.old r ⊎ ((is_plain line.now ≡ false) × Cites problem.now line.now r))) }
@@ -65,7 +65,8 @@ fn put_all(
     problem: &Problem,
     lines: &[Line],
 ) -> Result<(), AllocError>
-    requires { (k : ℕ) (line : Line) → slice_get lines.now k ≡ Some line → LineFits problem.now line }
+    requires { (goal : Option ℕ)
+        × ((k : ℕ) (line : Line) → slice_get lines.now k ≡ Some line → LineFits problem.now goal line) }
     ensures plain { OnOk result ((r : Rule) →
         Names problem.now plain.new r ↔ (Names problem.now plain.old r ⊎ OneCites problem.now true lines.now r)) }
     ensures listed { OnOk result ((r : Rule) →
@@ -78,20 +79,17 @@ fn put_all(
     Ok(())
 }
 
-// The rule that a turn cites.
-fn turn_citation(
+// The rule that an opening cites, that of the day of its turn.
+fn opening_citation(
     alloc: Global,
     problem: &Problem,
-    turn: Option<Turn>,
+    opening: Opening,
 ) -> Result<RuleList, AllocError>
-    requires { TurnFits problem.now turn }
-    ensures { IfOk result (λ rules. (r : Rule) → Names problem.now rules r ↔ TurnCites turn r) }
+    requires { OpeningFits problem.now opening }
+    ensures { IfOk result (λ rules. (r : Rule) → Names problem.now rules r ↔ OpeningCites opening r) }
 {
     let mut rules = RuleList::new(alloc);
-    if let Some(turn) = turn {
-        put_turn_cited(&mut rules, problem, turn)?;
-        return Ok(rules);
-    }
+    put_opening_cited(&mut rules, problem, opening)?;
     Ok(rules)
 }
 
@@ -104,7 +102,7 @@ pub fn citations_of(
     requires { Fits problem.now log.now }
     ensures { IfOk result (λ cited. AreCited problem.now log.now cited.for_good cited.in_lists) }
 {
-    let mut for_good = turn_citation(alloc, problem, log.turn())?;
+    let mut for_good = opening_citation(alloc, problem, log.opening())?;
     let mut in_lists = RuleList::new(alloc);
     put_all(&mut for_good, &mut in_lists, problem, log.lines())?;
     Ok(Citations { for_good, in_lists })

@@ -4,7 +4,7 @@ ghost use Rattle.rwsp_model.specs.Refusals.{MatchAnswer};
 ghost use Rattle.refutation_terms.specs.Log.{Fits, Passes};
 ghost use Rattle.refutation_terms.specs.LogText.{log_text};
 ghost use Rattle.refutation_terms.specs.Strip.{IsReduced};
-ghost use Rattle.refutation_terms.specs.Verdict.{IsRefused};
+ghost use Rattle.refutation_terms.specs.Verdict.{kind_by, IsRefused};
 ghost use Rattle.rule_reducer.specs.Citing.{AreCited};
 ghost use Rattle.refutation_log.specs.Needs.{NeedsEach, NeedsTogether};
 
@@ -56,14 +56,14 @@ fn descend_all(
 /// pass is refused, with the cause that checking its text gives.
 ///
 /// A strip leaves the domains at each line as they are. So a rule that no line cites is dropped, and one that a window
-/// or a day leaf or the turn cites is kept, without judging anything; for each other rule the dead and bound leaves
-/// that list it are judged without it, up to the first that doesn't hold. The log loses its rules in place, so beside
+/// or a day leaf or the turn cites is kept, without judging anything; for each other rule the leaves of words that list
+/// it are judged without it, up to the first that doesn't hold. The log loses its rules in place, so beside
 /// it there is memory for a line at a time.
 pub fn reduce_in_place(alloc: Global, problem: &Problem, log: Log) -> Result<Log, Fail<LogRefusal>>
     requires { Fits problem.now log }
     ensures reduced { MatchAnswer result
         (λ g. IsReduced problem.now log g)
-        (IsRefused problem.now (log_text problem.now log)) }
+        (IsRefused problem.now (kind_by log.goal) (log_text problem.now log)) }
     ensures accepted { IfOk result (λ g. Passes problem.now log) }
     ensures passes { IfOk result (Passes problem.now) }
     ensures fits { IfOk result (Fits problem.now) }
@@ -84,7 +84,7 @@ pub fn reduce(alloc: Global, problem: &Problem, log: &Log) -> Result<Log, Fail<L
     requires { Fits problem.now log.now }
     ensures reduced { MatchAnswer result
         (λ g. IsReduced problem.now log.now g)
-        (IsRefused problem.now (log_text problem.now log.now)) }
+        (IsRefused problem.now (kind_by log.now.goal) (log_text problem.now log.now)) }
     ensures accepted { IfOk result (λ g. Passes problem.now log.now) }
     ensures passes { IfOk result (Passes problem.now) }
     ensures fits { IfOk result (Fits problem.now) }

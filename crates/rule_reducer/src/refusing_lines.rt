@@ -1,13 +1,13 @@
-// The lines of a log that refuse a strip: dead and bound leaves that don't hold without the rule.
-ghost use Rattle.std.specs.Prelude.{◌≡◌, ◌<◌, ◌≤◌, List, [], length, take, Option, Some, IsTrue, IfOk, MatchOption, MatchBool};
+// The lines of a log that refuse a strip: leaves of words that don't hold without the rule.
+ghost use Rattle.std.specs.Prelude.{◌≡◌, ◌<◌, ◌≤◌, List, [], length, take, Some, IsTrue, IfOk, MatchOption, MatchBool};
 ghost use Rattle.rwsp_terms.specs.Rules.{rule_of};
 ghost use Rattle.refutation_terms.specs.declared.lines.Line.{Line};
-ghost use Rattle.refutation_terms.specs.declared.lines.Turn.{Turn};
+ghost use Rattle.refutation_terms.specs.declared.lines.Opening.{Opening};
 ghost use Rattle.refutation_terms.specs.Tree.{domains_at};
-ghost use Rattle.refutation_terms.specs.Log.{LineFits, ListsShortOnly, Holds, Passes};
+ghost use Rattle.refutation_terms.specs.Log.{Fits, LineFits, ListsShortOnly, Holds, Passes};
 ghost use Rattle.refutation_terms.specs.Strip.{strip, strip_line};
 ghost use Rattle.domain_store.specs.States.{IsStateOf};
-ghost use Rattle.rule_reducer.specs.Without.{HoldsWithout};
+ghost use Rattle.rule_reducer.specs.Without.{judging, HoldsWithout};
 
 use crate::shrinking_log::ShrinkingLog;
 use crate::stripped_lines::{lists, strip_line};
@@ -28,18 +28,18 @@ fn refuses(
     number: u32,
     rule: Rule,
 ) -> Result<bool, AllocError>
-    requires state { (turn : Option Turn) × (lines : List Line) × IsStateOf judge.old turn lines walk.now }
-    requires fits { LineFits judge.old line.now }
-    requires short { ListsShortOnly judge.old line.now }
-    requires rule { rule_of judge.old number ≡ Some rule }
+    requires state { (o : Opening) × (lines : List Line) × IsStateOf judge.old.problem o lines walk.now }
+    requires fits { LineFits judge.old.problem judge.old.goal line.now }
+    requires short { ListsShortOnly judge.old.problem line.now }
+    requires rule { rule_of judge.old.problem number ≡ Some rule }
     ensures same { judge.new ≡ judge.old }
-    ensures refuses { IfOk result (λ yes. (turn : Option Turn) (lines : List Line) →
-        IsStateOf judge.old turn lines walk.now →
-        let D = domains_at judge.old turn lines (length lines) in
-        Holds judge.old D line.now →
+    ensures refuses { IfOk result (λ yes. (o : Opening) (lines : List Line) →
+        IsStateOf judge.old.problem o lines walk.now →
+        let D = domains_at judge.old.problem o lines (length lines) in
+        Holds judge.old.problem judge.old.goal D line.now →
         MatchBool yes
-        (Holds judge.old D (strip_line judge.old number line.now) → ⊥)
-        (Holds judge.old D (strip_line judge.old number line.now))) }
+        (Holds judge.old.problem judge.old.goal D (strip_line judge.old.problem number line.now) → ⊥)
+        (Holds judge.old.problem judge.old.goal D (strip_line judge.old.problem number line.now))) }
 {
     if lists(line, number, rule) {
         let stripped = strip_line(alloc, line, number, rule)?;
@@ -51,6 +51,14 @@ fn refuses(
     Ok(false)
 }
 
+// A judge of the leaves of the log.
+fn judge_of<'a>(problem: &'a Problem, log: &'a ShrinkingLog) -> LeafJudge<'a>
+    requires { Fits problem.now log.now }
+    ensures { result ≡ judging problem.now log.now }
+{
+    LeafJudge::new(problem, log.named(), log.goal())
+}
+
 // The walk to a place among the lines of a log that passes, without judging any.
 fn walk_to(
     alloc: Global,
@@ -60,10 +68,10 @@ fn walk_to(
 ) -> Result<Walk, AllocError>
     requires passes { Passes problem.now log.now }
     requires place { place ≤ length log.now.lines }
-    ensures { IfOk result (IsStateOf problem.now log.now.turn (take place log.now.lines)) }
+    ensures { IfOk result (IsStateOf problem.now log.now.opening (take place log.now.lines)) }
 {
     let lines = log.lines();
-    let mut walk = Walk::new(alloc, problem, log.turn())?;
+    let mut walk = Walk::new(alloc, problem, log.opening())?;
     for i in 0..place {
         go_past(&mut walk, problem, &lines[i])?;
     }
@@ -110,7 +118,7 @@ fn refuses_behind(
 {
     let lines = log.lines();
     let walk = walk_to(alloc, problem, log, place)?;
-    let mut judge = LeafJudge::new(problem, log.named());
+    let mut judge = judge_of(problem, log);
     let refused = refuses(alloc, &mut judge, &walk, &lines[place], number, rule);
     drop(judge);
     drop(walk);
@@ -132,8 +140,8 @@ pub fn refusing_line(
         (HoldsWithout problem.now number log.now)
         (λ k. Passes problem.now (strip problem.now number log.now) → ⊥)) }
 {
-    let mut walk = Walk::new(alloc, problem, log.turn())?;
-    let mut judge = LeafJudge::new(problem, log.named());
+    let mut walk = Walk::new(alloc, problem, log.opening())?;
+    let mut judge = judge_of(problem, log);
     let found = first_refusing(alloc, problem, log, &mut judge, &mut walk, number, rule);
     drop(judge);
     drop(walk);
@@ -152,8 +160,8 @@ fn first_refusing(
 ) -> Result<Option<usize>, AllocError>
     requires passes { Passes problem.now log.now }
     requires rule { rule_of problem.now number ≡ Some rule }
-    requires judge { judge.old ≡ problem.now }
-    requires walk { IsStateOf problem.now log.now.turn [] walk.old }
+    requires judge { judge.old ≡ judging problem.now log.now }
+    requires walk { IsStateOf problem.now log.now.opening [] walk.old }
     ensures { IfOk result (λ found. MatchOption found
         (HoldsWithout problem.now number log.now)
         (λ k. Passes problem.now (strip problem.now number log.now) → ⊥)) }

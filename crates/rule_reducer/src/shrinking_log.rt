@@ -1,5 +1,5 @@
 // A log that loses rules in place.
-ghost use Rattle.std.specs.Prelude.{◌≡◌, ◌≤◌, ℕ, length, map, Option, Some, None, IfOk, OnOk};
+ghost use Rattle.std.specs.Prelude.{◌≡◌, ◌≤◌, ℕ, length, map, Option, Some, IfOk, OnOk};
 ghost use Rattle.rwsp_terms.specs.Instance.{Instance};
 ghost use Rattle.rwsp_terms.specs.Rules.{rule_of};
 ghost use Rattle.refutation_terms.specs.Tree.{IsTree};
@@ -7,29 +7,30 @@ ghost use Rattle.refutation_terms.specs.Strip.{strip, strip_line};
 
 use crate::lists::without;
 use crate::stripped_lines::strip_lines;
-use refutation_log::{Log, Turn};
-use refutation_terms::Line;
+use refutation_log::Log;
+use refutation_terms::{Line, Opening};
 use rwsp_terms::{Rule, RuleList};
 use std::alloc::{AllocError, Global};
 use std::marker::Model;
 
-/// A log without a goal, from which rules are taken out in place. A strip costs one pass over the lines, and memory for
-/// one line at a time.
+/// A log from which rules are taken out in place. A strip costs one pass over the lines, and memory for one line at a
+/// time.
 #[derive(Drop)]
 pub struct ShrinkingLog {
     named: RuleList,
-    turn: Option<Turn>,
+    opening: Opening,
+    goal: Option<u32>,
     lines: Vec<Line>,
 }
 
 impl Model for ShrinkingLog {
-    ghost use Rattle.std.specs.Prelude.{◌≤◌, length, None};
+    ghost use Rattle.std.specs.Prelude.{◌≤◌, length};
     ghost use Rattle.rwsp_terms.specs.declared.limits.TheConstants.{MOST_LINES};
     ghost use Rattle.refutation_terms.specs.Log.{Log as LogValue};
 
     ghost Value = { LogValue };
 
-    ghost view = { λ g. record { named = g.named; turn = g.turn; goal = None; lines = g.lines.items } };
+    ghost view = { λ g. record { named = g.named; opening = g.opening; goal = g.goal; lines = g.lines.items } };
 
     ghost invariant = { λ g. length g.lines.items ≤ MOST_LINES };
 }
@@ -37,11 +38,15 @@ impl Model for ShrinkingLog {
 impl ShrinkingLog {
     /// The log, to lose rules.
     pub fn of(log: Log) -> ShrinkingLog
-        requires { log.goal ≡ None }
         ensures { result ≡ log }
     {
-        let (named, turn, _, lines) = log.into_parts();
-        ShrinkingLog { named, turn, lines }
+        let (named, opening, goal, lines) = log.into_parts();
+        ShrinkingLog {
+            named,
+            opening,
+            goal,
+            lines,
+        }
     }
 
     /// The rules that it names.
@@ -51,11 +56,18 @@ impl ShrinkingLog {
         &self.named
     }
 
-    /// Its turn, if it has one.
-    pub fn turn(&self) -> Option<Turn>
-        ensures { result ≡ self.now.turn }
+    /// What is known before its first line.
+    pub fn opening(&self) -> Opening
+        ensures { result ≡ self.now.opening }
     {
-        self.turn
+        self.opening
+    }
+
+    /// Its goal, if it has one.
+    pub fn goal(&self) -> Option<u32>
+        ensures { result ≡ self.now.goal }
+    {
+        self.goal
     }
 
     /// Its lines.
@@ -80,6 +92,6 @@ impl ShrinkingLog {
         requires { IsTree self.lines }
         ensures { result ≡ self }
     {
-        Log::of(self.named, self.turn, self.lines)
+        Log::new(self.named, self.opening, self.goal, self.lines)
     }
 }

@@ -1,14 +1,14 @@
 // Lines without one rule.
-ghost use Rattle.std.specs.Prelude.{◌≡◌, map, Some, IsTrue, false, IfOk, OnOk, All, ◌≢◌};
+ghost use Rattle.std.specs.Prelude.{◌≡◌, ℕ, map, Some, IsTrue, false, IfOk, OnOk, All, ◌≢◌};
 ghost use Rattle.rwsp_terms.specs.Instance.{Instance};
 ghost use Rattle.rwsp_terms.specs.Rules.{rule_of};
 ghost use Rattle.rwsp_terms.specs.declared.data.Weight.{Weight};
-ghost use Rattle.refutation_terms.specs.Strip.{strip_line, without_day};
+ghost use Rattle.refutation_terms.specs.Strip.{strip_line, strip_claim, without_day};
 ghost use Rattle.rule_reducer.specs.Citing.{HasList};
 
 use crate::lists::{weights_without, without};
 use refutation_log::copy_line;
-use refutation_terms::Line;
+use refutation_terms::{Leaf, Line, WordClaim};
 use rwsp_terms::{Rule, Weights};
 use std::alloc::{AllocError, Global};
 
@@ -34,22 +34,65 @@ fn loses_weights(weights: &Weights, rule: Rule) -> bool
     }
 }
 
-/// Whether a strip of the rule, which has this number, can change the line: a dead or a bound leaf that lists the rule,
-/// or has weights on its day.
+// Whether a strip of the rule can change the claim, which weighs something on its day.
+fn claim_loses_weights(claim: &WordClaim, rule: Rule) -> bool
+    ensures { (result ≡ false) → (P : Instance) (number : ℕ) →
+        rule_of P number ≡ Some rule → strip_claim P number claim.now ≡ claim.now }
+{
+    match claim {
+        WordClaim::Dead { .. } => false,
+        WordClaim::Light { weights, .. } => loses_weights(weights, rule),
+    }
+}
+
+/// Whether a strip of the rule, which has this number, can change the line: a leaf of words that lists the rule, or has
+/// weights on its day.
 pub fn lists(line: &Line, number: u32, rule: Rule) -> bool
     ensures leaf { IsTrue result → HasList line.now }
     ensures same { (result ≡ false) → (P : Instance) →
         rule_of P number ≡ Some rule → strip_line P number line.now ≡ line.now }
 {
     match line {
-        Line::Dead { rules, .. } => rules.holds(number),
-        Line::Bound { rules, weights, .. } => {
+        Line::Closing(leaf) => leaf_lists(leaf, number, rule),
+        _ => false,
+    }
+}
+
+fn leaf_lists(leaf: &Leaf, number: u32, rule: Rule) -> bool
+    ensures leaf { IsTrue result → HasList (Line.Closing leaf.now) }
+    ensures same { (result ≡ false) → (P : Instance) → rule_of P number ≡ Some rule →
+        strip_line P number (Line.Closing leaf.now) ≡ Line.Closing leaf.now }
+{
+    match leaf {
+        Leaf::Words { rules, claim, .. } => {
             if rules.holds(number) {
                 return true;
             }
-            loses_weights(weights, rule)
+            claim_loses_weights(claim, rule)
         }
         _ => false,
+    }
+}
+
+// The claim without the rule.
+fn strip_claim(alloc: Global, claim: &WordClaim, rule: Rule) -> Result<WordClaim, AllocError>
+    ensures { IfOk result (λ kept. (P : Instance) (number : ℕ) →
+        rule_of P number ≡ Some rule → kept ≡ strip_claim P number claim.now) }
+{
+    match claim {
+        WordClaim::Dead { len } => Ok(WordClaim::Dead { len: *len }),
+        WordClaim::Light {
+            turns,
+            reward,
+            weights,
+        } => {
+            let weights = weights_without(alloc, weights, rule)?;
+            Ok(WordClaim::Light {
+                turns: *turns,
+                reward: *reward,
+                weights,
+            })
+        }
     }
 }
 
@@ -59,28 +102,14 @@ pub fn strip_line(alloc: Global, line: &Line, number: u32, rule: Rule) -> Result
         rule_of P number ≡ Some rule → kept ≡ strip_line P number line.now) }
 {
     match line {
-        Line::Dead { p, len, rules } => {
+        Line::Closing(Leaf::Words { p, rules, claim }) => {
             let rules = without(alloc, rules, number)?;
-            Ok(Line::Dead {
+            let claim = strip_claim(alloc, claim, rule)?;
+            Ok(Line::Closing(Leaf::Words {
                 p: *p,
-                len: *len,
                 rules,
-            })
-        }
-        Line::Bound {
-            p,
-            turns,
-            rules,
-            weights,
-        } => {
-            let rules = without(alloc, rules, number)?;
-            let weights = weights_without(alloc, weights, rule)?;
-            Ok(Line::Bound {
-                p: *p,
-                turns: *turns,
-                rules,
-                weights,
-            })
+                claim,
+            }))
         }
         _ => copy_line(line),
     }

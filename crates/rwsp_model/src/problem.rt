@@ -1,10 +1,11 @@
-ghost use Rattle.std.specs.Prelude.{◌≡◌, ◌+◌, ◌-◌, ◌*◌, ◌<◌, ◌≤◌, ◌≤ℤ◌, pos, neg_ℤ, length, Option, Some, None, MatchResult, IfOk, IfSome, slice_get, position};
+ghost use Rattle.std.specs.Prelude.{◌≡◌, ◌+◌, ◌-◌, ◌*◌, ◌<◌, ◌≤◌, ◌≤ℤ◌, pos, neg_ℤ, length, All, Option, Some, None, MatchResult, IfOk, IfSome, slice_get, position};
 ghost use Rattle.std.specs.Option.{option_map};
 ghost use Rattle.std.specs.Str.{bytes_eq};
-ghost use Rattle.rwsp_terms.specs.declared.limits.TheConstants.{MOST_WEEKS, MOST_CELLS};
+ghost use Rattle.rwsp_terms.specs.declared.limits.TheConstants.{MOST_WEEKS, MOST_CELLS, MOST_SEQUENCES};
 ghost use Rattle.rwsp_terms.specs.Instance.{bounds, shift_count, cells, symbol_of, name_of, name_among, least, greatest, IsClass, IsSymbol, IsShift, IsDay};
 ghost use Rattle.rwsp_model.specs.Parts.{instance_of};
 ghost use Rattle.rwsp_model.specs.Validity.{refusal_of, IsValid, KeepsLimits};
+ghost use Rattle.rwsp_model.specs.Sequences.{IsPairOf, IsTripleOf};
 
 use crate::{PartsRefusal, demand, validity};
 use rwsp_terms::limits::{
@@ -86,6 +87,24 @@ impl Problem {
         self.prove_limits();
         let mut parts = copy_of(&self.parts)?;
         parts.weeks = weeks;
+        Ok(Problem { parts })
+    }
+
+    /// The same problem with these forbidden pairs and triples in place of its own.
+    pub fn with_sequences(
+        &self,
+        pairs: Vec<(Symbol, Symbol)>,
+        triples: Vec<(Symbol, Symbol, Symbol)>,
+    ) -> Result<Problem, AllocError>
+        requires few { (length pairs.items ≤ MOST_SEQUENCES) × (length triples.items ≤ MOST_SEQUENCES) }
+        requires pairs { All (IsPairOf self.now) pairs.items }
+        requires triples { All (IsTripleOf self.now) triples.items }
+        ensures { IfOk result (λ P. P ≡ record self.now { pairs = pairs.items; triples = triples.items }) }
+    {
+        self.prove_limits();
+        let mut parts = copy_of(&self.parts)?;
+        parts.pairs = pairs;
+        parts.triples = triples;
         Ok(Problem { parts })
     }
 

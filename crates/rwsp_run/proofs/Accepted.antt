@@ -1,6 +1,6 @@
 -- What one command writes, another accepts.
-use Rattle.std.proofs.Common.{◌≡◌, ℕ, ◌+◌, ◌<◌, ◌≤◌, List, sym, refl, subst, inl, inr, arith}
-use Rattle.std.specs.Prelude.{◌≢◌, ◌⊎◌, Some}
+use Rattle.std.proofs.Common.{◌≡◌, ℕ, ◌+◌, ◌<◌, ◌≤◌, List, sym, refl, ap, ◌∙◌, subst, inl, inr, arith}
+use Rattle.std.specs.Prelude.{◌≢◌, ◌⊎◌, Option, Some, None}
 use Rattle.rwsp_io.specs.Told.{Told, Silent, Bytes}
 use Rattle.rwsp_terms.specs.Instance.{Instance}
 use Rattle.rwsp_terms.specs.Roster.{MeetsAll}
@@ -8,8 +8,10 @@ use Rattle.rwsp_terms.specs.declared.data.Symbol.{Symbol}
 use Rattle.rwsp_model.specs.Validity.{KeepsLimits}
 use Rattle.rwsp_model.proofs.Limits.{valid_keeps}
 use Rattle.rwsp_file.specs.Spelling.{SpellsProblem}
-use Rattle.refutation_terms.specs.Log.{Log, Passes, FreePasses}
-use Rattle.refutation_terms.specs.LogText.{log_text, free_log_text}
+use Rattle.refutation_terms.specs.declared.lines.LogKind.TheVariants.{WithoutGoal}
+use Rattle.refutation_terms.specs.Log.{Log, Passes}
+use Rattle.refutation_terms.specs.LogText.{log_text}
+use Rattle.refutation_terms.specs.Verdict.{kind_by}
 use Rattle.refutation_terms.specs.FreeWeekends.{free_weekends}
 use Rattle.roster_print.specs.RosterText.{roster_text}
 use Rattle.roster_print.proofs.Printed.{printed_is_short, printed_is_spelled}
@@ -27,9 +29,9 @@ use Rattle.commands.specs.Best.{IsBestAnswer}
 use Rattle.commands.specs.declared.second_file.SecondKind.TheVariants as Kinds
 use Rattle.commands.specs.declared.verify.Answer.TheVariants as Verifies
 use Rattle.commands.specs.declared.check.Answer.TheVariants as Checks
-use Rattle.commands.specs.declared.check_free.Answer.TheVariants as Frees
 use Rattle.commands.specs.declared.check_staff.Answer.TheVariants as StaffChecks
-use Rattle.commands.proofs.Logs.{accepted, free_accepted}
+use Rattle.commands.proofs.Logs.{text_accepted}
+use Rattle.commands.proofs.Reductions.{reduced_goal}
 use Rattle.commands.proofs.Bests.{best_meets, below_goal}
 use Rattle.rwsp_run.specs.Commands.{IsFilesAnswer, second_kind}
 use Rattle.rwsp_run.specs.Laws.{RostersMeet, RefutationsAreAccepted, ReductionsAreAccepted, StaffTextsAreAccepted, BestRostersMeet, BestRostersAreBest, BestProofsAreAccepted, IsProofOf, WorkersMakeNoDifference, AgreeInSearch, JobsAgree, IsAnswerOnFiles}
@@ -59,19 +61,27 @@ meets : (P : Instance) (file : List ℕ) (s : List Symbol) (a : Answer) → Spel
 meets P file s a spells right h =
     settled Verify P (roster_text P s) (Jobs.Verify Verifies.Meets) a (valid_keeps P spells.valid) tt (printed_is_short P s spells.valid right.is_roster) (λ y h. h) (s, printed_is_spelled P s spells.valid right.is_roster, right) h
 
--- a log that passes is accepted by `check`
-checks : (P : Instance) (file : List ℕ) (workers : ℕ) (g : Log) (a : Answer) → SpellsProblem file P → Passes P g → IsWithinLimit Kinds.Log (log_text P g) → IsAnswerOnFiles (Check workers) (Bytes (log_text P g)) P a → a ≡ Job (Jobs.Check (Checks.Accepted g.named))
-checks P file workers g a spells passes short h =
-    settled (Check workers) P (log_text P g) (Jobs.Check (Checks.Accepted g.named)) a (valid_keeps P spells.valid) tt short (λ y h. h) (accepted P (log_text P g) g.named (g, (refl, passes), refl)) h
+-- a log without a goal that passes is accepted by `check`
+checks : (P : Instance) (file : List ℕ) (workers : ℕ) (g : Log) (a : Answer) → SpellsProblem file P → Passes P g → g.goal ≡ None → IsWithinLimit Kinds.Log (log_text P g) → IsAnswerOnFiles (Check workers) (Bytes (log_text P g)) P a → a ≡ Job (Jobs.Check (Checks.Accepted None g.named))
+checks P file workers g a spells passes none short h =
+    settled (Check workers) P (log_text P g) (Jobs.Check (Checks.Accepted None g.named)) a (valid_keeps P spells.valid) tt short (λ y h. h) (text_accepted P g None passes none) h
+
+-- a log of the kind without a goal has none
+no_goal : (goal : Option ℕ) → kind_by goal ≡ WithoutGoal → goal ≡ None
+no_goal None is = refl
+no_goal (Some goal) is = absurd (cc)
 
 pub rosters_meet : RostersMeet
 rosters_meet file P budget s a spells planned h = meets P file s.cells a spells planned.2.1.1 h
 
 pub refutations_accepted : RefutationsAreAccepted
-refutations_accepted file P budget workers g a spells planned short h = checks P file workers g a spells planned.2.1.0 short h
+refutations_accepted file P budget workers g a spells planned short h = checks P file workers g a spells planned.2.1.0 planned.2.1.2.no_goal short h
 
 pub reductions_accepted : ReductionsAreAccepted
-reductions_accepted file P workers told g a spells reduced short h = checks P file workers g a spells reduced.2.1.2.1.passes short h
+reductions_accepted file P workers told g a spells reduced short h =
+    let read = reduced.2.1.2.0 in
+    let none : g.goal ≡ None = reduced_goal P read.0 g read.2 ∙ no_goal read.0.goal read.1.of_kind in
+    checks P file workers g a spells reduced.2.1.2.1.passes none short h
 
 pub staff_accepted : StaffTextsAreAccepted
 staff_accepted file P low high budget run staffed a spells sizes answer decides short h =
@@ -89,22 +99,21 @@ at_most m n h = omega (arith, h)
 
 pub best_is_best : BestRostersAreBest
 best_is_best file P budget s g a spells best h =
-    (best_rosters_meet file P budget (Bests.Best s g) s a spells best refl h, λ t met. at_most (free_weekends t) (free_weekends s.cells) (below_goal P (free_weekends s.cells + 1) g t best.2.1.0.1.0 met))
+    (best_rosters_meet file P budget (Bests.Best s g) s a spells best refl h, λ t met. at_most (free_weekends t) (free_weekends s.cells) (below_goal P (free_weekends s.cells + 1) g t best.2.1.0.1.0 best.2.1.0.1.1 met))
 
 -- the proof of a search for the most free weekends is accepted
 
-proof_passes : (P : Instance) (budget goal : ℕ) (found : BestFound) (g : Log) → IsBestAnswer P budget found → IsProofOf found goal g → FreePasses P goal g
+proof_passes : (P : Instance) (budget goal : ℕ) (found : BestFound) (g : Log) → IsBestAnswer P budget found → IsProofOf found goal g → Passes P g × (g.goal ≡ Some goal)
 proof_passes P budget goal (Bests.Best s g) h found proof =
-    subst (λ (n : ℕ). FreePasses P n h) (sym proof.0) (subst (λ (k : Log). FreePasses P (free_weekends s.cells + 1) k) (sym proof.1) found.0.1.0)
+    (subst (λ (k : Log). Passes P k) (sym proof.1) found.0.1.0, ap (λ (k : Log). k.goal) proof.1 ∙ found.0.1.1 ∙ ap Some (sym proof.0))
 proof_passes P budget goal (Bests.NoRoster g) h found proof =
-    subst (λ (n : ℕ). FreePasses P n h) (sym proof.0) (subst (λ (k : Log). FreePasses P 0 k) (sym proof.1) found.0.0)
+    (subst (λ (k : Log). Passes P k) (sym proof.1) found.0.0, ap (λ (k : Log). k.goal) proof.1 ∙ found.0.1 ∙ ap Some (sym proof.0))
 proof_passes P budget goal (Bests.Undecided s g) h found proof = absurd proof
 
 pub best_proofs_accepted : BestProofsAreAccepted
 best_proofs_accepted file P budget goal found g a spells best proof short h =
     let passes = proof_passes P budget goal found g best.2.1 proof in
-    let text = free_log_text P goal g in
-    settled CheckFree P text (Jobs.CheckFree (Frees.Accepted goal g.named)) a (valid_keeps P spells.valid) best.2.0 short (λ y h. h) (free_accepted P text g goal (goal, refl, passes) passes.grounded.fits.is_goal) h
+    settled CheckFree P (log_text P g) (Jobs.Check (Checks.Accepted (Some goal) g.named)) a (valid_keeps P spells.valid) best.2.0 short (λ y h. h) (text_accepted P g (Some goal) passes.0 passes.1) h
 
 pub same_for_workers : WorkersMakeNoDifference
 same_for_workers m n name second told P (Refused (NotWeekly days)) h = h

@@ -3,15 +3,19 @@ use Rattle.std.proofs.Common.{◌≡◌, ℕ, List, ap, refl, inl, inr}
 use Rattle.std.specs.Prelude.{◌⊎◌}
 use Rattle.rwsp_terms.specs.Instance.{Instance}
 use Rattle.rwsp_model.specs.Validity.{KeepsLimits}
+use Rattle.refutation_terms.specs.declared.lines.LogKind.TheVariants.{WithoutGoal, WithGoal}
 use Rattle.command_line.specs.declared.command.ProblemTask.{ProblemTask}
 use Rattle.command_line.specs.declared.command.ProblemTask.TheVariants as ProblemTasks
 use Rattle.command_line.specs.declared.command.FilesTask.{FilesTask}
 use Rattle.command_line.specs.declared.command.FilesTask.TheVariants as FilesTasks
 use Rattle.commands.proofs.Rosters.{one_verified}
-use Rattle.commands.proofs.Logs.{one_checked, one_checked_free, one_reduction, plans_agree}
+use Rattle.commands.proofs.Logs.{one_checked, one_reduction, plans_agree}
 use Rattle.commands.proofs.Staffs.{one_checked_staff, staffs_agree}
 use Rattle.commands.proofs.Bests.{bests_agree}
-use Rattle.commands.proofs.Calendars.{one_crew}
+use Rattle.commands.proofs.Calendars.{one_crew, one_ics, one_on_date}
+use Rattle.commands.proofs.Rests.{one_rest}
+use Rattle.commands.proofs.Pages.{one_page}
+use Rattle.commands.proofs.RosterAnswers.{one_taken}
 use Rattle.rwsp_run.specs.Commands.{IsProblemAnswer, IsFilesAnswer}
 use Rattle.rwsp_run.specs.Laws.{JobsAgree}
 use Rattle.rwsp_run.specs.declared.jobs.JobAnswer.{JobAnswer}
@@ -31,17 +35,20 @@ one_on_problem (ProblemTasks.Best budget) P a b h k = absurd h
 one_on_problem (ProblemTasks.Staff low high budget) P (Jobs.Staff x) (Jobs.Staff y) h k = inr (staffs_agree P low high budget x y h k)
 one_on_problem (ProblemTasks.Staff low high budget) P (Jobs.Staff x) b h k = absurd k
 one_on_problem (ProblemTasks.Staff low high budget) P a b h k = absurd h
+one_on_problem (ProblemTasks.Rest minutes) P (Jobs.Rest x) (Jobs.Rest y) h k = inl (ap Jobs.Rest (one_rest P minutes x y h k))
+one_on_problem (ProblemTasks.Rest minutes) P (Jobs.Rest x) b h k = absurd k
+one_on_problem (ProblemTasks.Rest minutes) P a b h k = absurd h
 
 -- two answers to a task on a problem and the bytes of a second file
 pub one_on_files : (task : FilesTask) (P : Instance) (bytes : List ℕ) (a b : JobAnswer) → KeepsLimits P → IsFilesAnswer task P bytes a → IsFilesAnswer task P bytes b → (a ≡ b) ⊎ JobsAgree a b
 one_on_files FilesTasks.Verify P bytes (Jobs.Verify x) (Jobs.Verify y) limits h k = inl (ap Jobs.Verify (one_verified P bytes x y h k))
 one_on_files FilesTasks.Verify P bytes (Jobs.Verify x) b limits h k = absurd k
 one_on_files FilesTasks.Verify P bytes a b limits h k = absurd h
-one_on_files (FilesTasks.Check workers) P bytes (Jobs.Check x) (Jobs.Check y) limits h k = inl (ap Jobs.Check (one_checked P bytes x y limits h k))
+one_on_files (FilesTasks.Check workers) P bytes (Jobs.Check x) (Jobs.Check y) limits h k = inl (ap Jobs.Check (one_checked P WithoutGoal bytes x y limits h k))
 one_on_files (FilesTasks.Check workers) P bytes (Jobs.Check x) b limits h k = absurd k
 one_on_files (FilesTasks.Check workers) P bytes a b limits h k = absurd h
-one_on_files FilesTasks.CheckFree P bytes (Jobs.CheckFree x) (Jobs.CheckFree y) limits h k = inl (ap Jobs.CheckFree (one_checked_free P bytes x y limits h k))
-one_on_files FilesTasks.CheckFree P bytes (Jobs.CheckFree x) b limits h k = absurd k
+one_on_files FilesTasks.CheckFree P bytes (Jobs.Check x) (Jobs.Check y) limits h k = inl (ap Jobs.Check (one_checked P WithGoal bytes x y limits h k))
+one_on_files FilesTasks.CheckFree P bytes (Jobs.Check x) b limits h k = absurd k
 one_on_files FilesTasks.CheckFree P bytes a b limits h k = absurd h
 one_on_files FilesTasks.CheckStaff P bytes (Jobs.CheckStaff x) (Jobs.CheckStaff y) limits h k = inl (ap Jobs.CheckStaff (one_checked_staff P bytes x y limits h k))
 one_on_files FilesTasks.CheckStaff P bytes (Jobs.CheckStaff x) b limits h k = absurd k
@@ -52,3 +59,15 @@ one_on_files FilesTasks.Reduce P bytes a b limits h k = absurd h
 one_on_files (FilesTasks.Crew date days employee) P bytes (Jobs.Crew x) (Jobs.Crew y) limits h k = inl (ap Jobs.Crew (one_crew P bytes date days employee x y limits h k))
 one_on_files (FilesTasks.Crew date days employee) P bytes (Jobs.Crew x) b limits h k = absurd k
 one_on_files (FilesTasks.Crew date days employee) P bytes a b limits h k = absurd h
+one_on_files FilesTasks.Page P bytes (Jobs.Page x) (Jobs.Page y) limits h k = inl (ap Jobs.Page (one_page P bytes x y h k))
+one_on_files FilesTasks.Page P bytes (Jobs.Page x) b limits h k = absurd k
+one_on_files FilesTasks.Page P bytes a b limits h k = absurd h
+one_on_files (FilesTasks.Ics date days employee) P bytes (Jobs.Ics x) (Jobs.Ics y) limits h k = inl (ap Jobs.Ics (one_ics P bytes date days employee x y limits h k))
+one_on_files (FilesTasks.Ics date days employee) P bytes (Jobs.Ics x) b limits h k = absurd k
+one_on_files (FilesTasks.Ics date days employee) P bytes a b limits h k = absurd h
+one_on_files (FilesTasks.On start date) P bytes (Jobs.On x) (Jobs.On y) limits h k = inl (ap Jobs.On (one_on_date P bytes start date x y h k))
+one_on_files (FilesTasks.On start date) P bytes (Jobs.On x) b limits h k = absurd k
+one_on_files (FilesTasks.On start date) P bytes a b limits h k = absurd h
+one_on_files FilesTasks.Roster P bytes (Jobs.Roster x) (Jobs.Roster y) limits h k = inl (ap Jobs.Roster (one_taken P bytes x y h k))
+one_on_files FilesTasks.Roster P bytes (Jobs.Roster x) b limits h k = absurd k
+one_on_files FilesTasks.Roster P bytes a b limits h k = absurd h

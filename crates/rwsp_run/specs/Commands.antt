@@ -2,6 +2,7 @@
 use Rattle.std.specs.Prelude.{ℕ, List}
 use Rattle.rwsp_terms.specs.Instance.{Instance}
 use Rattle.rwsp_file.specs.Text.{problem_text}
+use Rattle.refutation_terms.specs.declared.lines.LogKind.TheVariants.{WithoutGoal, WithGoal}
 use Rattle.refutation_log.specs.Planned.{IsPlanned}
 use Rattle.command_line.specs.declared.command.ProblemTask.{ProblemTask}
 use Rattle.command_line.specs.declared.command.ProblemTask.TheVariants as ProblemTasks
@@ -12,10 +13,14 @@ use Rattle.commands.specs.Best.{IsBestAnswer, best_text, best_status, IsBestOf}
 use Rattle.commands.specs.Staff.{IsStaffAnswer, staff_answer_text, staff_status, IsStaffAnswerOf}
 use Rattle.commands.specs.Verify.{IsVerified, verify_text, verify_status, IsVerifiedOf}
 use Rattle.commands.specs.Check.{IsChecked, check_text, check_status, IsCheckedOf}
-use Rattle.commands.specs.CheckFree.{IsCheckedFree, check_free_text, check_free_status, IsCheckedFreeOf}
 use Rattle.commands.specs.CheckStaff.{IsCheckedStaff, check_staff_text, check_staff_status, IsCheckedStaffOf}
 use Rattle.commands.specs.Reduce.{IsReduction, reduce_text, reduce_status, IsReductionOf}
 use Rattle.commands.specs.Crew.{IsCrewAnswer, crew_text, crew_status, IsCrewAnswerOf}
+use Rattle.commands.specs.Rest.{IsRestAnswer, rest_text, rest_status}
+use Rattle.commands.specs.Page.{IsPageAnswer, page_answer_text, page_status, IsPageAnswerOf}
+use Rattle.commands.specs.Ics.{IsIcsAnswer, ics_text, ics_status, IsIcsAnswerOf}
+use Rattle.commands.specs.On.{IsOnAnswer, on_text, on_status, IsOnAnswerOf}
+use Rattle.commands.specs.Roster.{IsRosterAnswer, roster_answer_text, roster_status}
 use Rattle.commands.specs.declared.second_file.SecondKind.{SecondKind}
 use Rattle.commands.specs.declared.second_file.SecondKind.TheVariants as Kinds
 use Rattle.rwsp_run.specs.declared.jobs.JobAnswer.{JobAnswer}
@@ -25,6 +30,9 @@ use Rattle.rwsp_run.specs.declared.jobs.JobAnswer.TheVariants as Jobs
 abbrev pub second_kind : FilesTask → SecondKind
 second_kind FilesTasks.Verify = Kinds.Roster
 second_kind (FilesTasks.Crew date days employee) = Kinds.Roster
+second_kind FilesTasks.Page = Kinds.Roster
+second_kind (FilesTasks.Ics date days employee) = Kinds.Roster
+second_kind (FilesTasks.On start date) = Kinds.Roster
 second_kind task = Kinds.Log
 
 -- what the answer to a task says of the problem
@@ -33,16 +41,21 @@ IsProblemAnswer ProblemTasks.Show P Jobs.Show = Unit {0}
 IsProblemAnswer (ProblemTasks.Plan budget) P (Jobs.Plan found) = IsPlanned P budget found
 IsProblemAnswer (ProblemTasks.Best budget) P (Jobs.Best found) = IsBestAnswer P budget found
 IsProblemAnswer (ProblemTasks.Staff low high budget) P (Jobs.Staff a) = IsStaffAnswer P low high budget a
+IsProblemAnswer (ProblemTasks.Rest minutes) P (Jobs.Rest a) = IsRestAnswer P minutes a
 IsProblemAnswer task P answer = ⊥
 
 -- what the answer to a task says of the problem and of the bytes of the second file
 abbrev pub IsFilesAnswer : FilesTask → Instance → List ℕ → JobAnswer → Type 0
 IsFilesAnswer FilesTasks.Verify P bytes (Jobs.Verify a) = IsVerified P bytes a
-IsFilesAnswer (FilesTasks.Check workers) P bytes (Jobs.Check a) = IsChecked P bytes a
-IsFilesAnswer FilesTasks.CheckFree P bytes (Jobs.CheckFree a) = IsCheckedFree P bytes a
+IsFilesAnswer (FilesTasks.Check workers) P bytes (Jobs.Check a) = IsChecked P WithoutGoal bytes a
+IsFilesAnswer FilesTasks.CheckFree P bytes (Jobs.Check a) = IsChecked P WithGoal bytes a
 IsFilesAnswer FilesTasks.CheckStaff P bytes (Jobs.CheckStaff a) = IsCheckedStaff P bytes a
 IsFilesAnswer FilesTasks.Reduce P bytes (Jobs.Reduce a) = IsReduction P bytes a
 IsFilesAnswer (FilesTasks.Crew date days employee) P bytes (Jobs.Crew a) = IsCrewAnswer P bytes date days employee a
+IsFilesAnswer FilesTasks.Page P bytes (Jobs.Page a) = IsPageAnswer P bytes a
+IsFilesAnswer (FilesTasks.Ics date days employee) P bytes (Jobs.Ics a) = IsIcsAnswer P bytes date days employee a
+IsFilesAnswer (FilesTasks.On start date) P bytes (Jobs.On a) = IsOnAnswer P bytes start date a
+IsFilesAnswer FilesTasks.Roster P bytes (Jobs.Roster a) = IsRosterAnswer P bytes a
 IsFilesAnswer task P bytes answer = ⊥
 
 -- the text of an answer to a command on a problem
@@ -53,10 +66,14 @@ job_text P (Jobs.Best found) = best_text P found
 job_text P (Jobs.Staff a) = staff_answer_text P a
 job_text P (Jobs.Verify a) = verify_text P a
 job_text P (Jobs.Check a) = check_text P a
-job_text P (Jobs.CheckFree a) = check_free_text P a
 job_text P (Jobs.CheckStaff a) = check_staff_text P a
 job_text P (Jobs.Reduce a) = reduce_text P a
 job_text P (Jobs.Crew a) = crew_text P a
+job_text P (Jobs.Rest a) = rest_text a
+job_text P (Jobs.Page a) = page_answer_text P a
+job_text P (Jobs.Ics a) = ics_text P a
+job_text P (Jobs.On a) = on_text P a
+job_text P (Jobs.Roster a) = roster_answer_text a
 
 -- what the answer names is the problem's
 abbrev pub IsPrintable : Instance → JobAnswer → Type 0
@@ -66,10 +83,14 @@ IsPrintable P (Jobs.Best found) = IsBestOf P found
 IsPrintable P (Jobs.Staff a) = IsStaffAnswerOf P a
 IsPrintable P (Jobs.Verify a) = IsVerifiedOf P a
 IsPrintable P (Jobs.Check a) = IsCheckedOf P a
-IsPrintable P (Jobs.CheckFree a) = IsCheckedFreeOf P a
 IsPrintable P (Jobs.CheckStaff a) = IsCheckedStaffOf P a
 IsPrintable P (Jobs.Reduce a) = IsReductionOf P a
 IsPrintable P (Jobs.Crew a) = IsCrewAnswerOf P a
+IsPrintable P (Jobs.Rest a) = Unit {0}
+IsPrintable P (Jobs.Page a) = IsPageAnswerOf P a
+IsPrintable P (Jobs.Ics a) = IsIcsAnswerOf P a
+IsPrintable P (Jobs.On a) = IsOnAnswerOf P a
+IsPrintable P (Jobs.Roster a) = Unit {0}
 
 -- the status where the text was written
 abbrev pub job_status : JobAnswer → ℕ
@@ -79,7 +100,11 @@ job_status (Jobs.Best found) = best_status found
 job_status (Jobs.Staff a) = staff_status a
 job_status (Jobs.Verify a) = verify_status a
 job_status (Jobs.Check a) = check_status a
-job_status (Jobs.CheckFree a) = check_free_status a
 job_status (Jobs.CheckStaff a) = check_staff_status a
 job_status (Jobs.Reduce a) = reduce_status a
 job_status (Jobs.Crew a) = crew_status a
+job_status (Jobs.Rest a) = rest_status a
+job_status (Jobs.Page a) = page_status a
+job_status (Jobs.Ics a) = ics_status a
+job_status (Jobs.On a) = on_status a
+job_status (Jobs.Roster a) = roster_status a

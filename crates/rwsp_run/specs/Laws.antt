@@ -1,5 +1,5 @@
 -- What answers fit a command line over files whose bytes are known.
-use Rattle.std.specs.Prelude.{◌≡◌, ◌≢◌, ◌⊎◌, ℕ, ◌+◌, ◌≤◌, List, Some}
+use Rattle.std.specs.Prelude.{◌≡◌, ◌≢◌, ◌⊎◌, ℕ, ◌+◌, ◌≤◌, List, Some, None}
 use Rattle.rwsp_terms.specs.declared.limits.TheConstants.{MOST_WEEKS}
 use Rattle.rwsp_io.specs.Told.{Told, Silent, Bytes}
 use Rattle.rwsp_terms.specs.Instance.{Instance}
@@ -8,7 +8,7 @@ use Rattle.rwsp_terms.specs.declared.data.Symbol.{Symbol}
 use Rattle.rwsp_model.specs.declared.roster.Roster.{Roster}
 use Rattle.rwsp_file.specs.Spelling.{SpellsProblem}
 use Rattle.refutation_terms.specs.Log.{Log}
-use Rattle.refutation_terms.specs.LogText.{free_log_text}
+use Rattle.refutation_terms.specs.LogText.{log_text}
 use Rattle.refutation_terms.specs.FreeWeekends.{free_weekends}
 use Rattle.roster_print.specs.RosterText.{roster_text}
 use Rattle.refutation_log.specs.declared.found.Found.TheVariants as Founds
@@ -33,7 +33,6 @@ use Rattle.commands.specs.declared.second_file.SecondKind.TheVariants as Kinds
 use Rattle.commands.specs.declared.staff.Answer.TheVariants as Staffs
 use Rattle.commands.specs.declared.verify.Answer.TheVariants as Verifies
 use Rattle.commands.specs.declared.check.Answer.TheVariants as Checks
-use Rattle.commands.specs.declared.check_free.Answer.TheVariants as Frees
 use Rattle.commands.specs.declared.check_staff.Answer.TheVariants as StaffChecks
 use Rattle.commands.specs.declared.reduce.Answer.TheVariants as Reductions
 use Rattle.rwsp_run.specs.Answers.{IsAnswer, IsAnswerOn, IsAsked}
@@ -114,7 +113,7 @@ RefutationsAreAccepted =
     → SpellsProblem file P → IsAnswerOnProblem (Plan budget) P (Job (Jobs.Plan (Founds.NoRoster g)))
     → IsWithinLimit Kinds.Log (job_text P (Jobs.Plan (Founds.NoRoster g)))
     → IsAnswerOnFiles (Check workers) (Bytes (job_text P (Jobs.Plan (Founds.NoRoster g)))) P a
-    → a ≡ Job (Jobs.Check (Checks.Accepted g.named))
+    → a ≡ Job (Jobs.Check (Checks.Accepted None g.named))
 
 -- the text of what `reduce` writes is accepted by `check`, with the rules that it names
 abbrev pub ReductionsAreAccepted : Type 0
@@ -123,7 +122,7 @@ ReductionsAreAccepted =
     → SpellsProblem file P → IsAnswerOnFiles Reduce told P (Job (Jobs.Reduce (Reductions.Reduced h)))
     → IsWithinLimit Kinds.Log (job_text P (Jobs.Reduce (Reductions.Reduced h)))
     → IsAnswerOnFiles (Check workers) (Bytes (job_text P (Jobs.Reduce (Reductions.Reduced h)))) P a
-    → a ≡ Job (Jobs.Check (Checks.Accepted h.named))
+    → a ≡ Job (Jobs.Check (Checks.Accepted None h.named))
 
 -- the text of what `staff` writes with a least crew, or with none up to the last size, is accepted by `check-staff`,
 -- with what it decides
@@ -165,9 +164,9 @@ abbrev pub BestProofsAreAccepted : Type 0
 BestProofsAreAccepted =
     (file : List ℕ) (P : Instance) (budget goal : ℕ) (found : BestFound) (g : Log) (a : Answer)
     → SpellsProblem file P → IsAnswerOnProblem (Best budget) P (Job (Jobs.Best found))
-    → IsProofOf found goal g → IsWithinLimit Kinds.Log (free_log_text P goal g)
-    → IsAnswerOnFiles CheckFree (Bytes (free_log_text P goal g)) P a
-    → a ≡ Job (Jobs.CheckFree (Frees.Accepted goal g.named))
+    → IsProofOf found goal g → IsWithinLimit Kinds.Log (log_text P g)
+    → IsAnswerOnFiles CheckFree (Bytes (log_text P g)) P a
+    → a ≡ Job (Jobs.Check (Checks.Accepted (Some goal) g.named))
 
 -- the number of workers makes no difference to what is said of an answer
 abbrev pub WorkersMakeNoDifference : Type 0

@@ -7,10 +7,12 @@ ghost use Rattle.rwsp_run.specs.Commands.{IsProblemAnswer, IsFilesAnswer, IsPrin
 use command_line::{FilesTask, ProblemTask};
 use commands::staff::Sizes;
 use commands::{
-    SecondKind, best, check, check_free, check_staff, crew, plan, reduce, staff, verify,
+    SecondKind, best, check, check_free, check_staff, crew, ics, on, page, plan, reduce, rest,
+    roster, staff, verify,
 };
 use potential_bounds::Gate;
 use refutation_log::{BestFound, Found};
+use rest_between::LeastRest;
 use rwsp_file::print_problem;
 use rwsp_model::Problem;
 use rwsp_terms::limits::DAYS_OF_WEEK;
@@ -26,11 +28,16 @@ pub enum JobAnswer {
     Best(BestFound),
     Staff(staff::Answer),
     Verify(verify::Answer),
+    /// To a log, with a goal or without.
     Check(check::Answer),
-    CheckFree(check_free::Answer),
     CheckStaff(check_staff::Answer),
     Reduce(reduce::Answer),
     Crew(crew::Answer),
+    Rest(LeastRest),
+    Page(page::Answer),
+    Ics(ics::Answer),
+    On(on::Answer),
+    Roster(roster::Answer),
 }
 
 /// The kind of the task's second file.
@@ -38,7 +45,11 @@ pub fn second_kind(task: &FilesTask) -> SecondKind
     ensures { result ≡ second_kind task.now }
 {
     match task {
-        FilesTask::Verify | FilesTask::Crew { .. } => SecondKind::Roster,
+        FilesTask::Verify
+        | FilesTask::Crew { .. }
+        | FilesTask::Page
+        | FilesTask::Ics { .. }
+        | FilesTask::On { .. } => SecondKind::Roster,
         _ => SecondKind::Log,
     }
 }
@@ -90,6 +101,10 @@ pub fn answer_on_problem<R: Threads + Sync, G: Gate>(
             let answer = staff::job(rt, alloc, problem, Sizes { low, high }, budget, gate)?;
             Ok(JobAnswer::Staff(answer))
         }
+        ProblemTask::Rest { minutes } => {
+            let answer = rest::job(alloc, problem, minutes)?;
+            Ok(JobAnswer::Rest(answer))
+        }
     }
 }
 
@@ -120,7 +135,7 @@ pub fn answer_on_files<R: Threads + Sync, G: Gate>(
         }
         FilesTask::CheckFree => {
             let answer = check_free::job(rt, alloc, problem, &bytes, gate)?;
-            Ok(JobAnswer::CheckFree(answer))
+            Ok(JobAnswer::Check(answer))
         }
         FilesTask::CheckStaff => {
             let answer = check_staff::job(rt, alloc, problem, &bytes, gate)?;
@@ -138,6 +153,26 @@ pub fn answer_on_files<R: Threads + Sync, G: Gate>(
             let answer = crew::job(alloc, problem, &bytes, date, days, employee)?;
             Ok(JobAnswer::Crew(answer))
         }
+        FilesTask::Page => {
+            let answer = page::job(alloc, problem, &bytes)?;
+            Ok(JobAnswer::Page(answer))
+        }
+        FilesTask::Ics {
+            date,
+            days,
+            employee,
+        } => {
+            let answer = ics::job(alloc, problem, &bytes, date, days, employee)?;
+            Ok(JobAnswer::Ics(answer))
+        }
+        FilesTask::On { start, date } => {
+            let answer = on::job(alloc, problem, &bytes, start, date)?;
+            Ok(JobAnswer::On(answer))
+        }
+        FilesTask::Roster => {
+            let answer = roster::job(alloc, problem, &bytes)?;
+            Ok(JobAnswer::Roster(answer))
+        }
     }
 }
 
@@ -153,10 +188,14 @@ pub fn text_of(alloc: Global, problem: &Problem, answer: &JobAnswer) -> Result<V
         JobAnswer::Staff(answer) => staff::text(alloc, problem, answer),
         JobAnswer::Verify(answer) => verify::text(alloc, problem, answer),
         JobAnswer::Check(answer) => check::text(alloc, problem, answer),
-        JobAnswer::CheckFree(answer) => check_free::text(alloc, problem, answer),
         JobAnswer::CheckStaff(answer) => check_staff::text(alloc, problem, answer),
         JobAnswer::Reduce(answer) => reduce::text(alloc, problem, answer),
         JobAnswer::Crew(answer) => crew::text(alloc, problem, answer),
+        JobAnswer::Rest(answer) => rest::text(alloc, answer),
+        JobAnswer::Page(answer) => page::text(alloc, problem, answer),
+        JobAnswer::Ics(answer) => ics::text(alloc, problem, answer),
+        JobAnswer::On(answer) => on::text(alloc, problem, answer),
+        JobAnswer::Roster(answer) => roster::text(alloc, answer),
     }
 }
 
@@ -174,10 +213,14 @@ impl JobAnswer {
             JobAnswer::Staff(answer) => staff::status(answer),
             JobAnswer::Verify(answer) => verify::status(answer),
             JobAnswer::Check(answer) => check::status(answer),
-            JobAnswer::CheckFree(answer) => check_free::status(answer),
             JobAnswer::CheckStaff(answer) => check_staff::status(answer),
             JobAnswer::Reduce(answer) => reduce::status(answer),
             JobAnswer::Crew(answer) => crew::status(answer),
+            JobAnswer::Rest(answer) => rest::status(answer),
+            JobAnswer::Page(answer) => page::status(answer),
+            JobAnswer::Ics(answer) => ics::status(answer),
+            JobAnswer::On(answer) => on::status(answer),
+            JobAnswer::Roster(answer) => roster::status(answer),
         }
     }
 }

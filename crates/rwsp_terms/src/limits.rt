@@ -96,3 +96,6 @@ pub const USUAL_STAFF_BUDGET: u32 = 2_000;
 
 /// The greatest budget of such a run, in lines of the log of each number of weeks.
 pub const GREATEST_STAFF_BUDGET: u32 = 10_000;
+
+/// The most minutes of rest between shifts that a problem can be asked to forbid less than: two days.
+pub const LONGEST_REST: u32 = 2_880;

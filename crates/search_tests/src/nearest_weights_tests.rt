@@ -4,7 +4,7 @@ ghost use Rattle.domain_store.specs.Store.{BelongsTo};
 use clean_words::{Automaton, Told};
 use domain_store::Domains;
 use nearest_weights::NearestWeights;
-use refutation_terms::Line;
+use refutation_terms::{Leaf, Line, WordClaim};
 use rwsp_model::Problem;
 use rwsp_terms::{Symbol, Weight};
 use std::alloc::{AllocError, Global};
@@ -23,12 +23,13 @@ fn weight(symbol: Symbol, value: i32) -> Weight {
 fn position(leaf: &Line) -> u32 {
     let wanted = [weight(OFF, -1), weight(D, 1)];
     match leaf {
-        Line::Bound {
-            p,
-            turns,
-            weights,
-            ..
-        } => {
+        Line::Closing(
+            Leaf::Words {
+                p,
+                claim: WordClaim::Light { turns, weights, .. },
+                ..
+            },
+        ) => {
             if *turns == 1 && weights.entries() == wanted.as_slice() {
                 *p
             } else {

@@ -8,7 +8,7 @@ use clean_words::{Automaton, Told};
 use domain_store::{Domains, Look, Pair, Propagator};
 use potential_bounds::NoGate;
 use propagators::{CycleProp, DayProp, RootBounds, WindowProp};
-use refutation_terms::Line;
+use refutation_terms::{Leaf, Line, WordClaim};
 use rwsp_model::Problem;
 use rwsp_terms::Symbol;
 use std::alloc::{AllocError, Global};
@@ -47,10 +47,24 @@ pub enum Kind {
 fn seen_in(look: &Look) -> Seen {
     match look {
         Look::Quiet => Seen::Quiet,
-        Look::Closed(Line::Window { len, .. }) => Seen::Window(*len),
-        Look::Closed(Line::Day { x, .. }) => Seen::Day(x.number),
-        Look::Closed(Line::Dead { len, .. }) => Seen::Dead(*len),
-        Look::Closed(Line::Bound { .. }) => Seen::Bound,
+        Look::Closed(Line::Closing(Leaf::Window { len, .. })) => Seen::Window(*len),
+        Look::Closed(Line::Closing(Leaf::Day { x, .. })) => Seen::Day(x.number),
+        Look::Closed(
+            Line::Closing(
+                Leaf::Words {
+                    claim: WordClaim::Dead { len },
+                    ..
+                },
+            ),
+        ) => Seen::Dead(*len),
+        Look::Closed(
+            Line::Closing(
+                Leaf::Words {
+                    claim: WordClaim::Light { .. },
+                    ..
+                },
+            ),
+        ) => Seen::Bound,
         Look::Closed(_) => Seen::Other,
         Look::Cut { p, x, .. } => Seen::Cut(*p, x.number),
     }

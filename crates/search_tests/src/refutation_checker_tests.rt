@@ -1,7 +1,7 @@
 // Refutations of small problems, worked by hand. What else is refused and why is said by the clauses, and tried on the
 // program's own tests.
-use refutation_checker::{NoGate, PassedGoal, check, check_free_with, check_log, check_with};
-use refutation_terms::LogRefusal;
+use refutation_checker::{NoGate, PassedLog, UncheckedLog, check, check_log, check_with};
+use refutation_terms::{LogKind, LogRefusal};
 use rwsp_model::Fail::Refused;
 use rwsp_model::Problem;
 use rwsp_terms::Word;
@@ -34,7 +34,7 @@ const PASSING: [(&[u8], &[u8]); 4] = [
 
 // Whether a short text passes.
 fn text_passes(alloc: Global, problem: &Problem, text: &[u8]) -> bool {
-    text.len() <= 1_000 && check(alloc, problem, text).is_ok()
+    text.len() <= 1_000 && check(alloc, problem, LogKind::WithoutGoal, text).is_ok()
 }
 
 // Whether the log of the text passes.
@@ -59,8 +59,12 @@ fn workers_are_there_at_once(rt: HostRuntime) -> Result<(), Fail> {
     let alloc = rt.alloc();
     let problem = problem_of(alloc, TWOS_IN_SIX)?;
     let gate = Meeting::new();
-    let named = check_with(&rt, alloc, &problem, SPLIT_TWOS, 2, &gate)?;
-    assert_eq!(rt; named.numbers(), [1, 2, 3, 4].as_slice());
+    let log = UncheckedLog {
+        kind: LogKind::WithoutGoal,
+        bytes: SPLIT_TWOS,
+    };
+    let passed = check_with(&rt, alloc, &problem, log, 2, &gate)?;
+    assert_eq!(rt; passed.named.numbers(), [1, 2, 3, 4].as_slice());
     assert!(rt; gate.took_place());
     Ok(())
 }
@@ -72,11 +76,15 @@ fn free_goal<R: Threads + Sync>(
     problem: &Problem,
     text: &[u8],
     workers: u32,
-) -> Result<PassedGoal, Fail> {
+) -> Result<PassedLog, Fail> {
     if problem.days() != 7 || text.len() > 1_000 || workers == 0 || workers > MOST_WORKERS {
         return Err(Fail::from("another problem, or a long text"));
     }
-    Ok(check_free_with(rt, alloc, problem, text, workers, &NoGate)?)
+    let log = UncheckedLog {
+        kind: LogKind::WithGoal,
+        bytes: text,
+    };
+    Ok(check_with(rt, alloc, problem, log, workers, &NoGate)?)
 }
 
 // The line of a free log that is refused for an escape, and the word.
@@ -89,7 +97,11 @@ fn free_escape<R: Threads + Sync>(
     if problem.days() != 7 || text.len() > 1_000 {
         return Err(Fail::from("another problem, or a long text"));
     }
-    match check_free_with(rt, alloc, problem, text, 1, &NoGate) {
+    let log = UncheckedLog {
+        kind: LogKind::WithGoal,
+        bytes: text,
+    };
+    match check_with(rt, alloc, problem, log, 1, &NoGate) {
         Err(Refused(LogRefusal::Escape(line, word))) => Ok((line, word)),
         _ => Err(Fail::from("no escape")),
     }
@@ -106,7 +118,7 @@ fn free_logs_are_judged(rt: HostRuntime) -> Result<(), Fail> {
     let problem = problem_of(alloc, LONG_BLOCKS)?;
     for workers in [1, 4] {
         let passed = free_goal(&rt, alloc, &problem, FREE, workers)?;
-        assert_eq!(rt; passed.goal, 2);
+        assert_eq!(rt; passed.goal, Some(2));
         assert_eq!(rt; passed.named.numbers(), [3, 5, 6].as_slice());
     }
     let (line, word) = free_escape(&rt, alloc, &problem, FREE_WITHOUT_5)?;

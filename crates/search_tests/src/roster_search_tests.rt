@@ -10,7 +10,7 @@ use domain_store::{Domains, Look, Pair, Propagator};
 use potential_bounds::NoGate;
 use propagators::{DayProp, RootBounds, WindowProp};
 use refutation_log::Found;
-use refutation_terms::Line;
+use refutation_terms::{Line, Opening};
 use roster_search::{Aim, Guide, NextSplit, NoGuide, chronological, search};
 use rwsp_model::{Problem, Roster};
 use std::alloc::{AllocError, Global};
@@ -20,7 +20,7 @@ use test_helpers::{CROWDED_TWOS_IN_SIX, D_ON_DAY_1, D_ON_EITHER_DAY, problem_of}
 
 // A roster with any number of free weekends, within 100 splits and leaves.
 const ANY_ROSTER: Aim = Aim {
-    turn: None,
+    opening: Opening::Full,
     goal: None,
     budget: 100,
 };

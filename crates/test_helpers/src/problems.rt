@@ -5,13 +5,15 @@ ghost use Rattle.rwsp_terms.specs.Roster.{IsRoster};
 ghost use Rattle.rwsp_model.specs.RuleNumbers.{IsShortNumber};
 ghost use Rattle.refutation_terms.specs.Log.{Fits};
 ghost use Rattle.refutation_terms.specs.LogText.{log_text};
+ghost use Rattle.refutation_terms.specs.declared.lines.LogKind.TheVariants.{WithoutGoal};
+ghost use Rattle.refutation_terms.specs.Verdict.{kind_by};
 ghost use Rattle.rwsp_file.specs.Spelling.{SpellsProblem};
 ghost use Rattle.roster_print.specs.RosterText.{SpellsRoster};
 ghost use Rattle.domain_store.specs.Store.{BelongsTo, has_domain};
 
 use clean_words::TailRules;
 use domain_store::Domains;
-use refutation_log::{Log, read_log};
+use refutation_log::{Log, LogKind, read_log};
 use roster_print::read_roster;
 use rwsp_file::read_problem;
 use rwsp_model::{Problem, Roster, is_short, rule_at, rule_count, short_rules};
@@ -126,15 +128,16 @@ pub fn roster_of(alloc: Global, problem: &Problem, text: &[u8]) -> Result<Roster
     Ok(read_roster(alloc, problem, text)?)
 }
 
-/// The log of a text.
+/// The log without a goal that a text spells.
 pub fn log_of(alloc: Global, problem: &Problem, text: &[u8]) -> Result<Log, Fail>
+    ensures kind { IfOk result (λ log. kind_by log.goal ≡ WithoutGoal) }
     ensures text { IfOk result (λ log. text.now ≡ log_text problem.now log) }
     ensures fits { IfOk result (λ log. Fits problem.now log) }
 {
     if text.len() > 10_000 {
         return Err(Fail::from("a long text"));
     }
-    match read_log(alloc, problem, text) {
+    match read_log(alloc, problem, LogKind::WithoutGoal, text) {
         Ok(log) => Ok(log),
         Err(why) => Err(Fail::from(why)),
     }

@@ -1,10 +1,11 @@
 // The texts of what a search for the most free weekends found.
 ghost use Rattle.std.specs.Prelude.{◌≡◌, ◌++◌, IfOk, OnOk, Some};
-ghost use Rattle.refutation_terms.specs.LogText.{log_text_for};
-ghost use Rattle.commands.specs.Best.{counted_text, found_text, IsWeeklyRoster, IsRosterFound, FitsFree};
+ghost use Rattle.refutation_terms.specs.Log.{Fits};
+ghost use Rattle.refutation_terms.specs.LogText.{log_text};
+ghost use Rattle.commands.specs.Best.{counted_text, found_text, IsWeeklyRoster, IsRosterFound};
 
 use crate::put::put_labelled;
-use refutation_log::{Log, print_free};
+use refutation_log::{Log, print_log};
 use roster_checker::free_weekends;
 use roster_print::print_roster;
 use rwsp_model::{Problem, Roster};
@@ -22,12 +23,12 @@ fn put_counted(out: &mut Vec<u8>, problem: &Problem, roster: &Roster) -> Result<
     Ok(())
 }
 
-// Appends the free log.
-fn put_free_log(out: &mut Vec<u8>, problem: &Problem, log: &Log) -> Result<(), AllocError>
-    requires { FitsFree problem.now log.now }
-    ensures { OnOk result (out.new.items ≡ out.old.items ++ log_text_for problem.now log.now.goal log.now) }
+// Appends the log.
+fn put_log(out: &mut Vec<u8>, problem: &Problem, log: &Log) -> Result<(), AllocError>
+    requires { Fits problem.now log.now }
+    ensures { OnOk result (out.new.items ≡ out.old.items ++ log_text problem.now log.now) }
 {
-    let text = print_free(*out.allocator(), problem, log)?;
+    let text = print_log(*out.allocator(), problem, log)?;
     out.extend_from_slice(&text)?;
     Ok(())
 }
@@ -40,13 +41,13 @@ pub fn best_text(
     proof: &Log,
 ) -> Result<Vec<u8>, AllocError>
     requires roster { IsWeeklyRoster problem.now roster.now }
-    requires fits { FitsFree problem.now proof.now }
+    requires fits { Fits problem.now proof.now }
     ensures { IfOk result (λ v.
-        v.items ≡ counted_text problem.now roster.now ++ log_text_for problem.now proof.now.goal proof.now) }
+        v.items ≡ counted_text problem.now roster.now ++ log_text problem.now proof.now) }
 {
     let mut out = Vec::new(alloc);
     put_counted(&mut out, problem, roster)?;
-    put_free_log(&mut out, problem, proof)?;
+    put_log(&mut out, problem, proof)?;
     Ok(out)
 }
 
@@ -58,12 +59,12 @@ pub fn undecided_text(
     partial: &Log,
 ) -> Result<Vec<u8>, AllocError>
     requires roster { IsRosterFound problem.now roster.now }
-    requires fits { FitsFree problem.now partial.now }
+    requires fits { Fits problem.now partial.now }
     ensures { IfOk result (λ v.
-        v.items ≡ found_text problem.now roster.now ++ log_text_for problem.now partial.now.goal partial.now) }
+        v.items ≡ found_text problem.now roster.now ++ log_text problem.now partial.now) }
 {
     match roster {
         Some(roster) => best_text(alloc, problem, roster, partial),
-        None => print_free(alloc, problem, partial),
+        None => print_log(alloc, problem, partial),
     }
 }

@@ -1,8 +1,7 @@
-use Rattle.std.proofs.Common.{ap, sym, subst}
+use Rattle.std.proofs.Common.{ap, sym, subst, ℕ, ◌≤◌}
 use Rattle.rwsp_terms.specs.Rules.{Names}
 use Rattle.rwsp_terms.specs.declared.data.Rule.{Rule}
 use Rattle.rwsp_terms.specs.declared.data.Bounds.{Bounds}
-use Rattle.std.proofs.Common.{ℕ, ◌≤◌}
 use Rattle.rwsp_terms.specs.declared.limits.TheConstants.{GREATEST_SHORT_BOUND}
 use Rattle.clean_words.proofs.Layouts.{short_max}
 use Rattle.clean_words.proofs.layout.greatest_of.Goals as goal

@@ -1,5 +1,4 @@
-use Rattle.std.proofs.Common.{◌<◌, length, arith}
-use Rattle.std.proofs.Common.{◌∙◌, length-set}
+use Rattle.std.proofs.Common.{◌<◌, length, arith, ◌∙◌, length-set}
 use Rattle.clean_words.proofs.Layouts.{next_lengths, all_lengths}
 use Rattle.clean_words.proofs.layout.symbol_lengths.Goals as goal
 

@@ -1,4 +1,4 @@
-use Rattle.refutation_terms.specs.Log.{AreWeightsOf}
+use Rattle.refutation_terms.specs.Ranges.{AreWeightsOf}
 use Rattle.nearest_weights.proofs.leaf.put_day.Given as goal
 
 abbrev pub invariant-loop-number : goal.invariant-loop-number

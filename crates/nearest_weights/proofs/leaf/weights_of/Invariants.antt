@@ -1,4 +1,4 @@
-use Rattle.refutation_terms.specs.Log.{AreWeightsOf}
+use Rattle.refutation_terms.specs.Ranges.{AreWeightsOf}
 use Rattle.nearest_weights.proofs.leaf.weights_of.Given as goal
 
 abbrev pub invariant-loop-i : goal.invariant-loop-i

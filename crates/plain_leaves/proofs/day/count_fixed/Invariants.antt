@@ -1,7 +1,7 @@
 use Rattle.std.proofs.Common.{◌≡◌, ◌+◌, ◌-◌, ◌*◌, ◌≤◌}
 use Rattle.std.specs.Prelude.{count_by}
 use Rattle.std.specs.List.{range_with_len}
-use Rattle.refutation_terms.specs.Leaf.{is_only}
+use Rattle.refutation_terms.specs.DayLeaf.{is_only}
 use Rattle.domain_store.specs.Store.{has_domain}
 use Rattle.plain_leaves.proofs.day.count_fixed.Given as goal
 

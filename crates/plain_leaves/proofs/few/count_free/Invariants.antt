@@ -2,7 +2,7 @@ use Rattle.std.proofs.Common.{◌≡◌, ◌≤◌}
 use Rattle.std.specs.Prelude.{count_by}
 use Rattle.std.specs.List.{range_with_len}
 use Rattle.domain_store.specs.Store.{has_domain}
-use Rattle.refutation_terms.specs.FreeLeaves.{may_be_free}
+use Rattle.refutation_terms.specs.FewLeaf.{may_be_free}
 use Rattle.plain_leaves.proofs.few.count_free.Given as goal
 
 abbrev pub invariant-loop-week : goal.invariant-loop-week

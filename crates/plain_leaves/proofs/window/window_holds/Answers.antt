@@ -1,6 +1,6 @@
 -- The one bad length is the leaf's, or not.
 use Rattle.std.proofs.Common.{subst, sym, eqb-true, eq-eqb}
-use Rattle.refutation_terms.specs.Leaf.{IsBlocked}
+use Rattle.refutation_terms.specs.WindowLeaf.{IsBlocked}
 use Rattle.domain_store.specs.Store.{has_domain}
 use Rattle.plain_leaves.proofs.Domains.{positions}
 use Rattle.plain_leaves.proofs.Blocked.{all_bad_blocked, blocked_all_bad}

@@ -1,7 +1,4 @@
-use Rattle.std.proofs.Common.{Option, List, subst}
-use Rattle.rwsp_terms.specs.declared.data.Symbol.{Symbol}
 use Rattle.domain_store.specs.Store.{has_domain}
-use Rattle.potential_bounds.specs.Searched.{IsTopEscape}
 use Rattle.potential_bounds.proofs.Searching.{followed}
 use Rattle.potential_bounds.proofs.search.following.Goals as goal
 

@@ -1,10 +1,10 @@
 use Rattle.std.proofs.Common.{◌≡◌, ◌+◌, ◌*◌, ◌≤◌, ℕ, ℤ, ap, ◌∙◌, arith, pos, w64, to_z, of_z}
-use Rattle.std.specs.Prelude.{◌+ℤ◌, ◌*ℤ◌}
+use Rattle.std.specs.Prelude.{Some, ◌+ℤ◌, ◌*ℤ◌}
 use Rattle.std.specs.List.{range_with_len}
 use Rattle.std.proofs.lemmas.Int.{ints}
 use Rattle.rwsp_terms.specs.Instance.{shift_count}
 use Rattle.refutation_terms.specs.Word.{int_sum_by, least_weight}
-use Rattle.refutation_terms.specs.FreeLeaves.{free_total}
+use Rattle.refutation_terms.specs.WordsLeaf.{owed}
 use Rattle.potential_bounds.proofs.Products.{sum_step, reward_small}
 use Rattle.potential_bounds.proofs.totals.total.Goals as goal
 
@@ -31,7 +31,7 @@ overflow_mul-result c = omega (arith, ints, read c, small c)
 pub overflow_add-result : goal.overflow_add-result
 overflow_add-result c = omega (arith, ints, read c, small c, c.loop-i.invariant.1.0, c.loop-i.invariant.1.1, c.loop-i.auto.i-end, c.days-i-end.ensures.few)
 
-whole : (c : goal.After-from-2) → to_z w64 c.loop-i.sum-bits +ℤ pos (c.args.reward * c.args.goal) ≡ free_total c.args.problem.now c.args.weights.now c.args.reward c.args.goal
+whole : (c : goal.After-from-2) → to_z w64 c.loop-i.sum-bits +ℤ pos (c.args.reward * c.args.goal) ≡ owed c.args.problem.now (Some c.args.goal) c.args.weights.now c.args.reward
 whole c =
     let all : c.loop-i.i ≡ c.args.problem.now.days = omega (arith, c.loop-i.auto.i-end, c.loop-i-test.false, c.days-i-end.ensures.value) in
     ap (λ (z : ℤ). z +ℤ pos (c.args.reward * c.args.goal)) (c.loop-i.invariant.0 ∙ ap (λ (n : ℕ). int_sum_by (λ j. int_sum_by (λ x. least_weight c.args.problem.now c.args.weights.now j x) (range_with_len 0 (shift_count c.args.problem.now + 1))) (range_with_len 1 n)) all)

@@ -1,7 +1,9 @@
 -- Two dead turns close; else a symbol that no word has is cut; else there is neither.
 use Rattle.std.proofs.Common.{◌≡◌, ◌*◌, refl, subst}
 use Rattle.rwsp_terms.specs.Instance.{cells}
-use Rattle.refutation_terms.specs.declared.lines.Line.TheVariants.{Dead}
+use Rattle.refutation_terms.specs.declared.lines.Line.TheVariants.{Closing}
+use Rattle.refutation_terms.specs.declared.lines.Leaf.TheVariants.{Words}
+use Rattle.refutation_terms.specs.declared.lines.WordClaim.TheVariants.{Dead}
 use Rattle.propagators.specs.Known.{KnownCycle}
 use Rattle.rwsp_model.specs.Validity.{KeepsLimits}
 use Rattle.rwsp_model.proofs.Limits.{some_cells}
@@ -21,7 +23,7 @@ pub returns-in_ok-dead_leaf-in-Some : goal.returns-in_ok-dead_leaf-in-Some
 returns-in_ok-dead_leaf-in-Some c =
     let C = c.args.cycle.now in
     let limits : KeepsLimits C.problem = subst KeepsLimits c.problem.ensures c.prove_limits.ensures in
-    let IsLeaf : KnownCycle → Type 0 = λ K. c.in_ok-dead_leaf-in-Some.field-0 ≡ Dead 0 (2 * cells K.problem) K.rules in
+    let IsLeaf : KnownCycle → Type 0 = λ K. c.in_ok-dead_leaf-in-Some.field-0 ≡ Closing (Words 0 K.rules (Dead (2 * cells K.problem))) in
     record {
       look = (
         none_closes C c.args.doms.now c.requires (λ dead. unlike c.is_dead.result c.if-is_dead.false (c.is_dead.ensures.1 dead)),

@@ -1,6 +1,6 @@
 -- Where as many weeks certainly hold the symbol as can hold it, it is beside no other.
 use Rattle.std.proofs.Common.{◌≡◌, rules, arith}
-use Rattle.refutation_terms.specs.Leaf.{fixed, possible}
+use Rattle.refutation_terms.specs.DayLeaf.{fixed, possible}
 use Rattle.domain_store.specs.Store.{has_domain}
 use Rattle.propagators.proofs.CutCounts.{fewer_fixed}
 use Rattle.propagators.proofs.day_cut.saturation.Goals as goal

@@ -2,7 +2,7 @@ use Rattle.std.proofs.Common.{refl, below_more, sym, subst}
 use Rattle.std.proofs.lemmas.List.Elements.{All-get_or}
 use Rattle.std.specs.Prelude.{◌<◌, ◌≤◌, length}
 use Rattle.rwsp_terms.specs.Rules.{rules}
-use Rattle.refutation_terms.specs.Log.{AreRules}
+use Rattle.refutation_terms.specs.Ranges.{AreRules}
 use Rattle.refutation_checker.proofs.Lists.{all_short, least_long_of, not_so, is_so}
 use Rattle.refutation_checker.proofs.long_rules.least_long.Goals as goal
 

@@ -1,8 +1,6 @@
-use Rattle.std.proofs.Common.{◌≡◌, ℕ, List, [], true, false, Ok, Err}
-use Rattle.refutation_terms.specs.Log.{Log as LogValue}
-use Rattle.refutation_terms.specs.Verdict.{IsAccepted, IsRefused}
-use Rattle.refutation_checker.specs.Headers.{without_goal}
-use Rattle.refutation_checker.proofs.SoundLines.{judged_below, accepted, ends, refused}
+use Rattle.std.proofs.Common.{[], true, false, Ok, Err}
+use Rattle.refutation_terms.specs.Verdict.{IsRefused}
+use Rattle.refutation_checker.proofs.SoundLines.{header_judged, judged_below, accepted, ends, refused}
 use Rattle.refutation_log.proofs.LogLines.{fail_along}
 use Rattle.refutation_checker.specs.ChunkVerdicts.{AreAllSound, IsChunkRefused}
 use Rattle.refutation_checker.specs.LineTexts.{Judging}
@@ -11,25 +9,25 @@ use Rattle.refutation_checker.proofs.verdict.check.Goals as goal
 pub returns-in-Ok-true : goal.returns-in-Ok-true
 returns-in-Ok-true c =
     let h = c.in-Ok.header in
-    let J : Judging = without_goal c.args.problem.now h.named in
+    let J : Judging = record { problem = c.args.problem.now; named = h.named; goal = h.goal } in
     let below = c.in-Ok-lines_below in
-    let all : AreAllSound J h.turn [] h.body.now true = judged_below J h.turn below.lines h.body.now (Ok true) below.ensures.start below.ensures.bytes (λ turn. (rw c.in-Ok-true.field-0-test at c.in-Ok-true.ensures) turn []) in
-    let passes = accepted J c.args.bytes.now h.body.now h.turn c.in-Ok.ensures all in
-    (passes.0, passes.1, passes.2)
+    let all : AreAllSound J h.opening [] h.body.now true = judged_below J h.opening below.lines h.body.now (Ok true) below.ensures.start below.ensures.bytes (λ o. (rw c.in-Ok-true.field-0-test at c.in-Ok-true.ensures) o []) in
+    accepted J c.args.kind c.args.bytes.now h.body.now h.opening (header_judged J c.args.kind c.args.bytes.now h.opening h.body.now c.requires.kind c.in-Ok.ensures) all
 
 pub returns-in-Ok-false : goal.returns-in-Ok-false
 returns-in-Ok-false c =
     let h = c.in-Ok.header in
-    let J : Judging = without_goal c.args.problem.now h.named in
+    let J : Judging = record { problem = c.args.problem.now; named = h.named; goal = h.goal } in
     let below = c.in-Ok-lines_below in
-    let all : AreAllSound J h.turn [] h.body.now false = judged_below J h.turn below.lines h.body.now (Ok false) below.ensures.start below.ensures.bytes (λ turn. (rw c.in-Ok-false.field-0-test at c.in-Ok-false.ensures) turn []) in
-    ends J c.args.bytes.now h.body.now h.turn c.in-Ok.ensures all
+    let all : AreAllSound J h.opening [] h.body.now false = judged_below J h.opening below.lines h.body.now (Ok false) below.ensures.start below.ensures.bytes (λ o. (rw c.in-Ok-false.field-0-test at c.in-Ok-false.ensures) o []) in
+    ends J c.args.kind c.args.bytes.now h.body.now h.opening (header_judged J c.args.kind c.args.bytes.now h.opening h.body.now c.requires.kind c.in-Ok.ensures) all
 
 pub returns-in-Err-judged : goal.returns-in-Err-judged
 returns-in-Err-judged c =
     let h = c.in-Ok.header in
-    let J : Judging = without_goal c.args.problem.now h.named in
+    let J : Judging = record { problem = c.args.problem.now; named = h.named; goal = h.goal } in
     let below = c.in-Ok-lines_below in
     let fail = c.in-Err-judged.fail in
-    fail_along fail (AreAllSound J h.turn [] h.body.now) (λ (R : List ℕ). (g : LogValue) × IsAccepted c.args.problem.now c.args.bytes.now g × (g.named ≡ R)) (IsChunkRefused J h.turn [] h.body.now) (IsRefused c.args.problem.now c.args.bytes.now)
-    (λ why. refused J c.args.bytes.now h.body.now h.turn why c.in-Ok.ensures) (judged_below J h.turn below.lines h.body.now (Err fail) below.ensures.start below.ensures.bytes (λ turn. c.in-Err-judged.ensures turn []))
+    fail_along fail (AreAllSound J h.opening [] h.body.now) _ (IsChunkRefused J h.opening [] h.body.now) (IsRefused c.args.problem.now c.args.kind c.args.bytes.now)
+    (λ why. refused J c.args.kind c.args.bytes.now h.body.now h.opening why (header_judged J c.args.kind c.args.bytes.now h.opening h.body.now c.requires.kind c.in-Ok.ensures))
+    (judged_below J h.opening below.lines h.body.now (Err fail) below.ensures.start below.ensures.bytes (λ o. c.in-Err-judged.ensures o []))

@@ -1,6 +1,6 @@
-use Rattle.refutation_terms.proofs.Fronts.{texts_distinct_for}
+use Rattle.refutation_terms.proofs.Fronts.{texts_distinct}
 use Rattle.refutation_log.proofs.OneText.{is_writable, has_names}
 use Rattle.refutation_log.proofs.laws.logs_have_one_text.Goals as goal
 
 pub returns : goal.returns
-returns c P goal other g h limits = texts_distinct_for P goal other g h (is_writable P limits) (has_names P limits)
+returns c P g h limits = texts_distinct P g h (is_writable P limits) (has_names P limits)

@@ -3,4 +3,4 @@ use Rattle.refutation_log.proofs.OneText.{is_writable, has_names}
 use Rattle.refutation_log.proofs.laws.texts_have_one_verdict.Goals as goal
 
 pub returns : goal.returns
-returns c P text verdict other limits h k = verdict_unique P text verdict other (is_writable P limits) (has_names P limits) h k
+returns c P kind text verdict other limits h k = verdict_unique P kind text verdict other (is_writable P limits) (has_names P limits) h k

@@ -1,5 +1,5 @@
-use Rattle.refutation_terms.proofs.Fronts.{texts_distinct_for}
+use Rattle.refutation_terms.proofs.Fronts.{texts_distinct}
 use Rattle.refutation_terms.proofs.laws.texts_are_distinct.Goals as goal
 
 pub returns : goal.returns
-returns c = texts_distinct_for
+returns c = texts_distinct

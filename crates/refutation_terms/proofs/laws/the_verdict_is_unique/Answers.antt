@@ -1,6 +1,5 @@
 use Rattle.refutation_terms.proofs.Unique.{verdict_unique}
-use Rattle.refutation_terms.proofs.FreeUnique.{free_verdict_unique}
 use Rattle.refutation_terms.proofs.laws.the_verdict_is_unique.Goals as goal
 
 pub returns : goal.returns
-returns c = record { plain = verdict_unique; free = free_verdict_unique }
+returns c = verdict_unique

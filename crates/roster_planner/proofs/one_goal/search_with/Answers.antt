@@ -4,10 +4,10 @@ use Rattle.roster_planner.proofs.one_goal.search_with.Goals as goal
 pub returns-in-Some : goal.returns-in-Some
 returns-in-Some c =
     let found = rw c.in-Some.is at c.in_ok-proof.ensures in
-    let few = found.1 in
+    let few = found.2 in
     let some = c.requires.budget.0 in
     record {
-      found = (found.0, omega (arith, few, some), found.2);
+      found = (found.0, found.1, omega (arith, few, some), found.3);
       complete = λ bad. absurd bad;
     }
 

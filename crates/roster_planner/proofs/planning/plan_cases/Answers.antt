@@ -8,7 +8,7 @@ returns g c =
     let reasons = c.in_ok-reasons.ensures.reasons in
     plan_found
     P
-    c.first_turn-turn.result
+    c.first_turn-opening.result
     c.args.budget
     _
     _
@@ -16,7 +16,7 @@ returns g c =
     c.planner_search-found.result
     (rw c.problem-problem.ensures at c.prove_limits.ensures)
     c.requires.budget.0
-    (rw c.problem-problem.ensures at c.first_turn-turn.ensures)
+    (rw c.problem-problem.ensures at c.first_turn-opening.ensures)
     reasons.cases.short
     reasons
     c.planner_search-found.ensures.found

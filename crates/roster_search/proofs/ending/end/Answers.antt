@@ -14,16 +14,16 @@ returns-then-is_whole c =
     let P = c.args.problem.now in
     let s = c.args.progress in
     let up : IsStrictlyIncreasing s.named = subst IsStrictlyIncreasing c.numbers.ensures.value c.numbers.ensures.ascends in
-    passing_end P s c.log_of.result c.requires.written c.requires.allowed up
-    ((c.is_whole-is_whole.ensures.tree P s.aim.turn s.lines.items c.requires.written.state).0 c.if-is_whole.true)
-    c.requires.few c.log_of.ensures.named c.log_of.ensures.turn c.log_of.ensures.goal c.log_of.ensures.lines
+    passing_end P s c.new.result c.requires.written c.requires.allowed up
+    ((c.is_whole-is_whole.ensures.tree P s.aim.opening s.lines.items c.requires.written.state).0 c.if-is_whole.true)
+    c.requires.few c.new.ensures.named c.new.ensures.opening c.new.ensures.goal c.new.ensures.lines
 
-pub log_of-requires-2-clause-tree : goal.log_of-requires-2-clause-tree
-log_of-requires-2-clause-tree c =
+pub new-requires-2-clause-tree : goal.new-requires-2-clause-tree
+new-requires-2-clause-tree c =
     let P = c.args.problem.now in
     let s = c.args.progress in
     let n : ℕ = c.open_count-count.result in
-    subst IsTree (sym c.in_ok-leave_open.ensures) (rest_ends s.lines.items n (c.open_count-count.ensures.trees P s.aim.turn s.lines.items (replicate n Unfinished) c.requires.written.state))
+    subst IsTree (sym c.in_ok-leave_open.ensures) (rest_ends s.lines.items n (c.open_count-count.ensures.trees P s.aim.opening s.lines.items (replicate n Unfinished) c.requires.written.state))
 
 pub returns : goal.returns
 returns c =
@@ -33,12 +33,12 @@ returns c =
     let up : IsStrictlyIncreasing s.named = subst IsStrictlyIncreasing c.numbers.ensures.value c.numbers.ensures.ascends in
     let part : s.walk.whole ≡ false = sym c.is_whole-is_whole.ensures.value ∙ c.if-is_whole.false in
     let some : 1 ≤ open_trees s.walk = some_open s.walk part in
-    spent_end P s n c.log_of-2.result c.requires.written c.requires.allowed up
-    (rest_ends s.lines.items n (c.open_count-count.ensures.trees P s.aim.turn s.lines.items (replicate n Unfinished) c.requires.written.state))
-    c.requires.few (c.requires.spent part) (omega (arith, some, c.open_count-count.ensures.value)) c.log_of-2.ensures.named c.log_of-2.ensures.turn c.log_of-2.ensures.goal (c.log_of-2.ensures.lines ∙ c.in_ok-leave_open.ensures)
+    spent_end P s n c.new-2.result c.requires.written c.requires.allowed up
+    (rest_ends s.lines.items n (c.open_count-count.ensures.trees P s.aim.opening s.lines.items (replicate n Unfinished) c.requires.written.state))
+    c.requires.few (c.requires.spent part) (omega (arith, some, c.open_count-count.ensures.value)) c.new-2.ensures.named c.new-2.ensures.opening c.new-2.ensures.goal (c.new-2.ensures.lines ∙ c.in_ok-leave_open.ensures)
 
-pub log_of-requires-2-clause-few : goal.log_of-requires-2-clause-few
-log_of-requires-2-clause-few c =
+pub new-requires-2-clause-few : goal.new-requires-2-clause-few
+new-requires-2-clause-few c =
     let s = c.args.progress in
     let n : ℕ = c.open_count-count.result in
     let long : length c.leave_open.new.lines.items ≡ length s.lines.items + length (replicate n Unfinished) = ap length c.in_ok-leave_open.ensures ∙ length-append s.lines.items (replicate n Unfinished) in

@@ -1,4 +1,4 @@
--- One turn, by what the propagator and the guide see.
+-- One step, by what the propagator and the guide see.
 use Rattle.std.proofs.lemmas.Result.{IfOk-from_err}
 use Rattle.roster_search.proofs.Reasons.{same_on}
 use Rattle.roster_search.proofs.search_step.step.Goals as goal

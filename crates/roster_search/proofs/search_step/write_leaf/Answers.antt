@@ -15,7 +15,7 @@ close-requires-clause-leaf g c =
     let P = c.args.problem.now in
     let a = c.args.progress.now in
     let written = c.requires.searching.under_way.written in
-    same_leaf P a.aim.turn a.aim.goal (has_domain a.walk.store) (domains_at P a.aim.turn a.lines.items (length a.lines.items)) c.args.line (some_cells P c.prove_limits.ensures) written.goal_fits
+    same_leaf P a.aim.opening a.aim.goal (has_domain a.walk.store) (domains_at P a.aim.opening a.lines.items (length a.lines.items)) c.args.line (some_cells P c.prove_limits.ensures) written.goal_fits
     (c.prove_domains.ensures.same P written) c.requires.leaf
 
 pub returns-clause-searching : goal.returns-clause-searching

@@ -5,7 +5,7 @@ use Rattle.rwsp_terms.specs.Instance.{cells, shift_count}
 use Rattle.refutation_terms.specs.Log.{IsAllowed}
 use Rattle.refutation_log.specs.declared.found.Found.{Found}
 use Rattle.roster_search.specs.declared.aim.Aim.{Aim}
-use Rattle.roster_search.specs.Founds.{IsFoundFor, HasSpentBudget}
+use Rattle.roster_search.specs.Founds.{IsFound, HasSpentBudget}
 use Rattle.roster_search.specs.Written.{IsEnded}
 use Rattle.roster_search.proofs.Finding.{found_by, undecided_small, begins_under_way}
 use Rattle.roster_search.proofs.Reasons.{same_on, same_back, under_way_by, searching_on}
@@ -29,7 +29,7 @@ returns-in-Ok-None-clause-found g c =
     let same = same_on A.serves A.leaves A.spent v _ w c.undone.ensures.same c.write_lines-written.ensures.same in
     let aim : s.aim ≡ c.args.aim = c.in-Ok-None.ensures.aim none ∙ c.in_ok-progress.ensures.aim in
     let under_way = under_way_by P A.serves A.leaves A.spent w v s (same_back A.serves A.leaves A.spent v w same) (c.in-Ok-None.ensures.searching none).under_way in
-    let IsFoundBy : Aim → Found → Type 0 = λ m. IsFoundFor P m.turn m.goal m.budget (A.leaves v) (A.spent v) in
+    let IsFoundBy : Aim → Found → Type 0 = λ m. IsFound P m.opening m.goal m.budget (A.leaves v) (A.spent v) in
     IfOk-weaker c.end.result (IsEnded P s.aim s.lines.items) (IsFoundBy c.args.aim) (λ found h. subst (λ m. IsFoundBy m found) aim (found_by P (A.leaves v) (A.spent v) s found under_way h)) c.end.ensures
 
 pub returns-in-Ok-None-clause-complete : goal.returns-in-Ok-None-clause-complete
@@ -51,7 +51,7 @@ end-requires-clause-few g c = (c.in-Ok-None.ensures.searching c.in-Ok-None.field
 
 pub end-requires-clause-allowed : goal.end-requires-clause-allowed
 end-requires-clause-allowed g c =
-    subst (λ (m : Aim). IsAllowed c.args.problem.now m.turn) (sym (c.in-Ok-None.ensures.aim c.in-Ok-None.field-0-is ∙ c.in_ok-progress.ensures.aim)) c.requires.turn.1
+    subst (λ (m : Aim). IsAllowed c.args.problem.now m.opening) (sym (c.in-Ok-None.ensures.aim c.in-Ok-None.field-0-is ∙ c.in_ok-progress.ensures.aim)) c.requires.opening.1
 
 pub returns-in-Ok-None-clause-same : goal.returns-in-Ok-None-clause-same
 returns-in-Ok-None-clause-same g c = same_on _ _ _ _ _ _ c.undone.ensures.same c.write_lines-written.ensures.same

@@ -1,4 +1,4 @@
--- Turn after turn.
+-- Step after step.
 use Rattle.std.proofs.Common.{◌∙◌}
 use Rattle.roster_search.proofs.Reasons.{same_on}
 use Rattle.roster_search.proofs.searching.write_lines.Goals as goal

@@ -1,7 +1,6 @@
-use Rattle.std.proofs.Common.{ℕ, sym, subst, arith, not, ◌==◌}
+use Rattle.std.proofs.Common.{ℕ, sym, subst, arith, not, ◌==◌, get_or, ◌<◌}
 use Rattle.std.specs.Prelude.{All}
 use Rattle.std.specs.List.Sorted.{IsStrictlyIncreasing}
-use Rattle.std.proofs.Common.{get_or, ◌<◌}
 use Rattle.rule_reducer.proofs.Kept.{front_ascends, lower_in_front, kept_more, kept_all}
 use Rattle.rule_reducer.proofs.lists.without.Goals as goal
 

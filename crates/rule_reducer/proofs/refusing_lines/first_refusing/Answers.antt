@@ -1,8 +1,9 @@
 use Rattle.std.proofs.Common.{◌≡◌, ◌∙◌, length, take, ap, sym, subst, arith, Some}
-use Rattle.rwsp_terms.specs.Instance.{Instance}
 use Rattle.rwsp_terms.specs.Rules.{rule_of}
 use Rattle.refutation_terms.specs.Log.{LineFits, ListsShortOnly}
 use Rattle.domain_store.specs.States.{IsStateOf}
+use Rattle.refutation_checker.specs.LineTexts.{Judging}
+use Rattle.rule_reducer.specs.Without.{judging}
 use Rattle.rule_reducer.proofs.Walking.{not_whole, line_at, line_read, walked_more, told_of, tells_refusal, tells_hold, holds_all}
 use Rattle.rule_reducer.proofs.refusing_lines.first_refusing.Goals as goal
 
@@ -10,24 +11,24 @@ pub refuses-requires-clause-state : goal.refuses-requires-clause-state
 refuses-requires-clause-state c =
     let g = c.args.log.now in
     let i = c.loop-i.i in
-    (g.turn, take i g.lines, subst (λ (P : Instance). IsStateOf P g.turn (take i g.lines) c.loop-i.walk) (sym c.loop-i.invariant.problem) c.loop-i.invariant.walked)
+    (g.opening, take i g.lines, subst (λ (J : Judging). IsStateOf J.problem g.opening (take i g.lines) c.loop-i.walk) (sym c.loop-i.invariant.same) c.loop-i.invariant.walked)
 
 pub refuses-requires-clause-fits : goal.refuses-requires-clause-fits
 refuses-requires-clause-fits c =
     let g = c.args.log.now in
     let line = c.index-lines-i.result in
-    subst (λ (P : Instance). LineFits P line) (sym c.loop-i.invariant.problem)
+    subst (λ (J : Judging). LineFits J.problem J.goal line) (sym c.loop-i.invariant.same)
     (c.requires.passes.grounded.fits.lines c.loop-i.i line (line_read g.lines _ c.loop-i.i line c.lines-lines.ensures (omega (arith, ap length c.lines-lines.ensures)) c.index-lines-i.is))
 
 pub refuses-requires-clause-short : goal.refuses-requires-clause-short
 refuses-requires-clause-short c =
     let g = c.args.log.now in
     let line = c.index-lines-i.result in
-    subst (λ (P : Instance). ListsShortOnly P line) (sym c.loop-i.invariant.problem)
+    subst (λ (J : Judging). ListsShortOnly J.problem line) (sym c.loop-i.invariant.same)
     (c.requires.passes.grounded.short c.loop-i.i line (line_read g.lines _ c.loop-i.i line c.lines-lines.ensures (omega (arith, ap length c.lines-lines.ensures)) c.index-lines-i.is))
 
 pub refuses-requires-clause-rule : goal.refuses-requires-clause-rule
-refuses-requires-clause-rule c = subst (λ (P : Instance). rule_of P c.args.number ≡ Some c.args.rule) (sym c.loop-i.invariant.problem) c.requires.rule
+refuses-requires-clause-rule c = subst (λ (J : Judging). rule_of J.problem c.args.number ≡ Some c.args.rule) (sym c.loop-i.invariant.same) c.requires.rule
 
 pub returns-then-refused : goal.returns-then-refused
 returns-then-refused c =
@@ -38,25 +39,22 @@ returns-then-refused c =
     let refused = c.in_ok-refused.refused in
     let here = line_read g.lines _ i line c.lines-lines.ensures (omega (arith, ap length c.lines-lines.ensures)) c.index-lines-i.is in
     tells_refusal P c.args.number g i line c.loop-i.walk refused here c.requires.passes c.loop-i.invariant.walked
-    (told_of P c.loop-i.judge c.args.number line c.loop-i.walk refused c.loop-i.invariant.problem c.in_ok-refused.ensures.refuses) c.if-refused.true
+    (told_of (judging P g) c.loop-i.judge c.args.number line c.loop-i.walk refused c.loop-i.invariant.same c.in_ok-refused.ensures.refuses) c.if-refused.true
 
 pub go_past-requires-clause-part : goal.go_past-requires-clause-part
 go_past-requires-clause-part c =
     not_whole c.args.problem.now c.args.log.now c.loop-i.i c.loop-i.walk c.requires.passes (omega (arith, ap length c.lines-lines.ensures)) c.loop-i.invariant.walked
-
-pub go_past-requires-clause-fits : goal.go_past-requires-clause-fits
-go_past-requires-clause-fits c =
-    let g = c.args.log.now in
-    let line = c.index-lines-i.result in
-    c.requires.passes.grounded.fits.lines c.loop-i.i line (line_read g.lines _ c.loop-i.i line c.lines-lines.ensures (omega (arith, ap length c.lines-lines.ensures)) c.index-lines-i.is)
 
 pub go_past-requires-clause-holds : goal.go_past-requires-clause-holds
 go_past-requires-clause-holds c =
     let g = c.args.log.now in
     let i = c.loop-i.i in
     let line = c.index-lines-i.result in
-    let here = line_read g.lines _ i line c.lines-lines.ensures (omega (arith, ap length c.lines-lines.ensures)) c.index-lines-i.is in
-    (g.turn, take i g.lines, c.loop-i.invariant.walked, line_at c.args.problem.now g i line here c.requires.passes)
+    let here = line_read g.lines _ i line c.lines-lines.ensures (omega (arith, ap length c.lines-lines.ensures)) c.index-lines-i.is in (
+      g.goal,
+      c.requires.passes.grounded.fits.lines i line here,
+      (g.opening, take i g.lines, c.loop-i.invariant.walked, line_at c.args.problem.now g i line here c.requires.passes),
+    )
 
 pub loop-i-preserved : goal.loop-i-preserved
 loop-i-preserved c =
@@ -67,10 +65,10 @@ loop-i-preserved c =
     let refused = c.in_ok-refused.refused in
     let here = line_read g.lines _ i line c.lines-lines.ensures (omega (arith, ap length c.lines-lines.ensures)) c.index-lines-i.is in
     record {
-      problem = c.refuses.ensures.same ∙ c.loop-i.invariant.problem;
-      walked = walked_more P g.turn g.lines i line c.go_past.new.walk here (c.in_ok-go_past.ensures g.turn (take i g.lines) c.loop-i.invariant.walked);
+      same = c.refuses.ensures.same ∙ c.loop-i.invariant.same;
+      walked = walked_more P g.opening g.lines i line c.go_past.new.walk here (c.in_ok-go_past.ensures g.opening (take i g.lines) c.loop-i.invariant.walked);
       held = tells_hold P c.args.number g i line c.loop-i.walk refused here c.requires.passes c.loop-i.invariant.walked
-          (told_of P c.loop-i.judge c.args.number line c.loop-i.walk refused c.loop-i.invariant.problem c.in_ok-refused.ensures.refuses) c.if-refused.false c.loop-i.invariant.held;
+          (told_of (judging P g) c.loop-i.judge c.args.number line c.loop-i.walk refused c.loop-i.invariant.same c.in_ok-refused.ensures.refuses) c.if-refused.false c.loop-i.invariant.held;
     }
 
 pub returns : goal.returns

@@ -1,11 +1,12 @@
 use Rattle.std.proofs.Common.{◌≡◌, take}
 use Rattle.domain_store.specs.States.{IsStateOf}
+use Rattle.rule_reducer.specs.Without.{judging}
 use Rattle.rule_reducer.proofs.Walking.{HoldWithout}
 use Rattle.rule_reducer.proofs.refusing_lines.first_refusing.Given as goal
 
 abbrev pub invariant-loop-i : goal.invariant-loop-i
 invariant-loop-i l = record {
-  problem : l.judge ≡ l.problem;
-  walked : IsStateOf l.problem l.log.turn (take l.i l.log.lines) l.walk;
+  same : l.judge ≡ judging l.problem l.log;
+  walked : IsStateOf l.problem l.log.opening (take l.i l.log.lines) l.walk;
   held : HoldWithout l.problem l.number l.log l.i;
 }

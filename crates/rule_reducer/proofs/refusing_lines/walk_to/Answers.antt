@@ -6,23 +6,21 @@ pub go_past-requires-clause-part : goal.go_past-requires-clause-part
 go_past-requires-clause-part c =
     not_whole c.args.problem.now c.args.log.now c.loop-i.i c.loop-i.walk c.requires.passes (omega (arith, c.requires.place)) c.loop-i.invariant
 
-pub go_past-requires-clause-fits : goal.go_past-requires-clause-fits
-go_past-requires-clause-fits c =
-    let g = c.args.log.now in
-    let line = c.index-lines-i.result in
-    c.requires.passes.grounded.fits.lines c.loop-i.i line (line_read g.lines _ c.loop-i.i line c.lines-lines.ensures (omega (arith, c.requires.place)) c.index-lines-i.is)
-
 pub go_past-requires-clause-holds : goal.go_past-requires-clause-holds
 go_past-requires-clause-holds c =
     let g = c.args.log.now in
     let i = c.loop-i.i in
     let line = c.index-lines-i.result in
-    (g.turn, take i g.lines, c.loop-i.invariant, line_at c.args.problem.now g i line (line_read g.lines _ i line c.lines-lines.ensures (omega (arith, c.requires.place)) c.index-lines-i.is) c.requires.passes)
+    let here = line_read g.lines _ i line c.lines-lines.ensures (omega (arith, c.requires.place)) c.index-lines-i.is in (
+      g.goal,
+      c.requires.passes.grounded.fits.lines i line here,
+      (g.opening, take i g.lines, c.loop-i.invariant, line_at c.args.problem.now g i line here c.requires.passes),
+    )
 
 pub loop-i-preserved : goal.loop-i-preserved
 loop-i-preserved c =
     let g = c.args.log.now in
     let i = c.loop-i.i in
     let line = c.index-lines-i.result in
-    walked_more c.args.problem.now g.turn g.lines i line c.go_past.new.walk (line_read g.lines _ i line c.lines-lines.ensures (omega (arith, c.requires.place)) c.index-lines-i.is)
-    (c.in_ok-go_past.ensures g.turn (take i g.lines) c.loop-i.invariant)
+    walked_more c.args.problem.now g.opening g.lines i line c.go_past.new.walk (line_read g.lines _ i line c.lines-lines.ensures (omega (arith, c.requires.place)) c.index-lines-i.is)
+    (c.in_ok-go_past.ensures g.opening (take i g.lines) c.loop-i.invariant)

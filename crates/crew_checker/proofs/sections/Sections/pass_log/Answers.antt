@@ -1,4 +1,5 @@
 use Rattle.std.proofs.Common.{◌≡◌, ℕ, ◌+◌, ◌++◌, take, drop, Option, Some, refl, ap, sym, ◌∙◌, subst, take-append-drop}
+use Rattle.refutation_terms.specs.declared.lines.LogKind.TheVariants.{WithoutGoal}
 use Rattle.refutation_terms.specs.Verdict.{IsRefused}
 use Rattle.crew_size.specs.Sizes.{with_weeks}
 use Rattle.crew_size.specs.Sections.{AreUpToHeading}
@@ -39,6 +40,6 @@ returns-in-Err-Refused-clause-verdict g c = λ text at.
     let whole : bytes ≡ log ++ rest = sym (take-append-drop mid bytes) ∙ ap (λ t. t ++ drop mid bytes) (sym front) ∙ ap (λ t. log ++ t) (sym back) in
     let cut : AreUpToHeading log rest = subst (λ t. AreUpToHeading t rest) (sym front) (subst (AreUpToHeading (take mid bytes)) (sym back) c.section_end.ensures.end) in
     let P = c.args.problem.now in
-    let refused = why_refused _ c.in-Err-Refused.field-0 c.in-Err-Refused.why _ (IsRefused (with_weeks P c.args.weeks) log) c.in-Err-Refused.field-0-is c.in-Err-Refused.ensures in
+    let refused = why_refused _ c.in-Err-Refused.field-0 c.in-Err-Refused.why _ (IsRefused (with_weeks P c.args.weeks) WithoutGoal log) c.in-Err-Refused.field-0-is c.in-Err-Refused.ensures in
     subst (HasRefusedLog P text c.args.weeks) (sym c.in-Err-Refused.why-is)
     (log_refused P text c.args.self.now.sizes c.args.self.now.line c.args.weeks bytes log rest c.in-Err-Refused.why refused c.requires.next whole cut at)

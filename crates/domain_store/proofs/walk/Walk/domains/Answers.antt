@@ -5,5 +5,5 @@ use Rattle.domain_store.proofs.Moves.{state_domains}
 use Rattle.domain_store.proofs.walk.Walk.domains.Goals as goal
 
 pub returns-clause-has : goal.returns-clause-has
-returns-clause-has c P turn lines w p x lt =
-    state_domains P turn lines c.self.inside.domains c.self.inside.splits.items c.self.inside.whole c.prove_facts.ensures.now (subst (IsStateOf P turn lines) (sym c.self.view_is) w) p x lt
+returns-clause-has c P start lines w p x lt =
+    state_domains P start lines c.self.inside.domains c.self.inside.splits.items c.self.inside.whole c.prove_facts.ensures.now (subst (IsStateOf P start lines) (sym c.self.view_is) w) p x lt

@@ -5,5 +5,5 @@ use Rattle.domain_store.proofs.Moves.{state_whole}
 use Rattle.domain_store.proofs.walk.Walk.is_whole.Goals as goal
 
 pub returns-clause-tree : goal.returns-clause-tree
-returns-clause-tree c P turn lines w =
-    state_whole P turn lines c.self.inside.domains c.self.inside.splits.items c.self.inside.whole (subst (IsStateOf P turn lines) (sym c.self.view_is) w)
+returns-clause-tree c P start lines w =
+    state_whole P start lines c.self.inside.domains c.self.inside.splits.items c.self.inside.whole (subst (IsStateOf P start lines) (sym c.self.view_is) w)

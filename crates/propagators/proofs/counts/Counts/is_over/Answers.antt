@@ -1,6 +1,6 @@
 -- The counts are of the problem's days, weeks and shifts.
 use Rattle.std.proofs.Common.{◌≡◌, rules}
-use Rattle.refutation_terms.specs.Leaf.{fixed}
+use Rattle.refutation_terms.specs.DayLeaf.{fixed}
 use Rattle.propagators.specs.Counted.{has_counted}
 use Rattle.propagators.proofs.OverrunLemmas.{fixed_here}
 use Rattle.propagators.proofs.counts.Counts.is_over.Goals as goal

@@ -1,5 +1,5 @@
 -- The counters of the position's day count the new domain in place of the old one.
-use Rattle.std.proofs.Common.{◌≡◌, ℕ, List, Bool, ◌<◌, ◌*◌, length, arith, ◌∙◌, ap, sym, subst, refl, set}
+use Rattle.std.proofs.Common.{ℕ, List, Bool, ◌<◌, ◌*◌, length, arith, ◌∙◌, ap, sym, subst, refl, set}
 use Rattle.std.proofs.lemmas.List.{length-set}
 use Rattle.propagators.specs.Tallies.{is_held, is_alone, Tallies}
 use Rattle.propagators.proofs.TallyLemmas.{tally_has, tally_small, tallies_moved, tallies_read, written_back}

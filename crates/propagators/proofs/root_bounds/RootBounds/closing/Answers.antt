@@ -3,7 +3,9 @@ use Rattle.std.proofs.Common.{◌≡◌, ◌∙◌, refl, ap, sym, subst, List, 
 use Rattle.rwsp_terms.specs.declared.data.Weight.{Weight}
 use Rattle.rwsp_terms.specs.Instance.{Instance}
 use Rattle.rwsp_model.specs.Validity.{KeepsLimits}
-use Rattle.refutation_terms.specs.declared.lines.Line.TheVariants.{Bound}
+use Rattle.refutation_terms.specs.declared.lines.Line.TheVariants.{Closing}
+use Rattle.refutation_terms.specs.declared.lines.Leaf.TheVariants.{Words}
+use Rattle.refutation_terms.specs.declared.lines.WordClaim.TheVariants.{Light}
 use Rattle.refutation_terms.specs.Word.{AreSame}
 use Rattle.domain_store.specs.Store.{Store, has_domain}
 use Rattle.propagators.specs.TopBounds.{TopWatch, IsBoundLook}
@@ -30,6 +32,6 @@ returns c =
     let Same : Instance → Store → Type 0 = λ P T. AreSame P (has_domain S) (has_domain T) in
     let same : Same c.problem-problem.result.now c.self.inside.start = c.if-not-are_same.ensures.0 refl in
     let same_now : Same w.problem w.start = subst (Same w.problem) start (subst (λ P. Same P c.self.inside.start) problem same) in
-    let Looks : List ℕ → List Weight → Type 0 = λ R y. IsBoundLook w.problem w.start S (Some (Bound 0 1 R y)) in
+    let Looks : List ℕ → List Weight → Type 0 = λ R y. IsBoundLook w.problem w.start S (Some (Closing (Words 0 R (Light 1 0 y)))) in
     let here = look_at_start w S c.in-Some.weights limits c.prove_facts.ensures (sym weights ∙ c.in-Some.is) same_now in
     subst (Looks c.in_ok-rules.rules) (sym c.in_ok-weights.ensures) (subst (λ R. Looks R c.in-Some.weights) (sym (c.in_ok-rules.ensures ∙ rules)) here)

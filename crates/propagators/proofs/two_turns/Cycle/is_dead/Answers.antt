@@ -2,7 +2,7 @@
 use Rattle.std.proofs.Common.{◌∙◌, ◌*◌, ap, subst, IsTrue, not}
 use Rattle.std.specs.Prelude.{◌↔◌}
 use Rattle.rwsp_terms.specs.Instance.{cells}
-use Rattle.refutation_terms.specs.Leaf.{IsDead}
+use Rattle.refutation_terms.specs.WordsLeaf.{IsDead}
 use Rattle.propagators.specs.Known.{KnownCycle, knows_symbol}
 use Rattle.propagators.specs.Marks.{is_marked}
 use Rattle.propagators.proofs.Turning.{dead_by}

@@ -1,38 +1,30 @@
--- The domains of the walk are those at the line, and the log has no goal.
-use Rattle.std.proofs.Common.{ℕ, Option, None, length, subst, sym}
-use Rattle.rwsp_terms.specs.Instance.{Instance}
+-- The domains of the walk are those at the line.
+use Rattle.std.proofs.Common.{length, subst}
+use Rattle.refutation_terms.specs.declared.lines.Opening.TheVariants.{Full}
 use Rattle.refutation_terms.specs.Tree.{domains_at}
-use Rattle.refutation_terms.specs.Log.{LineFits, LineFitsFor}
-use Rattle.refutation_terms.specs.Verdict.{Escapes, EscapesFor}
+use Rattle.refutation_terms.specs.Log.{GoalFits}
 use Rattle.domain_store.specs.Store.{has_domain}
-use Rattle.refutation_checker.specs.LineVerdicts.{HoldsByWordsFor}
-use Rattle.refutation_checker.proofs.LeafJudging.{by_words, holds_there, fails_there}
+use Rattle.refutation_checker.specs.LineTexts.{Judging, HoldsByWordsUnder, EscapesUnder}
+use Rattle.refutation_checker.proofs.LeafJudging.{holds_there, fails_there}
 use Rattle.refutation_checker.proofs.leaf_judge.LeafJudge.holds.Goals as goal
-
-pub leaf_escape-requires-clause-line : goal.leaf_escape-requires-clause-line
-leaf_escape-requires-clause-line c =
-    let leaf = c.args.leaf.now in
-    subst (λ (o : Option ℕ). LineFitsFor c.self.inside.judge.problem o leaf) (sym c.self.invariant)
-    (subst (λ (Q : Instance). LineFits Q leaf) (sym c.self.view_is) c.requires.fits)
 
 pub returns-in-Some-clause-holds : goal.returns-in-Some-clause-holds
 returns-in-Some-clause-holds c =
-    λ turn lines state.
-    let P = c.args.self.now in
+    λ o lines state.
+    let J = c.args.self.now in
     let D = has_domain c.domains.result.now in
     let leaf = c.args.leaf.now in
     let word = c.in-Some._word in
-    fails_there P D (domains_at P turn lines (length lines)) leaf word c.requires.fits (c.domains.ensures.has P turn lines state)
-    (subst (λ (Q : Instance). Escapes Q D leaf word) c.self.view_is
-    (subst (λ (o : Option ℕ). EscapesFor c.self.inside.judge.problem o D leaf word) c.self.invariant (rw c.in-Some.is at c.in_ok-_word.ensures.escape)))
+    let weeks : GoalFits J.problem Full J.goal = subst (λ (j : Judging). GoalFits j.problem Full j.goal) c.self.view_is c.self.invariant in
+    fails_there J.problem J.goal D (domains_at J.problem o lines (length lines)) leaf word weeks c.requires.fits (c.domains.ensures.has J.problem o lines state)
+    (subst (λ (j : Judging). EscapesUnder j D leaf word) c.self.view_is (rw c.in-Some.is at c.in_ok-_word.ensures.escape))
 
 pub returns-clause-holds : goal.returns-clause-holds
 returns-clause-holds c =
-    λ turn lines state.
-    let P = c.args.self.now in
+    λ o lines state.
+    let J = c.args.self.now in
     let D = has_domain c.domains.result.now in
     let leaf = c.args.leaf.now in
-    holds_there P D (domains_at P turn lines (length lines)) leaf c.requires.fits (c.domains.ensures.has P turn lines state)
-    (by_words P D leaf c.requires.fits
-    (subst (λ (Q : Instance). HoldsByWordsFor Q None D leaf) c.self.view_is
-    (subst (λ (o : Option ℕ). HoldsByWordsFor c.self.inside.judge.problem o D leaf) c.self.invariant (rw c.in_default.is at c.in_ok-_word.ensures.escape))))
+    let weeks : GoalFits J.problem Full J.goal = subst (λ (j : Judging). GoalFits j.problem Full j.goal) c.self.view_is c.self.invariant in
+    holds_there J.problem J.goal D (domains_at J.problem o lines (length lines)) leaf weeks c.requires.fits (c.domains.ensures.has J.problem o lines state)
+    (subst (λ (j : Judging). HoldsByWordsUnder j D leaf) c.self.view_is (rw c.in_default.is at c.in_ok-_word.ensures.escape))

@@ -15,15 +15,15 @@ returns-clause-written c =
     written_next P a _ c.args.line c.requires.written (record {
       aim = refl;
       lines = c.in_ok-push.ensures.items;
-      state = c.read_leaf.ensures.ends P a.aim.turn a.lines.items c.args.line c.requires.written.state c.requires.leaf.leaf;
+      state = c.read_leaf.ensures.ends P a.aim.opening a.lines.items c.args.line c.requires.written.state c.requires.leaf.leaf;
       stands = record { holds = c.requires.leaf.holds; fits = c.requires.leaf.fits; short = c.requires.leaf.short };
-      named = c.in_ok-put_cited_for.ensures.names;
-      numbers = λ k h. elim ((c.in_ok-put_cited_for.ensures.ok k).0 h) as (λ (o : Contains a.named k ⊎ IsCited P (Cites P c.args.line) k). (x : Rule) × (rule_of P k ≡ Some x)) [
+      named = c.in_ok-put_cited.ensures.names;
+      numbers = λ k h. elim ((c.in_ok-put_cited.ensures.ok k).0 h) as (λ (o : Contains a.named k ⊎ IsCited P (Cites P c.args.line) k). (x : Rule) × (rule_of P k ≡ Some x)) [
         | inl old ↦ c.requires.written.numbers k old
         | inr cited ↦ (cited.0, cited.1)
       ];
       opened = omega (arith, c.read_leaf.ensures.one_less);
     })
 
-pub put_cited_for-requires : goal.put_cited_for-requires
-put_cited_for-requires c = (c.args.self.now.aim.goal, c.requires.leaf.fits)
+pub put_cited-requires : goal.put_cited-requires
+put_cited-requires c = (c.args.self.now.aim.goal, c.requires.leaf.fits)

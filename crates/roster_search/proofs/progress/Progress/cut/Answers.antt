@@ -7,7 +7,7 @@ use Rattle.domain_store.specs.Store.{Store, IsStore, BelongsTo, has_domain}
 use Rattle.refutation_terms.specs.declared.lines.Line.{Line}
 use Rattle.refutation_terms.specs.declared.lines.Line.TheVariants.{Split}
 use Rattle.refutation_terms.specs.Tree.{domains_at, narrowed, First}
-use Rattle.domain_store.specs.Leaves.{IsHoldingLeafFor}
+use Rattle.domain_store.specs.Leaves.{IsHoldingLeaf}
 use Rattle.domain_store.proofs.Idle.{positions_of, idle_in_store}
 use Rattle.roster_search.specs.declared.aim.Aim.{Aim}
 use Rattle.roster_search.specs.Written.{IsSplitWithLeaf}
@@ -41,10 +41,10 @@ close-requires-clause-leaf c =
     let D = has_domain a.walk.store in
     let cut = Split c.args.p c.args.x in
     let all : List Line = a.lines.items ++ cut ∷ [] in
-    let HoldsBehind : Aim → List Line → Type 0 = λ m ls. IsHoldingLeafFor P m.goal (domains_at P m.turn ls (length ls)) c.args.line in
+    let HoldsBehind : Aim → List Line → Type 0 = λ m ls. IsHoldingLeaf P m.goal (domains_at P m.opening ls (length ls)) c.args.line in
     let there : HoldsBehind a.aim all =
-    same_leaf P a.aim.turn a.aim.goal (narrowed D cut First) (domains_at P a.aim.turn all (length all)) c.args.line (some_cells P c.prove_limits.ensures) c.requires.written.goal_fits
-    (first_side P a.aim.turn a.lines.items D c.args.p c.args.x (c.prove_domains.ensures.same P c.requires.written))
+    same_leaf P a.aim.opening a.aim.goal (narrowed D cut First) (domains_at P a.aim.opening all (length all)) c.args.line (some_cells P c.prove_limits.ensures) c.requires.written.goal_fits
+    (first_side P a.aim.opening a.lines.items D c.args.p c.args.x (c.prove_domains.ensures.same P c.requires.written))
     c.requires.leaf in
     subst (λ m. HoldsBehind m c.split.new.self.lines.items) (sym c.in_ok-split.ensures.aim) (subst (HoldsBehind a.aim) (sym c.in_ok-split.ensures.lines) there)
 
@@ -60,16 +60,16 @@ returns-in_ok-close-clause-off c =
     let lines : b.lines.items ≡ a.lines.items ++ added = both_lines a.lines.items c.split.new.self.lines.items b.lines.items (Split p x) c.args.line c.in_ok-split.ensures.lines c.in_ok-close.ensures.lines in
     let kind : IsSplitWithLeaf p x added = inr (c.args.line, c.requires.leaf.leaf, refl) in
     let w = c.in_ok-close.ensures.written in
-    let before : HasDomainsBehind P a.aim.turn a.lines.items a.walk.store = record { store = c.prove_domains.ensures.store; belongs = c.requires.written.state.belongs; same = c.prove_domains.ensures.same P c.requires.written } in
-    let behind : HasDomainsBehind P b.aim.turn b.lines.items b.walk.store = record { store = c.prove_domains-then-has_room.ensures.store; belongs = w.state.belongs; same = c.prove_domains-then-has_room.ensures.same P w } in
+    let before : HasDomainsBehind P a.aim.opening a.lines.items a.walk.store = record { store = c.prove_domains.ensures.store; belongs = c.requires.written.state.belongs; same = c.prove_domains.ensures.same P c.requires.written } in
+    let behind : HasDomainsBehind P b.aim.opening b.lines.items b.walk.store = record { store = c.prove_domains-then-has_room.ensures.store; belongs = w.state.belongs; same = c.prove_domains-then-has_room.ensures.same P w } in
     record {
       written = w;
       same_aim = aim;
       added = added;
       split = kind;
       lines = lines;
-      narrowed = narrowed_at P a.aim.turn a.lines.items added a.walk.store b.walk.store p x before
-          (subst (λ (ls : List Line). HasDomainsBehind P a.aim.turn ls b.walk.store) lines (subst (λ (m : Aim). HasDomainsBehind P m.turn b.lines.items b.walk.store) aim behind)) kind c.requires.position;
+      narrowed = narrowed_at P a.aim.opening a.lines.items added a.walk.store b.walk.store p x before
+          (subst (λ (ls : List Line). HasDomainsBehind P a.aim.opening ls b.walk.store) lines (subst (λ (m : Aim). HasDomainsBehind P m.opening b.lines.items b.walk.store) aim behind)) kind c.requires.position;
     }
 
 pub returns-in_ok-close-clause-few : goal.returns-in_ok-close-clause-few

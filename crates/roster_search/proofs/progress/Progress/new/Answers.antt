@@ -11,15 +11,15 @@ pub returns-clause-written : goal.returns-clause-written
 returns-clause-written c =
     let P = c.args.problem.now in
     let none : c.new-2.result.items ≡ [] = c.new-2.ensures.items in
-    let few : open_trees c.in_ok-walk.walk ≤ 1 = one_open P c.args.aim.turn c.in_ok-walk.walk c.in_ok-walk.ensures.part c.in_ok-walk.ensures.starts in
+    let few : open_trees c.in_ok-walk.walk ≤ 1 = one_open P c.args.aim.opening c.in_ok-walk.walk c.in_ok-walk.ensures.part c.in_ok-walk.ensures.starts in
     record {
-      state = subst (λ (ls : List Line). IsStateOf P c.args.aim.turn ls c.in_ok-walk.walk) (sym none) c.in_ok-walk.ensures.starts;
-      turn_fits = c.requires.turn;
+      state = subst (λ (ls : List Line). IsStateOf P c.args.aim.opening ls c.in_ok-walk.walk) (sym none) c.in_ok-walk.ensures.starts;
+      opening_fits = c.requires.opening;
       goal_fits = c.requires.goal;
       stand = λ k line e. (let got : slice_get [] k ≡ Some line = ap (λ (ls : List Line). slice_get ls k) (sym none) ∙ e in absurd (cc));
       cited = λ r. (
         λ n. inl ((c.in_ok-named.ensures.cited r).0 n),
-        λ h. (c.in_ok-named.ensures.cited r).1 (cited_none P c.args.aim.turn r (subst (λ (ls : List Line). IsCitedIn P c.args.aim.turn ls r) none h)),
+        λ h. (c.in_ok-named.ensures.cited r).1 (cited_none P c.args.aim.opening r (subst (λ (ls : List Line). IsCitedIn P c.args.aim.opening ls r) none h)),
       );
       numbers = c.in_ok-named.ensures.numbers;
       few_open = omega (arith, few);

@@ -8,4 +8,4 @@ use Rattle.roster_search.proofs.progress.Progress.prove_domains.Goals as goal
 pub returns-clause-same : goal.returns-clause-same
 returns-clause-same c P w =
     let s = c.args.self.now in
-    subst (λ (S : Store). AreSame P (has_domain S) (domains_at P s.aim.turn s.lines.items (length s.lines.items))) c.domains.ensures.value (c.domains.ensures.has P s.aim.turn s.lines.items w.state)
+    subst (λ (S : Store). AreSame P (has_domain S) (domains_at P s.aim.opening s.lines.items (length s.lines.items))) c.domains.ensures.value (c.domains.ensures.has P s.aim.opening s.lines.items w.state)

@@ -1,0 +1,14 @@
+use Rattle.commands.proofs.Logs.{accepted}
+use Rattle.commands.proofs.Refusals.{printable}
+use Rattle.commands.proofs.check.checked.Goals as goal
+
+pub returns-in-Ok-clause-says : goal.returns-in-Ok-clause-says
+returns-in-Ok-clause-says g c =
+    let passed = c.in-Ok.passed in
+    let log = c.in-Ok.ensures in
+    accepted c.args.problem.now c.args.log.kind c.args.log.bytes.now log.0 passed.goal passed.named log.1 log.3 log.2
+
+pub returns-in-Err-Refused-clause-own : goal.returns-in-Err-Refused-clause-own
+returns-in-Err-Refused-clause-own g c =
+    let refused = c.in-Err-Refused in
+    printable c.args.problem.now c.args.log.kind c.args.log.bytes.now refused.why (rw refused.field-0-is at refused.ensures)

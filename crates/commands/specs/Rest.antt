@@ -1,0 +1,35 @@
+-- What `rest` answers.
+use Rattle.std.specs.Prelude.{ℕ, List, ◌++◌, codes}
+use Rattle.std.specs.Fmt.{decimal}
+use Rattle.rwsp_terms.specs.Instance.{Instance}
+use Rattle.rwsp_terms.specs.Roster.{MeetsAll}
+use Rattle.rwsp_terms.specs.declared.data.Symbol.{Symbol}
+use Rattle.rwsp_file.specs.Spelling.{SpellsProblem}
+use Rattle.rwsp_file.specs.Text.{problem_text}
+use Rattle.rest_between.specs.Rested.{HasRest}
+use Rattle.rest_between.specs.Answers.{IsRestOf}
+use Rattle.rest_between.specs.declared.rested.LeastRest.{LeastRest}
+use Rattle.rest_between.specs.declared.rested.LeastRest.TheVariants.{Rested, Pairs, Triples}
+use Rattle.commands.specs.Lines.{line}
+
+abbrev pub rest_text : LeastRest → List ℕ
+rest_text (Rested Q) = problem_text Q
+rest_text (Pairs n) = line (codes "rest refused: pairs " ++ decimal n)
+rest_text (Triples n) = line (codes "rest refused: triples " ++ decimal n)
+
+-- each roster of an instance has the rest between the shifts of another
+abbrev pub RestInEach : Instance → ℕ → Instance → Type 0
+RestInEach P minutes Q = (s : List Symbol) → MeetsAll Q s → HasRest P minutes s
+
+-- the text of a problem with a least rest spells it, and each roster of it has the rest
+abbrev pub IsPromised : Instance → ℕ → LeastRest → Type 0
+IsPromised P minutes (Rested Q) = SpellsProblem (problem_text Q) Q × RestInEach P minutes Q
+IsPromised P minutes answer = Unit {0}
+
+-- what an answer says
+abbrev pub IsRestAnswer : Instance → ℕ → LeastRest → Type 0
+IsRestAnswer P minutes answer = IsRestOf P minutes answer × IsPromised P minutes answer
+
+abbrev pub rest_status : LeastRest → ℕ
+rest_status (Rested Q) = 0
+rest_status why = 3

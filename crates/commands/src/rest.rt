@@ -1,0 +1,57 @@
+// The problem with a least rest between shifts.
+ghost use Rattle.std.specs.Prelude.{◌≡◌, ◌++◌, ◌≤◌, IfOk, codes};
+ghost use Rattle.std.specs.Fmt.{decimal};
+ghost use Rattle.commands.specs.Lines.{line};
+ghost use Rattle.commands.specs.Rest.{IsRestAnswer, rest_text, rest_status};
+
+use crate::put::put_labelled;
+use rest_between::{LeastRest, require_rest, rosters_rest};
+use rwsp_file::{canonical_texts_spell, print_problem};
+use rwsp_model::Problem;
+use rwsp_terms::limits::LONGEST_REST;
+use std::alloc::{AllocError, Global};
+
+/// The problem with at least this many minutes between the end of a shift and the start of the next within two days.
+pub fn job(alloc: Global, problem: &Problem, minutes: u32) -> Result<LeastRest, AllocError>
+    requires { minutes ≤ LONGEST_REST }
+    ensures { IfOk result (IsRestAnswer problem.now minutes) }
+{
+    rosters_rest();
+    canonical_texts_spell();
+    require_rest(alloc, problem, minutes)
+}
+
+// The line of a refusal: what there would be too many of, and how many.
+fn refused_line(alloc: Global, label: &[u8], count: u32) -> Result<Vec<u8>, AllocError>
+    ensures { IfOk result (λ v. v.items ≡ line (label.now ++ decimal count)) }
+{
+    let mut out = Vec::new(alloc);
+    put_labelled(&mut out, label, count)?;
+    out.push(b'\n')?;
+    Ok(out)
+}
+
+/// The text of the answer: the problem's, or a line.
+pub fn text(alloc: Global, answer: &LeastRest) -> Result<Vec<u8>, AllocError>
+    ensures { IfOk result (λ v. v.items ≡ rest_text answer.now) }
+{
+    match answer {
+        LeastRest::Rested(problem) => print_problem(alloc, problem),
+        LeastRest::Pairs(count) => refused_line(alloc, b"rest refused: pairs ".as_slice(), *count),
+        LeastRest::Triples(count) => refused_line(
+            alloc,
+            b"rest refused: triples ".as_slice(),
+            *count,
+        ),
+    }
+}
+
+/// The status of the answer.
+pub fn status(answer: &LeastRest) -> u8
+    ensures { result ≡ rest_status answer.now }
+{
+    match answer {
+        LeastRest::Rested(_) => 0,
+        _ => 3,
+    }
+}

@@ -1,0 +1,4 @@
+pub mod Times
+pub mod Rested
+pub mod Laws
+pub mod Answers

@@ -1,0 +1,7 @@
+pub mod PieceText
+pub mod Escaped
+pub mod Clock
+pub mod Hours
+pub mod LeastRest
+pub mod PageText
+pub mod Laws

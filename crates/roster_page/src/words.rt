@@ -1,0 +1,92 @@
+// Words that several parts of a page have.
+ghost use Rattle.std.specs.Prelude.{◌≡◌, ◌++◌, ◌<◌, OnOk};
+ghost use Rattle.rwsp_terms.specs.Instance.{shift_count, IsSymbol};
+ghost use Rattle.rest_between.specs.Rested.{shift_at};
+ghost use Rattle.roster_page.specs.PageText.{weeks_words, range_words, name_text, day_head, day_heads, shift_head};
+
+use crate::escaped::put_escaped;
+use crate::pieces::{Piece, put};
+use rwsp_model::Problem;
+use rwsp_terms::limits::{MOST_DAYS, MOST_SHIFTS};
+use rwsp_terms::{Bounds, Symbol};
+use rwsp_text::put_number;
+use std::alloc::AllocError;
+
+/// Appends a number of weeks, in words.
+#[tactic(auto, unfolding(crate::specs::PageText::weeks_words))]
+pub fn put_weeks(out: &mut Vec<u8>, count: u32) -> Result<(), AllocError>
+    ensures { OnOk result (out.new.items ≡ out.old.items ++ weeks_words count) }
+{
+    put_number(out, u64::from(count))?;
+    if count == 1 {
+        put(out, Piece::WeekWord)
+    } else {
+        put(out, Piece::WeeksWord)
+    }
+}
+
+/// Appends a range of numbers, in words.
+#[tactic(auto, unfolding(crate::specs::PageText::range_words))]
+pub fn put_range(out: &mut Vec<u8>, range: Bounds) -> Result<(), AllocError>
+    ensures { OnOk result (out.new.items ≡ out.old.items ++ range_words range) }
+{
+    put_number(out, u64::from(range.least))?;
+    if range.least != range.greatest {
+        put(out, Piece::ToWord)?;
+        put_number(out, u64::from(range.greatest))?;
+    }
+    Ok(())
+}
+
+/// Appends the name of a symbol.
+#[tactic(auto, unfolding(crate::specs::PageText::name_text))]
+pub fn put_name(out: &mut Vec<u8>, problem: &Problem, symbol: Symbol) -> Result<(), AllocError>
+    requires { IsSymbol problem.now symbol }
+    ensures { OnOk result (out.new.items ≡ out.old.items ++ name_text problem.now symbol) }
+{
+    put_escaped(out, problem.name(symbol))
+}
+
+// Appends the head of a day, where days count from 0.
+#[tactic(auto, unfolding(crate::specs::PageText::day_head))]
+fn put_day_head(out: &mut Vec<u8>, day: u32) -> Result<(), AllocError>
+    requires { day < MOST_DAYS }
+    ensures { OnOk result (out.new.items ≡ out.old.items ++ day_head day) }
+{
+    put(out, Piece::DayHead)?;
+    put_number(out, u64::from(day + 1))?;
+    put(out, Piece::HeadEnd)
+}
+
+/// Appends a head for each day.
+#[tactic(auto, unfolding(crate::specs::PageText::day_heads))]
+pub fn put_day_heads(out: &mut Vec<u8>, problem: &Problem) -> Result<(), AllocError>
+    ensures { OnOk result (out.new.items ≡ out.old.items ++ day_heads problem.now) }
+{
+    for day in 0..problem.days() {
+        put_day_head(out, day)?;
+    }
+    Ok(())
+}
+
+/// The shift at a place, counted from 0.
+pub fn shift_at(place: u8) -> Symbol
+    requires { place < MOST_SHIFTS }
+    ensures { result ≡ shift_at place }
+{
+    Symbol { number: place + 1 }
+}
+
+/// Appends the front of a row that a shift heads, where shifts count from 0.
+#[tactic(auto, unfolding(crate::specs::PageText::shift_head))]
+pub fn put_shift_head(out: &mut Vec<u8>, problem: &Problem, place: u8) -> Result<(), AllocError>
+    requires { place < shift_count problem.now }
+    ensures { OnOk result (out.new.items ≡ out.old.items ++ shift_head problem.now place) }
+{
+    problem.prove_limits();
+    put(out, Piece::ShiftTop)?;
+    put_number(out, u64::from(place + 1))?;
+    put(out, Piece::ClassEnd)?;
+    put_name(out, problem, shift_at(place))?;
+    put(out, Piece::HeadEnd)
+}
