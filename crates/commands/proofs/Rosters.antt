@@ -2,14 +2,12 @@
 use Rattle.std.proofs.Common.{◌≡◌, ℕ, List, Some, None, Option, ap, sym, ◌∙◌, refl, subst}
 use Rattle.std.specs.Prelude.{MatchOption}
 use Rattle.rwsp_terms.specs.Instance.{Instance}
-use Rattle.rwsp_terms.specs.Roster.{MeetsAll}
 use Rattle.rwsp_terms.specs.declared.data.Symbol.{Symbol}
 use Rattle.roster_print.specs.RosterText.{SpellsRoster}
 use Rattle.roster_print.specs.Refusal.{refusal_of_roster}
 use Rattle.roster_print.specs.declared.refusal.RosterRefusal.{RosterRefusal}
 use Rattle.roster_print.proofs.Spelling.{one_roster, refusals_decide}
 use Rattle.roster_checker.specs.FirstBroken.{IsFirstBroken}
-use Rattle.roster_checker.specs.declared.broken.Broken.{Broken}
 use Rattle.roster_checker.proofs.FirstBroken.{first_broken-not_met, first_broken-same}
 use Rattle.commands.specs.Verify.{SpellsRight, IsRosterFault, IsVerified}
 use Rattle.commands.specs.declared.verify.RosterFault.{RosterFault}

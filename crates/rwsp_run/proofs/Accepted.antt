@@ -1,7 +1,7 @@
 -- What one command writes, another accepts.
 use Rattle.std.proofs.Common.{◌≡◌, ℕ, ◌+◌, ◌<◌, ◌≤◌, List, sym, refl, ap, ◌∙◌, subst, inl, inr, arith}
 use Rattle.std.specs.Prelude.{◌≢◌, ◌⊎◌, Option, Some, None}
-use Rattle.rwsp_io.specs.Told.{Told, Silent, Bytes}
+use Rattle.rwsp_io.specs.Told.{Silent, Bytes}
 use Rattle.rwsp_terms.specs.Instance.{Instance}
 use Rattle.rwsp_terms.specs.Roster.{MeetsAll}
 use Rattle.rwsp_terms.specs.declared.data.Symbol.{Symbol}

@@ -6,7 +6,6 @@ use Rattle.command_line.specs.Commands.{CommandWords, IsForm, HasNoForm, ReadsPr
 use Rattle.command_line.specs.declared.command.Command.{Command}
 use Rattle.command_line.specs.declared.command.Command.TheVariants as Commands
 use Rattle.command_line.specs.declared.command.Command.TheVariants.{OnProblem, OnFiles}
-use Rattle.command_line.specs.declared.command.FilesTask.{FilesTask}
 use Rattle.commands.specs.Files.{WhereTold, IsTooLong, IsSecond}
 use Rattle.commands.specs.ProblemFile.{IsProblemOf, IsProblemRefusal}
 use Rattle.commands.specs.Trial.{IsTrial}

@@ -1,4 +1,3 @@
-use Rattle.std.proofs.Common.{refl}
 use Rattle.refutation_terms.specs.declared.lines.LogKind.TheVariants.{WithoutGoal}
 use Rattle.refutation_terms.specs.LogText.{log_text}
 use Rattle.commands.proofs.Refusals.{printable, refused_text}
