@@ -50,7 +50,7 @@ turn_to_D = Turned (record { day = 1; x = shift_D })
 
 -- a log that names these rules
 abbrev pub log_of : List ℕ → Opening → List Line → Log
-log_of named o lines = record { named = named; opening = o; goal = None; lines = lines }
+log_of named o lines = record { named = named; opening = o; goal = None; counts = false; lines = lines }
 
 -- three D in six cells, in blocks of two
 abbrev pub three_of_six : Instance

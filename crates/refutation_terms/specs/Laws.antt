@@ -16,6 +16,7 @@ use Rattle.refutation_terms.specs.Word.{Domains, AreDomains, Within, turned, Ove
 use Rattle.refutation_terms.specs.FreeWeekends.{is_off_at, free_weekends}
 use Rattle.refutation_terms.specs.Tree.{IsLeaf, IsTree, after_trees, First, Second, side, InFirst, InSecond, narrowed, opening, domains_at, is_idle}
 use Rattle.refutation_terms.specs.Ranges.{HasWeight}
+use Rattle.refutation_terms.specs.BlocksLeaf.{block_count, BlockCountFits, BlocksCite}
 use Rattle.refutation_terms.specs.Log.{Log, OpeningFits, Passes, IsSpent}
 
 -- one leaf line
@@ -181,3 +182,11 @@ TurnsHaveFreeWeekends =
 -- a log that passes is not spent, whatever the budget
 abbrev pub PassingIsNotSpent : Type 0
 PassingIsNotSpent = (P : Instance) (g : Log) (budget : ℕ) → Passes P g → IsSpent P g budget → ⊥
+
+-- the numbers of blocks of a roster that meets their lengths and the demand of each day fit: a leaf of blocks that holds
+-- leaves none
+abbrev pub BlockCountsFit : Type 0
+BlockCountsFit =
+    (P : Instance) (x : Symbol) (s : List Symbol) → IsRoster P s → IsSymbol P x
+    → ((r : Rule) → BlocksCite P x r → MeetsRule P r s)
+    → (block_count s x.number ≤ cells P) × BlockCountFits P x (block_count s x.number)

@@ -6,6 +6,7 @@ pub mod WindowLeaf
 pub mod DayLeaf
 pub mod WordsLeaf
 pub mod FewLeaf
+pub mod BlocksLeaf
 pub mod Leaves
 pub mod Tree
 pub mod Log

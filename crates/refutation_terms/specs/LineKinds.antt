@@ -1,13 +1,13 @@
 -- The kinds of lines of a log's text, as tables.
-use Rattle.std.specs.Prelude.{ℕ, ◌+◌, ◌/◌, List, [], ◌∷◌, length, Bool, true, false, Option, Some, None, codes}
+use Rattle.std.specs.Prelude.{ℕ, zero, suc, ◌+◌, ◌/◌, List, [], ◌∷◌, length, Bool, true, false, Option, Some, None, codes}
 use Rattle.rwsp_text.specs.Fields.{Word, Number, Name, Choice, Place, Rules, Weights}
 use Rattle.rwsp_text.specs.Kinds.{Kind}
 use Rattle.rwsp_terms.specs.declared.limits.TheConstants.{GREATEST_WEIGHT, GREATEST_REWARD, LONGEST_WORD}
 use Rattle.rwsp_terms.specs.Instance.{Instance, cells}
 use Rattle.rwsp_terms.specs.Rules.{rules}
 use Rattle.refutation_terms.specs.declared.lines.Version.{Version}
-use Rattle.refutation_terms.specs.declared.lines.Version.TheVariants.{Version1, Version2, Free1}
-use Rattle.refutation_terms.specs.LogText.{RawLine, RawSplit, RawWindow, RawDay, RawDead, RawBound, RawFew, RawFree, RawUnfinished}
+use Rattle.refutation_terms.specs.declared.lines.Version.TheVariants.{Version1, Version2, Version3, Free1, Free2}
+use Rattle.refutation_terms.specs.LogText.{RawLine, RawSplit, RawWindow, RawDay, RawDead, RawBound, RawFew, RawFree, RawBlocks, RawUnfinished}
 
 -- the most turns that a bound may speak of
 abbrev pub most_turns : Instance → ℕ
@@ -65,25 +65,38 @@ free_kind P = record {
   make = λ v. RawFree v.0 v.1.0 v.1.1.0 v.1.1.1.0;
 }
 
+abbrev pub blocks_kind : Kind RawLine
+blocks_kind = record { word = codes "blocks"; fields = Name ∷ []; make = λ v. RawBlocks v.0 }
+
+-- the kinds that a log may have which counts, and the last
+abbrev pub last_kinds : Bool → List (Kind RawLine)
+last_kinds false = open_kind ∷ []
+last_kinds true = blocks_kind ∷ open_kind ∷ []
+
 -- the kinds that logs without a goal have alone, or those with one, and the last
-abbrev pub own_kinds : Instance → Option ℕ → List (Kind RawLine)
-own_kinds P None = bound_kind P ∷ open_kind ∷ []
-own_kinds P (Some goal) = few_kind ∷ free_kind P ∷ open_kind ∷ []
+abbrev pub own_kinds : Instance → Option ℕ → Bool → List (Kind RawLine)
+own_kinds P None counts = bound_kind P ∷ last_kinds counts
+own_kinds P (Some goal) counts = few_kind ∷ free_kind P ∷ last_kinds counts
 
--- the lines of the tree of a log with this goal or none
-abbrev pub line_kinds : Instance → Option ℕ → List (Kind RawLine)
-line_kinds P goal = split_kind P ∷ window_kind P ∷ day_kind P ∷ dead_kind P ∷ own_kinds P goal
+-- the lines of the tree of a log with this goal or none, which may count or not
+abbrev pub line_kinds : Instance → Option ℕ → Bool → List (Kind RawLine)
+line_kinds P goal counts = split_kind P ∷ window_kind P ∷ day_kind P ∷ dead_kind P ∷ own_kinds P goal counts
 
--- line 1, the version: of a log, which may have a turn, or of a free log
-abbrev pub log_version : Bool → Version
-log_version true = Version2
-log_version false = Version1
+-- line 1, the version: of a log, which may have a turn and may count, or of a free log
+abbrev pub log_version : ℕ → Version
+log_version (suc zero) = Version1
+log_version (suc (suc zero)) = Version2
+log_version n = Version3
+
+abbrev pub free_version : ℕ → Version
+free_version (suc zero) = Free1
+free_version n = Free2
 
 abbrev pub version_kind : Kind Version
-version_kind = record { word = codes "rwsp-log"; fields = Choice (codes "2") (codes "1") ∷ []; make = λ v. log_version v.0 }
+version_kind = record { word = codes "rwsp-log"; fields = Number 1 3 ∷ []; make = λ v. log_version v.0 }
 
 abbrev pub free_version_kind : Kind Version
-free_version_kind = record { word = codes "rwsp-free"; fields = Word (codes "1") ∷ []; make = λ v. Free1 }
+free_version_kind = record { word = codes "rwsp-free"; fields = Number 1 2 ∷ []; make = λ v. free_version v.0 }
 
 abbrev pub version_kinds : List (Kind Version)
 version_kinds = version_kind ∷ free_version_kind ∷ []

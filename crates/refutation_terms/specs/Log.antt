@@ -14,19 +14,22 @@ use Rattle.refutation_terms.specs.Ranges.{AreRules}
 use Rattle.refutation_terms.specs.Leaves.{LeafFits, LeafCites, LeafHolds, LeafListsShort}
 use Rattle.refutation_terms.specs.Tree.{IsTree, domains_at, is_idle}
 
--- the rules that the log names, what is known before its first line, its goal if it has one, and its lines. A log with
--- a goal, which is a free log, says that no roster has as many free weekends as the goal
+-- the rules that the log names, what is known before its first line, its goal if it has one, whether its lines may
+-- count blocks, and its lines. A log with a goal, which is a free log, says that no roster has as many free weekends as
+-- the goal
 pub record Log : Type 0 where
   pub named : List ℕ
   pub opening : Opening
   pub goal : Option ℕ
+  pub counts : Bool
   pub lines : List Line
 
--- the numbers of a line of a log with this goal or none are in their ranges, and its symbols are the problem's
-abbrev pub LineFits : Instance → Option ℕ → Line → Type 0
-LineFits P goal (Split p x) = (p < cells P) × IsSymbol P x
-LineFits P goal (Closing leaf) = LeafFits P goal leaf
-LineFits P goal Unfinished = Unit {0}
+-- the numbers of a line are in their ranges, and its symbols are the problem's, in a log with this goal or none, which
+-- may count or not
+abbrev pub LineFits : Instance → Option ℕ → Bool → Line → Type 0
+LineFits P goal counts (Split p x) = (p < cells P) × IsSymbol P x
+LineFits P goal counts (Closing leaf) = LeafFits P goal counts leaf
+LineFits P goal counts Unfinished = Unit {0}
 
 -- and those of a turn
 abbrev pub OpeningFits : Instance → Opening → Type 0
@@ -43,7 +46,7 @@ pub record Fits (P : Instance) (g : Log) : Type 0 where
   pub named : AreRules P g.named
   pub opening : OpeningFits P g.opening
   pub goal : GoalFits P g.opening g.goal
-  pub lines : (k : ℕ) (line : Line) → slice_get g.lines k ≡ Some line → LineFits P g.goal line
+  pub lines : (k : ℕ) (line : Line) → slice_get g.lines k ≡ Some line → LineFits P g.goal g.counts line
 
 -- a split that isn't idle, or a leaf that holds, in a log with this goal or none
 abbrev pub Holds : Instance → Option ℕ → Domains → Line → Type 0

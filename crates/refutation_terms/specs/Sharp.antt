@@ -23,11 +23,11 @@ use Rattle.refutation_terms.specs.Escape.{IsLeastHeaviest}
 -- some window leaf of the problem holds
 abbrev pub SomeWindowHolds : Instance → Domains → Type 0
 SomeWindowHolds P D =
-    (number : ℕ) × (p : ℕ) × (len : ℕ) × LineFits P None (Closing (Window number p len)) × Holds P None D (Closing (Window number p len))
+    (number : ℕ) × (p : ℕ) × (len : ℕ) × LineFits P None false (Closing (Window number p len)) × Holds P None D (Closing (Window number p len))
 
 -- some day leaf of the problem holds
 abbrev pub SomeDayHolds : Instance → Domains → Type 0
-SomeDayHolds P D = (j : ℕ) × (x : Symbol) × (over : Bool) × LineFits P None (Closing (Day j x over)) × Holds P None D (Closing (Day j x over))
+SomeDayHolds P D = (j : ℕ) × (x : Symbol) × (over : Bool) × LineFits P None false (Closing (Day j x over)) × Holds P None D (Closing (Day j x over))
 
 -- no word of two turns that is clean for the list has the symbol at the position
 abbrev pub NoWordHas : Instance → Domains → List ℕ → ℕ → Symbol → Type 0

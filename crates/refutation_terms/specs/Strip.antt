@@ -26,17 +26,18 @@ abbrev pub strip_claim : Instance → ℕ → WordClaim → WordClaim
 strip_claim P number (Dead len) = Dead len
 strip_claim P number (Light turns reward y) = Light turns reward (without_day (rule_of P number) y)
 
--- a line without the rule in its list. A window or a day leaf that cites it stays
+-- a line without the rule in its list. A leaf of another kind that cites it stays
 abbrev pub strip_line : Instance → ℕ → Line → Line
 strip_line P number (Closing (Words p R claim)) = Closing (Words p (without_rule number R) (strip_claim P number claim))
 strip_line P number line = line
 
--- the log without the rule of this number. Its turn and its goal stay
+-- the log without the rule of this number. Its turn and its goal stay, and whether it may count
 abbrev pub strip : Instance → ℕ → Log → Log
 strip P number g = record {
   named = without_rule number g.named;
   opening = g.opening;
   goal = g.goal;
+  counts = g.counts;
   lines = map (strip_line P number) g.lines;
 }
 

@@ -1,6 +1,6 @@
 -- Laws of the texts of lines: what is spelled is a line of the problem and has one spelling, and each line of the
 -- problem is spelled.
-use Rattle.std.specs.Prelude.{◌≡◌, ℕ, ◌<◌, ◌^◌, List, length, Option, Some, Result}
+use Rattle.std.specs.Prelude.{◌≡◌, ℕ, ◌<◌, ◌^◌, List, length, Bool, Option, Some, Result}
 use Rattle.rwsp_terms.specs.declared.data.Symbol.{Symbol}
 use Rattle.rwsp_terms.specs.Instance.{Instance, IsSymbol, symbol_of, name_of}
 use Rattle.rwsp_terms.specs.Rules.{rules}
@@ -20,17 +20,17 @@ HasNames P = (x : Symbol) → IsSymbol P x → IsName (name_of P x) × (symbol_o
 abbrev pub IsWritable : Instance → Type 0
 IsWritable P = (P.days < 2 ^ 32) × (P.weeks < 2 ^ 32) × (length (rules P) < 2 ^ 32)
 
--- bytes that spell a line of a log with a goal or none are its text, and the line fits the problem
+-- bytes that spell a line of a log are its text, and the line fits the problem
 abbrev pub SpelledLinesFit : Type 0
 SpelledLinesFit =
-    (P : Instance) (goal : Option ℕ) (bytes : List ℕ) (line : Line) → Spells P goal bytes line
-    → LineFits P goal line × (bytes ≡ line_text P (raw P goal line))
+    (P : Instance) (goal : Option ℕ) (counts : Bool) (bytes : List ℕ) (line : Line) → Spells P goal counts bytes line
+    → LineFits P goal counts line × (bytes ≡ line_text P (raw P goal line))
 
 -- the text of a line that fits the problem spells it
 abbrev pub FittingLinesAreSpelled : Type 0
 FittingLinesAreSpelled =
-    (P : Instance) (goal : Option ℕ) (line : Line) → HasNames P → LineFits P goal line
-    → Spells P goal (line_text P (raw P goal line)) line
+    (P : Instance) (goal : Option ℕ) (counts : Bool) (line : Line) → HasNames P → LineFits P goal counts line
+    → Spells P goal counts (line_text P (raw P goal line)) line
 
 -- no two logs that fit a problem have one text
 abbrev pub TextsAreDistinct : Type 0

@@ -1,5 +1,5 @@
 -- The verdict on a text: that it is a log that passes, or its first line with a cause to refuse it.
-use Rattle.std.specs.Prelude.{◌≡◌, ◌≢◌, ◌⊎◌, ℕ, ◌+◌, ◌<◌, ◌≤◌, List, [], ◌++◌, length, slice_get, take, true, Option, Some, None, Result, Ok, Err, pos, ◌<ℤ◌}
+use Rattle.std.specs.Prelude.{◌≡◌, ◌≢◌, ◌⊎◌, ℕ, ◌+◌, ◌<◌, ◌≤◌, List, [], ◌++◌, length, slice_get, take, Bool, true, false, Option, Some, None, Result, Ok, Err, pos, ◌<ℤ◌}
 use Rattle.rwsp_text.specs.Lines.{IsNextLine}
 use Rattle.rwsp_text.specs.Fields.{IsName}
 use Rattle.rwsp_terms.specs.declared.data.Symbol.{Symbol}
@@ -8,7 +8,7 @@ use Rattle.rwsp_terms.specs.declared.data.Rule.TheVariants as TheRules
 use Rattle.rwsp_terms.specs.Instance.{Instance, least, IsDay, symbol_of}
 use Rattle.rwsp_terms.specs.Rules.{rule_of, Names}
 use Rattle.refutation_terms.specs.declared.lines.Version.{Version}
-use Rattle.refutation_terms.specs.declared.lines.Version.TheVariants.{Version1, Version2, Free1}
+use Rattle.refutation_terms.specs.declared.lines.Version.TheVariants.{Version1, Version2, Version3, Free1, Free2}
 use Rattle.refutation_terms.specs.declared.lines.LogKind.{LogKind}
 use Rattle.refutation_terms.specs.declared.lines.LogKind.TheVariants.{WithoutGoal, WithGoal}
 use Rattle.refutation_terms.specs.declared.lines.Line.{Line}
@@ -22,7 +22,7 @@ use Rattle.refutation_terms.specs.Ranges.{AreRules}
 use Rattle.refutation_terms.specs.Leaves.{IsWordless, LeafListsLong, LeafEscapes}
 use Rattle.refutation_terms.specs.Tree.{IsTree, domains_at, is_idle}
 use Rattle.refutation_terms.specs.Log.{Log, Holds, HoldsAt, Cites, CitesOnlyNamed, ListsShortOnly, IsGrounded, Passes}
-use Rattle.refutation_terms.specs.LogText.{RawLine, IsWritten, line_of, version_text, rules_text, turn_text, goal_text, log_text}
+use Rattle.refutation_terms.specs.LogText.{RawLine, IsWritten, line_of, version_text, rules_text, turn_text, no_turn_text, goal_text, log_text}
 
 -- the least number with a property
 abbrev pub IsLeast : (ℕ → Type 0) → ℕ → Type 0
@@ -47,58 +47,59 @@ abbrev pub Escapes : Instance → Option ℕ → Domains → Line → List Symbo
 Escapes P goal D (Closing leaf) w = LeafEscapes P goal D leaf w
 Escapes P goal D line w = ⊥
 
--- the bytes of a text line spell no line of a log with this goal or none
-abbrev pub SpellsNothing : Instance → Option ℕ → List ℕ → Type 0
-SpellsNothing P goal bytes = (raw : RawLine) → IsWritten P goal bytes raw → ⊥
+-- the bytes of a text line spell no line of a log with this goal or none, which may count or not
+abbrev pub SpellsNothing : Instance → Option ℕ → Bool → List ℕ → Type 0
+SpellsNothing P goal counts bytes = (raw : RawLine) → IsWritten P goal counts bytes raw → ⊥
 
 -- they spell a line with a name of no symbol
-abbrev pub SpellsUnknown : Instance → Option ℕ → List ℕ → Type 0
-SpellsUnknown P goal bytes = (raw : RawLine) × IsWritten P goal bytes raw × (line_of P raw ≡ None)
+abbrev pub SpellsUnknown : Instance → Option ℕ → Bool → List ℕ → Type 0
+SpellsUnknown P goal counts bytes = (raw : RawLine) × IsWritten P goal counts bytes raw × (line_of P raw ≡ None)
 
 -- they spell this line
-abbrev pub Spells : Instance → Option ℕ → List ℕ → Line → Type 0
-Spells P goal bytes line = (raw : RawLine) × IsWritten P goal bytes raw × (line_of P raw ≡ Some line)
+abbrev pub Spells : Instance → Option ℕ → Bool → List ℕ → Line → Type 0
+Spells P goal counts bytes line = (raw : RawLine) × IsWritten P goal counts bytes raw × (line_of P raw ≡ Some line)
 
 -- and each rule that it cites is named
-abbrev pub SpellsNamed : Instance → Option ℕ → List ℕ → List ℕ → Line → Type 0
-SpellsNamed P goal named bytes line = Spells P goal bytes line × CitesOnlyNamed P named line
+abbrev pub SpellsNamed : Instance → Option ℕ → Bool → List ℕ → List ℕ → Line → Type 0
+SpellsNamed P goal counts named bytes line = Spells P goal counts bytes line × CitesOnlyNamed P named line
 
 -- the line that the bytes spell cites a rule that isn't named, and this is the least one
-abbrev pub CitesUnnamed : Instance → Option ℕ → List ℕ → List ℕ → ℕ → Type 0
-CitesUnnamed P goal named bytes k =
-    (line : Line) × Spells P goal bytes line × IsLeast (IsUnnamed P named (Cites P line)) k
+abbrev pub CitesUnnamed : Instance → Option ℕ → Bool → List ℕ → List ℕ → ℕ → Type 0
+CitesUnnamed P goal counts named bytes k =
+    (line : Line) × Spells P goal counts bytes line × IsLeast (IsUnnamed P named (Cites P line)) k
 
 -- it is an idle split
-abbrev pub SplitsIdly : Instance → Option ℕ → Domains → List ℕ → Type 0
-SplitsIdly P goal D bytes =
-    (p : ℕ) × (x : Symbol) × Spells P goal bytes (Split p x) × (is_idle P D p x.number ≡ true)
+abbrev pub SplitsIdly : Instance → Option ℕ → Bool → Domains → List ℕ → Type 0
+SplitsIdly P goal counts D bytes =
+    (p : ℕ) × (x : Symbol) × Spells P goal counts bytes (Split p x) × (is_idle P D p x.number ≡ true)
 
 -- its list holds a rule that isn't short, and this is the least one
-abbrev pub HasLongRule : Instance → Option ℕ → List ℕ → List ℕ → ℕ → Type 0
-HasLongRule P goal named bytes k = (line : Line) × SpellsNamed P goal named bytes line × IsLeast (ListsLong P line) k
+abbrev pub HasLongRule : Instance → Option ℕ → Bool → List ℕ → List ℕ → ℕ → Type 0
+HasLongRule P goal counts named bytes k =
+    (line : Line) × SpellsNamed P goal counts named bytes line × IsLeast (ListsLong P line) k
 
 -- it is a leaf that isn't one of words, and it doesn't hold
-abbrev pub LeafFails : Instance → Option ℕ → List ℕ → Domains → List ℕ → Type 0
-LeafFails P goal named D bytes =
-    (line : Line) × SpellsNamed P goal named bytes line × IsPlainLeaf line × (Holds P goal D line → ⊥)
+abbrev pub LeafFails : Instance → Option ℕ → Bool → List ℕ → Domains → List ℕ → Type 0
+LeafFails P goal counts named D bytes =
+    (line : Line) × SpellsNamed P goal counts named bytes line × IsPlainLeaf line × (Holds P goal D line → ⊥)
 
 -- it is a leaf of words that this word escapes
-abbrev pub LeafEscaped : Instance → Option ℕ → List ℕ → Domains → List ℕ → List Symbol → Type 0
-LeafEscaped P goal named D bytes w =
-    (line : Line) × SpellsNamed P goal named bytes line × ListsShortOnly P line × Escapes P goal D line w
+abbrev pub LeafEscaped : Instance → Option ℕ → Bool → List ℕ → Domains → List ℕ → List Symbol → Type 0
+LeafEscaped P goal counts named D bytes w =
+    (line : Line) × SpellsNamed P goal counts named bytes line × ListsShortOnly P line × Escapes P goal D line w
 
--- why a line of the tree of a log with this goal or none is refused as text line n, under these rules and domains.
--- Where a cause applies no lower one does
-abbrev pub TreeCause : Instance → Option ℕ → List ℕ → Domains → ℕ → List ℕ → LogRefusal → Type 0
-TreeCause P goal named D n bytes (Refusals.Form i) = (i ≡ n) × SpellsNothing P goal bytes
-TreeCause P goal named D n bytes (Refusals.Name i) = (i ≡ n) × SpellsUnknown P goal bytes
-TreeCause P goal named D n bytes (Refusals.Unnamed i k) = (i ≡ n) × CitesUnnamed P goal named bytes k
-TreeCause P goal named D n bytes (Refusals.Idle i) = (i ≡ n) × SplitsIdly P goal D bytes
-TreeCause P goal named D n bytes (Refusals.Long i k) = (i ≡ n) × HasLongRule P goal named bytes k
-TreeCause P goal named D n bytes (Refusals.Fails i) = (i ≡ n) × LeafFails P goal named D bytes
-TreeCause P goal named D n bytes (Refusals.Escape i w) = (i ≡ n) × LeafEscaped P goal named D bytes w
-TreeCause P goal named D n bytes (Refusals.Unfinished i) = (i ≡ n) × Spells P goal bytes Unfinished
-TreeCause P goal named D n bytes why = ⊥
+-- why a line of the tree of a log with this goal or none, which may count or not, is refused as text line n, under these
+-- rules and domains. Where a cause applies no lower one does
+abbrev pub TreeCause : Instance → Option ℕ → Bool → List ℕ → Domains → ℕ → List ℕ → LogRefusal → Type 0
+TreeCause P goal counts named D n bytes (Refusals.Form i) = (i ≡ n) × SpellsNothing P goal counts bytes
+TreeCause P goal counts named D n bytes (Refusals.Name i) = (i ≡ n) × SpellsUnknown P goal counts bytes
+TreeCause P goal counts named D n bytes (Refusals.Unnamed i k) = (i ≡ n) × CitesUnnamed P goal counts named bytes k
+TreeCause P goal counts named D n bytes (Refusals.Idle i) = (i ≡ n) × SplitsIdly P goal counts D bytes
+TreeCause P goal counts named D n bytes (Refusals.Long i k) = (i ≡ n) × HasLongRule P goal counts named bytes k
+TreeCause P goal counts named D n bytes (Refusals.Fails i) = (i ≡ n) × LeafFails P goal counts named D bytes
+TreeCause P goal counts named D n bytes (Refusals.Escape i w) = (i ≡ n) × LeafEscaped P goal counts named D bytes w
+TreeCause P goal counts named D n bytes (Refusals.Unfinished i) = (i ≡ n) × Spells P goal counts bytes Unfinished
+TreeCause P goal counts named D n bytes why = ⊥
 
 -- the bytes spell a turn to a symbol of this name on this day
 abbrev pub SpellsTurn : Instance → List ℕ → List ℕ → ℕ → Type 0
@@ -127,13 +128,18 @@ TurnsToUndemanded P named bytes =
     (day : ℕ) × (x : Symbol) × TurnsTo P bytes day x × Names P named (TheRules.Day day)
     × (least P x.number day <ℤ pos 1)
 
--- why the line of a turn is refused, which is line 3
-abbrev pub TurnCause : Instance → List ℕ → List ℕ → LogRefusal → Type 0
-TurnCause P named bytes (Refusals.Form i) = (i ≡ 3) × SpellsNoTurn P bytes
-TurnCause P named bytes (Refusals.Name i) = (i ≡ 3) × TurnsToUnknown P bytes
-TurnCause P named bytes (Refusals.Unnamed i k) = (i ≡ 3) × TurnsUnnamed P named bytes k
-TurnCause P named bytes (Refusals.Turn i) = (i ≡ 3) × TurnsToUndemanded P named bytes
-TurnCause P named bytes why = ⊥
+-- they spell no opening of a log, which may be without a turn where it counts
+abbrev pub SpellsNoOpening : Instance → Bool → List ℕ → Type 0
+SpellsNoOpening P false bytes = SpellsNoTurn P bytes
+SpellsNoOpening P true bytes = SpellsNoTurn P bytes × (bytes ≢ no_turn_text)
+
+-- why the line of the turn of a log which may count or not is refused, which is line 3
+abbrev pub TurnCause : Instance → Bool → List ℕ → List ℕ → LogRefusal → Type 0
+TurnCause P counts named bytes (Refusals.Form i) = (i ≡ 3) × SpellsNoOpening P counts bytes
+TurnCause P counts named bytes (Refusals.Name i) = (i ≡ 3) × TurnsToUnknown P bytes
+TurnCause P counts named bytes (Refusals.Unnamed i k) = (i ≡ 3) × TurnsUnnamed P named bytes k
+TurnCause P counts named bytes (Refusals.Turn i) = (i ≡ 3) × TurnsToUndemanded P named bytes
+TurnCause P counts named bytes why = ⊥
 
 -- why line 2 is refused, which names rules
 abbrev pub RulesCause : Instance → List ℕ → LogRefusal → Type 0
@@ -144,7 +150,9 @@ RulesCause P bytes why = ⊥
 abbrev pub kind_of : Version → LogKind
 kind_of Version1 = WithoutGoal
 kind_of Version2 = WithoutGoal
+kind_of Version3 = WithoutGoal
 kind_of Free1 = WithGoal
+kind_of Free2 = WithGoal
 
 -- the kind of a log with this goal or none
 abbrev pub kind_by : Option ℕ → LogKind
@@ -162,20 +170,29 @@ GoalCause P bytes (Refusals.Form i) = (i ≡ 3) × ((goal : ℕ) → goal ≤ P.
 GoalCause P bytes why = ⊥
 
 -- the front of a text that has been read: nothing, the version, the rules of a log whose turn is to come or of one
--- whose goal is, or a whole header with some lines
+-- whose goal is, and which may count or not, or a whole header with some lines
 pub data Front : Type 0 where
   Start : Front
   Versioned : Version → Front
-  BeforeTurn : (named : List ℕ) → Front
-  BeforeGoal : (named : List ℕ) → Front
+  BeforeTurn : (counts : Bool) (named : List ℕ) → Front
+  BeforeGoal : (counts : Bool) (named : List ℕ) → Front
   Reading : Log → Front
+
+-- the version of a log with a line for its turn, or of one with a goal, which may count or not
+abbrev pub turn_version : Bool → Version
+turn_version false = Version2
+turn_version true = Version3
+
+abbrev pub goal_version : Bool → Version
+goal_version false = Free1
+goal_version true = Free2
 
 -- its bytes
 abbrev pub front_text : Instance → Front → List ℕ
 front_text P Start = []
 front_text P (Versioned v) = version_text v
-front_text P (BeforeTurn named) = version_text Version2 ++ rules_text named
-front_text P (BeforeGoal named) = version_text Free1 ++ rules_text named
+front_text P (BeforeTurn counts named) = version_text (turn_version counts) ++ rules_text named
+front_text P (BeforeGoal counts named) = version_text (goal_version counts) ++ rules_text named
 front_text P (Reading g) = log_text P g
 
 -- lines of a log that are refused for no cause: all is named, allowed and holds, and none is behind a whole tree
@@ -188,14 +205,14 @@ pub record IsSoundSoFar (P : Instance) (g : Log) : Type 0 where
 abbrev pub IsFrontOf : LogKind → Front → Type 0
 IsFrontOf kind Start = Unit {0}
 IsFrontOf kind (Versioned v) = kind_of v ≡ kind
-IsFrontOf kind (BeforeTurn named) = WithoutGoal ≡ kind
-IsFrontOf kind (BeforeGoal named) = WithGoal ≡ kind
+IsFrontOf kind (BeforeTurn counts named) = WithoutGoal ≡ kind
+IsFrontOf kind (BeforeGoal counts named) = WithGoal ≡ kind
 IsFrontOf kind (Reading g) = kind_by g.goal ≡ kind
 
 -- no line of the front has a cause
 abbrev pub IsSoundFront : Instance → Front → Type 0
-IsSoundFront P (BeforeTurn named) = AreRules P named
-IsSoundFront P (BeforeGoal named) = AreRules P named
+IsSoundFront P (BeforeTurn counts named) = AreRules P named
+IsSoundFront P (BeforeGoal counts named) = AreRules P named
 IsSoundFront P (Reading g) = IsSoundSoFar P g
 IsSoundFront P front = Unit {0}
 
@@ -213,25 +230,27 @@ abbrev pub ExtraCause : ℕ → LogRefusal → Type 0
 ExtraCause n (Refusals.Extra i) = i ≡ n
 ExtraCause n why = ⊥
 
--- how many lines the header of a log with this opening and this goal or none has
-abbrev pub header_lines : Opening → Option ℕ → ℕ
-header_lines Full None = 2
-header_lines (Turned t) None = 3
-header_lines o (Some goal) = 3
+-- how many lines the header of a log has with this opening and this goal or none, which may count or not
+abbrev pub header_lines : Opening → Option ℕ → Bool → ℕ
+header_lines Full None false = 2
+header_lines (Turned t) None false = 3
+header_lines o None true = 3
+header_lines o (Some goal) counts = 3
 
 -- why the line behind the header and the lines of a log is refused
 abbrev pub CauseBehind : Instance → Log → List ℕ → LogRefusal → Type 0
 CauseBehind P g bytes why =
-    let n = header_lines g.opening g.goal + length g.lines + 1 in
+    let n = header_lines g.opening g.goal g.counts + length g.lines + 1 in
     (IsTree g.lines × ExtraCause n why)
-    ⊎ ((IsTree g.lines → ⊥) × TreeCause P g.goal g.named (domains_at P g.opening g.lines (length g.lines)) n bytes why)
+    ⊎ ((IsTree g.lines → ⊥)
+        × TreeCause P g.goal g.counts g.named (domains_at P g.opening g.lines (length g.lines)) n bytes why)
 
 -- why the line behind the front of a log of this kind is refused
 abbrev pub Cause : Instance → LogKind → Front → List ℕ → LogRefusal → Type 0
 Cause P kind Start bytes why = VersionCause kind bytes why
 Cause P kind (Versioned v) bytes why = RulesCause P bytes why
-Cause P kind (BeforeTurn named) bytes why = TurnCause P named bytes why
-Cause P kind (BeforeGoal named) bytes why = GoalCause P bytes why
+Cause P kind (BeforeTurn counts named) bytes why = TurnCause P counts named bytes why
+Cause P kind (BeforeGoal counts named) bytes why = GoalCause P bytes why
 Cause P kind (Reading g) bytes why = CauseBehind P g bytes why
 
 -- a front of the text, of these fronts, has no cause, and the line behind it has this one

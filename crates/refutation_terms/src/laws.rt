@@ -1,5 +1,5 @@
 // Laws of the definitions. Each function's contract is the law, and specs/Laws.antt states it.
-ghost use Rattle.refutation_terms.specs.Laws.{TreesAreAsSaid, WalksReadTrees, SidesAreAsSaid, DomainsAreAsSaid, IdleIsAsSaid, OverIsAsSaid, DomainsAreNeverEmpty, WindowsAreOver, SidesTakeAll, SidesShareNone, WindowsAreClean, PartsAreClean, FewerRulesAreClean, WindowsWeighEnough, WindowsWeighExactly, TurningKeepsRules, TurningKeepsLists, SomeTurnHasIt, FreeWeekendsAreWeeks, TurnsHaveFreeWeekends, PassingLeavesNoRoster, PassingIsNotSpent};
+ghost use Rattle.refutation_terms.specs.Laws.{TreesAreAsSaid, WalksReadTrees, SidesAreAsSaid, DomainsAreAsSaid, IdleIsAsSaid, OverIsAsSaid, DomainsAreNeverEmpty, WindowsAreOver, SidesTakeAll, SidesShareNone, WindowsAreClean, PartsAreClean, FewerRulesAreClean, WindowsWeighEnough, WindowsWeighExactly, TurningKeepsRules, TurningKeepsLists, SomeTurnHasIt, FreeWeekendsAreWeeks, TurnsHaveFreeWeekends, PassingLeavesNoRoster, PassingIsNotSpent, BlockCountsFit};
 ghost use Rattle.refutation_terms.specs.TextLaws.{SpelledLinesFit, FittingLinesAreSpelled, TextsAreDistinct, VerdictIsUnique};
 
 /// A log that passes, with a turn or a goal or without, and a roster that meets the rules that it names and has as many
@@ -13,6 +13,11 @@ pub fn passing_leaves_no_roster()
 pub fn free_weekends_are_weeks()
     ensures weeks { FreeWeekendsAreWeeks }
     ensures turns { TurnsHaveFreeWeekends }
+{}
+
+/// The number of blocks that a roster has of a symbol is one that counting days alone lets it have.
+pub fn block_counts_fit()
+    ensures { BlockCountsFit }
 {}
 
 /// Within the domains, every window of a roster is a word over them, from every position, for every length.

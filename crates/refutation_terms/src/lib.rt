@@ -5,4 +5,4 @@ pub mod examples;
 pub mod laws;
 mod lines;
 
-pub use lines::{Leaf, Line, LogKind, LogRefusal, Opening, Turn, Version, WordClaim};
+pub use lines::{Leaf, Line, LogKind, LogRefusal, Opening, Terms, Turn, Version, WordClaim};

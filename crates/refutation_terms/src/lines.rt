@@ -36,6 +36,11 @@ pub enum Leaf {
     },
     /// Fewer weeks than the log's goal can have both days 6 and 7 off.
     Few,
+    /// No number of blocks of `x` has as many days as the demand asks for, by their least and greatest lengths. Only in
+    /// a log that may count.
+    Blocks {
+        x: Symbol,
+    },
 }
 
 /// What a leaf claims of the clean words from a position on.
@@ -71,6 +76,14 @@ pub enum Opening {
     Turned(Turn),
 }
 
+/// What the lines of a log may be: which kinds there are goes by its goal, if it has one, and by whether it may count
+/// blocks.
+#[derive(Clone, Copy, Debug, PartialEq, Eq)]
+pub struct Terms {
+    pub goal: Option<u32>,
+    pub counts: bool,
+}
+
 /// What a text is read as: a log without a goal, or a free log.
 #[derive(Clone, Copy, Debug, PartialEq, Eq)]
 pub enum LogKind {
@@ -85,8 +98,12 @@ pub enum Version {
     Version1,
     /// `rwsp-log 2`, a log with a turn on line 3.
     Version2,
+    /// `rwsp-log 3`, a log that may count, with its turn or none on line 3.
+    Version3,
     /// `rwsp-free 1`, a free log with its goal on line 3.
     Free1,
+    /// `rwsp-free 2`, a free log that may count, with its goal on line 3.
+    Free2,
 }
 
 /// Why a log is refused. The first number is the line of the text, from 1 on; the second is the rule.
@@ -102,7 +119,7 @@ pub enum LogRefusal {
     Idle(u32),
     /// A list holds a rule that isn't short; the least such rule.
     Long(u32, u32),
-    /// A window or a day leaf, or one of few free weekends, doesn't hold.
+    /// A window or a day leaf, or one of few free weekends or of blocks, doesn't hold.
     Fails(u32),
     /// A leaf of words doesn't hold, as the word shows.
     Escape(u32, Word),
