@@ -6,6 +6,7 @@ use Rattle.rwsp_terms.specs.Instance.{Instance, IsSymbol}
 use Rattle.rwsp_terms.specs.Roster.{IsRoster, MeetsRule}
 use Rattle.refutation_terms.specs.BlocksLeaf.{block_count, BlocksCite, BlocksHold}
 use Rattle.refutation_terms.specs.Laws.{BlockCountsFit}
+use Rattle.refutation_terms.proofs.CyclicCounts.{runs_most, runs_least, runs_between, count_rest}
 
 pub block_counts_fit : BlockCountsFit
 block_counts_fit P x s roster is met = ?

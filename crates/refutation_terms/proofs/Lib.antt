@@ -10,6 +10,7 @@ pub mod Sums
 pub mod Weighing
 pub mod Turning
 pub mod FreeCounts
+pub mod CyclicCounts
 pub mod Blocks
 pub mod Named
 pub mod Sound
