@@ -1,8 +1,8 @@
 -- Counts round a cycle: how many runs a test has there, against how often it passes. A test goes round by L where it
 -- says the same L places later.
-use Rattle.std.proofs.Common.{◌≡◌, ◌⊎◌, ℕ, zero, suc, ◌+◌, ◌*◌, ◌<◌, ◌≤◌, refl, ap, sym, ◌∙◌, subst, arith, inl, inr, Bool, true, false, cond, ◌&&◌, ◌||◌, not, count_by}
+use Rattle.std.proofs.Common.{◌≡◌, ◌⊎◌, ℕ, zero, suc, ◌+◌, ◌*◌, ◌<◌, ◌≤◌, refl, ap, sym, ◌∙◌, arith, inl, inr, Bool, true, false, cond, ◌&&◌, ◌||◌, not, count_by}
 use Rattle.std.specs.List.{range_with_len}
-use Rattle.std.proofs.lemmas.Bool.{cases_Bool}
+use Rattle.std.proofs.lemmas.Bool.{cases_Bool, both_ways, or_left, or_right, or_cases}
 use Rattle.std.proofs.Math.Nat.{eq-or-lt_of_le}
 use Rattle.rwsp_terms.proofs.Counting.{count_next, count_same, count_mono}
 use Rattle.refutation_terms.proofs.Turning.{count_shift, count_period}
@@ -47,7 +47,7 @@ count_pairs f g h k a (suc n) le =
     omega arith
 
 -- a count round the cycle begins anywhere
-count_later : (L : ℕ) (f : ℕ → Bool) → GoesRound L f → (b : ℕ) → count_by (λ i. f (i + b)) (range_with_len 0 L) ≡ count_by f (range_with_len 0 L)
+pub count_later : (L : ℕ) (f : ℕ → Bool) → GoesRound L f → (b : ℕ) → count_by (λ i. f (i + b)) (range_with_len 0 L) ≡ count_by f (range_with_len 0 L)
 count_later L f round b =
     let e : b ≡ b + 0 = omega arith in
     count_same (λ i. f (i + b)) (λ i. f (b + i)) 0 L (λ i le lt. let d : i + b ≡ b + i = omega arith in ap f d)
@@ -97,17 +97,6 @@ near_least L f round (suc n) apart =
     let sum : suc n * count_by f (range_with_len 0 L) ≡ count_by f (range_with_len 0 L) + n * count_by f (range_with_len 0 L) = omega arith in
     omega arith
 
-passed_first : (b c : Bool) → b ≡ true → (b || c) ≡ true
-passed_first b c e = ap (λ a. a || c) e
-
-passed_second : (b c : Bool) → c ≡ true → (b || c) ≡ true
-passed_second true c e = refl
-passed_second false c e = e
-
-either_passed : (b c : Bool) → (b || c) ≡ true → (b ≡ true) ⊎ (c ≡ true)
-either_passed true c e = inl refl
-either_passed false c e = inr e
-
 risen : (f : ℕ → Bool) (q : ℕ) → f q ≡ false → f (q + 1) ≡ true → rises f q ≡ true
 risen f q e d = ap (λ b. f (q + 1) && not b) e ∙ ap (λ b. b && true) d
 
@@ -123,8 +112,8 @@ climbs f zero q low high = let e : q + zero ≡ q = omega arith in let d : f (q 
 climbs f (suc n) q low high =
     let d : q + suc n ≡ q + 1 + n = omega arith in
     elim (cases_Bool (f (q + 1))) [
-      | inl e ↦ passed_first (rises f q) (near (rises f) n (q + 1)) (risen f q low e)
-      | inr e ↦ passed_second (rises f q) (near (rises f) n (q + 1)) (climbs f n (q + 1) e (sym (ap f d) ∙ high))
+      | inl e ↦ or_left (rises f q) (near (rises f) n (q + 1)) (risen f q low e)
+      | inr e ↦ or_right (rises f q) (near (rises f) n (q + 1)) (climbs f n (q + 1) e (sym (ap f d) ∙ high))
     ]
 
 passes_before : (f : ℕ → Bool) (q n : ℕ) → f q ≡ true → Passes f (q + 1) n → Passes f q (suc n)
@@ -137,7 +126,7 @@ rises_near f n q short high (inr e) = climbs f n q e high
 rises_near f zero q short high (inl e) = absurd (short (passes_before f q 0 e (λ i lt. absurd (omega (arith, lt)))))
 rises_near f (suc n) q short high (inl e) =
     let d : q + suc n ≡ q + 1 + n = omega arith in
-    passed_second (rises f q) (near (rises f) n (q + 1)) (rises_near f n (q + 1) (λ more. short (passes_before f q (suc n) e more)) (sym (ap f d) ∙ high) (cases_Bool (f (q + 1))))
+    or_right (rises f q) (near (rises f) n (q + 1)) (rises_near f n (q + 1) (λ more. short (passes_before f q (suc n) e more)) (sym (ap f d) ∙ high) (cases_Bool (f (q + 1))))
 
 -- runs of at most M places: M places for each run are enough
 pub runs_most : (L M : ℕ) (f : ℕ → Bool) → GoesRound L f → ((q : ℕ) → q < L → Passes f q (suc M) → ⊥) → count_by f (range_with_len 0 L) ≤ M * count_by (rises f) (range_with_len 0 L)
@@ -173,22 +162,19 @@ reaches f a q on up (suc (suc n)) le =
 never_rises : (f : ℕ → Bool) (m q : ℕ) → Passes f q m → near (rises f) m q ≡ true → ⊥
 never_rises f zero q on e = absurd (cc)
 never_rises f (suc m) q on e =
-    elim (either_passed (rises f q) (near (rises f) m (q + 1)) e) [
+    elim (or_cases (rises f q) (near (rises f) m (q + 1)) e) [
       | inl up ↦
-        let d : q + 0 ≡ q = omega arith in
-        differ (f q) (sym (ap f d) ∙ on 0 (omega arith)) (risen_from (f q) (f (q + 1)) up).0
+          let d : q + 0 ≡ q = omega arith in
+          both_ways (f q) (risen_from (f q) (f (q + 1)) up).0 (sym (ap f d) ∙ on 0 (omega arith))
       | inr later ↦ never_rises f m (q + 1) (λ i lt. let d : q + 1 + i ≡ q + suc i = omega arith in ap f d ∙ on (suc i) (omega (arith, lt))) later
     ]
-  where
-    differ : (b : Bool) → b ≡ true → b ≡ false → ⊥
-    differ b h k = cc
 
 -- behind a place where it rises, at most a places on, it passes
 passes_behind : (f : ℕ → Bool) (a : ℕ) → RunsOn f a → (n q : ℕ) → n ≤ a → near (rises f) n q ≡ true → f (q + n) ≡ true
 passes_behind f a on zero q le e = absurd (cc)
 passes_behind f a on (suc n) q le e =
     let d : q + suc n ≡ q + 1 + n = omega arith in
-    elim (either_passed (rises f q) (near (rises f) n (q + 1)) e) [
+    elim (or_cases (rises f q) (near (rises f) n (q + 1)) e) [
       | inl up ↦ ap f d ∙ reaches f a q on up (suc n) le n (omega arith)
       | inr later ↦ ap f d ∙ passes_behind f a on n (q + 1) (omega (arith, le)) later
     ]

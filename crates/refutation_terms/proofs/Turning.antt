@@ -89,7 +89,7 @@ holds_in-period P s x j i long =
 pub cell-within : (s : List Symbol) (q : ℕ) → q < length s → cell s q ≡ get_or s q off_symbol
 cell-within s q lt = ap (λ r. get_or s r off_symbol) (mod-eq_of_lt lt)
 
-weeks_with-holds_in : (P : Instance) (s : List Symbol) (x j : ℕ) → IsDay P j → length s ≡ cells P → weeks_with P s x j ≡ count_by (holds_in P s x j) (range_with_len 0 P.weeks)
+pub weeks_with-holds_in : (P : Instance) (s : List Symbol) (x j : ℕ) → IsDay P j → length s ≡ cells P → weeks_with P s x j ≡ count_by (holds_in P s x j) (range_with_len 0 P.weeks)
 weeks_with-holds_in P s x j day long =
     count_same (λ i. (get_or s (i * P.days + (j - 1)) off_symbol).number == x) (holds_in P s x j) 0 P.weeks
     (λ i le lt.
