@@ -1,5 +1,5 @@
 -- One cause for a line that is refused.
-use Rattle.std.proofs.Common.{◌≡◌, ℕ, ◌≤◌, List, [], ◌∷◌, ◌++◌, refl, ap, sym, ◌∙◌, subst, arith, inl, inr, true, false, Option, Some, None, pos}
+use Rattle.std.proofs.Common.{◌≡◌, ℕ, ◌≤◌, List, [], ◌∷◌, ◌++◌, refl, ap, sym, ◌∙◌, subst, arith, inl, inr, Bool, true, false, Option, Some, None, pos}
 use Rattle.std.specs.Prelude.{◌<ℤ◌, ◌*ℤ◌}
 use Rattle.rwsp_terms.specs.declared.data.Symbol.{Symbol}
 use Rattle.rwsp_terms.specs.declared.data.Rule.{Rule}
@@ -9,7 +9,7 @@ use Rattle.rwsp_terms.specs.Rules.{Names}
 use Rattle.refutation_terms.specs.declared.lines.LogKind.{LogKind}
 use Rattle.refutation_terms.specs.declared.lines.Line.{Line}
 use Rattle.refutation_terms.specs.declared.lines.Line.TheVariants.{Split, Unfinished, Closing}
-use Rattle.refutation_terms.specs.declared.lines.Leaf.TheVariants.{Window, Day, Few, Words}
+use Rattle.refutation_terms.specs.declared.lines.Leaf.TheVariants.{Window, Day, Few, Words, Blocks}
 use Rattle.refutation_terms.specs.declared.lines.WordClaim.{WordClaim}
 use Rattle.refutation_terms.specs.declared.lines.WordClaim.TheVariants.{Dead, Light}
 use Rattle.refutation_terms.specs.WordsLeaf.{worth, owed, WordsHold, WordsEscape}
@@ -19,30 +19,30 @@ use Rattle.refutation_terms.specs.Word.{Domains}
 use Rattle.refutation_terms.specs.Tree.{is_idle}
 use Rattle.refutation_terms.specs.Log.{Holds, Cites, CitesOnlyNamed, ListsShortOnly}
 use Rattle.refutation_terms.specs.Escape.{ComesFirst}
-use Rattle.refutation_terms.specs.LogText.{RawLine, raw_fields, line_text, line_of, IsInRange}
-use Rattle.refutation_terms.specs.Verdict.{IsLeast, IsUnnamed, ListsLong, IsPlainLeaf, Escapes, SpellsNothing, SpellsUnknown, Spells, TreeCause, SpellsTurn, SpellsNoTurn, TurnCause, RulesCause, VersionCause, GoalCause, ExtraCause}
+use Rattle.refutation_terms.specs.LogText.{RawLine, raw_fields, line_text, no_turn_text, line_of, IsInRange}
+use Rattle.refutation_terms.specs.Verdict.{IsLeast, IsUnnamed, ListsLong, IsPlainLeaf, Escapes, SpellsNothing, SpellsUnknown, Spells, TreeCause, SpellsTurn, SpellsNoTurn, SpellsNoOpening, TurnCause, RulesCause, VersionCause, GoalCause, ExtraCause}
 use Rattle.refutation_terms.specs.TextLaws.{IsWritable, HasNames}
 use Rattle.rwsp_text.proofs.LineLaws.{same_words}
-use Rattle.refutation_terms.proofs.LineTables.{turn_fields, turn_words, turn_same, raw_words, raw_same}
+use Rattle.refutation_terms.proofs.LineTables.{turn_fields, turn_words, no_turn_fields, no_turn_words, turn_same, raw_words, raw_same}
 use Rattle.refutation_terms.proofs.Sound.{too_light}
 
 least_same : (A : ℕ → Type 0) (k m : ℕ) → IsLeast A k → IsLeast A m → k ≡ m
 least_same A k m a b = let x : k ≤ m = a.1 m b.0 in let y : m ≤ k = b.1 k a.0 in omega (arith, x, y)
 
 -- bytes spell one line
-lines_same : (P : Instance) (goal : Option ℕ) (a b : RawLine) → IsWritable P → (line_text P a ≡ line_text P b) → IsInRange P goal a → IsInRange P goal b → a ≡ b
-lines_same P goal a b w e ha hb =
-    raw_same P goal a b w ha hb (same_words (raw_fields P a) (raw_fields P b) [] [] (raw_words P goal a w ha) (raw_words P goal b w hb) (ap (λ t. t ++ []) e)).0
+lines_same : (P : Instance) (goal : Option ℕ) (counts : Bool) (a b : RawLine) → IsWritable P → (line_text P a ≡ line_text P b) → IsInRange P goal counts a → IsInRange P goal counts b → a ≡ b
+lines_same P goal counts a b w e ha hb =
+    raw_same P goal counts a b w ha hb (same_words (raw_fields P a) (raw_fields P b) [] [] (raw_words P goal counts a w ha) (raw_words P goal counts b w hb) (ap (λ t. t ++ []) e)).0
 
-pub spells_same : (P : Instance) (goal : Option ℕ) (bytes : List ℕ) (a b : Line) → IsWritable P → HasNames P → Spells P goal bytes a → Spells P goal bytes b → a ≡ b
-spells_same P goal bytes a b w n sa sb =
-    let same : sa.0 ≡ sb.0 = lines_same P goal sa.0 sb.0 w (sym sa.1.spelled ∙ sb.1.spelled) sa.1.in_range sb.1.in_range in
+pub spells_same : (P : Instance) (goal : Option ℕ) (counts : Bool) (bytes : List ℕ) (a b : Line) → IsWritable P → HasNames P → Spells P goal counts bytes a → Spells P goal counts bytes b → a ≡ b
+spells_same P goal counts bytes a b w n sa sb =
+    let same : sa.0 ≡ sb.0 = lines_same P goal counts sa.0 sb.0 w (sym sa.1.spelled ∙ sb.1.spelled) sa.1.in_range sb.1.in_range in
     let both : Some a ≡ Some b = sym sa.2 ∙ ap (line_of P) same ∙ sb.2 in
     let whole : a ≡ b = cc in whole
 
-pub not_unknown : (P : Instance) (goal : Option ℕ) (bytes : List ℕ) (a : Line) → IsWritable P → Spells P goal bytes a → SpellsUnknown P goal bytes → ⊥
-not_unknown P goal bytes a w sa u =
-    let same : sa.0 ≡ u.0 = lines_same P goal sa.0 u.0 w (sym sa.1.spelled ∙ u.1.spelled) sa.1.in_range u.1.in_range in
+pub not_unknown : (P : Instance) (goal : Option ℕ) (counts : Bool) (bytes : List ℕ) (a : Line) → IsWritable P → Spells P goal counts bytes a → SpellsUnknown P goal counts bytes → ⊥
+not_unknown P goal counts bytes a w sa u =
+    let same : sa.0 ≡ u.0 = lines_same P goal counts sa.0 u.0 w (sym sa.1.spelled ∙ u.1.spelled) sa.1.in_range u.1.in_range in
     let clash : Some a ≡ None = sym sa.2 ∙ ap (line_of P) same ∙ u.2 in cc
 
 -- the words that show an escape are one
@@ -64,6 +64,7 @@ escapes_same P goal D (Closing (Words p R (Light turns reward y))) u v a b = fir
 escapes_same P goal D (Closing (Window number p len)) u v a b = absurd a
 escapes_same P goal D (Closing (Day j x over)) u v a b = absurd a
 escapes_same P goal D (Closing Few) u v a b = absurd a
+escapes_same P goal D (Closing (Blocks x)) u v a b = absurd a
 escapes_same P goal D (Split p x) u v a b = absurd a
 escapes_same P goal D Unfinished u v a b = absurd a
 
@@ -102,6 +103,7 @@ plain_lists_none P (Closing (Words p R claim)) k i l = i
 plain_lists_none P (Closing (Window number p len)) k i l = l
 plain_lists_none P (Closing (Day j x over)) k i l = l
 plain_lists_none P (Closing Few) k i l = l
+plain_lists_none P (Closing (Blocks x)) k i l = l
 plain_lists_none P (Split p x) k i l = i
 plain_lists_none P Unfinished k i l = i
 
@@ -110,6 +112,7 @@ plain_not_escaped P goal D (Closing (Words p R claim)) u i l = i
 plain_not_escaped P goal D (Closing (Window number p len)) u i l = l
 plain_not_escaped P goal D (Closing (Day j x over)) u i l = l
 plain_not_escaped P goal D (Closing Few) u i l = l
+plain_not_escaped P goal D (Closing (Blocks x)) u i l = l
 plain_not_escaped P goal D (Split p x) u i l = i
 plain_not_escaped P goal D Unfinished u i l = i
 
@@ -118,6 +121,7 @@ long_not_short P (Closing (Words p R claim)) k i l = l.3 (i l.0 (k, l.2, l.1))
 long_not_short P (Closing (Window number p len)) k i l = l
 long_not_short P (Closing (Day j x over)) k i l = l
 long_not_short P (Closing Few) k i l = l
+long_not_short P (Closing (Blocks x)) k i l = l
 long_not_short P (Split p x) k i l = l
 long_not_short P Unfinished k i l = l
 
@@ -136,6 +140,7 @@ escaped_not_holding P goal D (Closing (Words p R claim)) u e h = claim_escaped P
 escaped_not_holding P goal D (Closing (Window number p len)) u e h = e
 escaped_not_holding P goal D (Closing (Day j x over)) u e h = e
 escaped_not_holding P goal D (Closing Few) u e h = e
+escaped_not_holding P goal D (Closing (Blocks x)) u e h = e
 escaped_not_holding P goal D (Split p x) u e h = e
 escaped_not_holding P goal D Unfinished u e h = e
 
@@ -182,38 +187,38 @@ one_reason P goal named D n line why other (OfOpen o e) (OfEscape all' short' v 
 one_reason P goal named D n line why other (OfOpen o e) (OfOpen o' f) = e ∙ sym f
 
 -- the causes of a line of the tree, by what its bytes spell
-pub data Level (P : Instance) (goal : Option ℕ) (named : List ℕ) (D : Domains) (n : ℕ) (bytes : List ℕ) (why : LogRefusal) : Type 0 where
-  Nothing : SpellsNothing P goal bytes → why ≡ Refusals.Form n → Level P goal named D n bytes why
-  Unknown : SpellsUnknown P goal bytes → why ≡ Refusals.Name n → Level P goal named D n bytes why
-  Known : (line : Line) → Spells P goal bytes line → Reason P goal named D n line why → Level P goal named D n bytes why
+pub data Level (P : Instance) (goal : Option ℕ) (counts : Bool) (named : List ℕ) (D : Domains) (n : ℕ) (bytes : List ℕ) (why : LogRefusal) : Type 0 where
+  Nothing : SpellsNothing P goal counts bytes → why ≡ Refusals.Form n → Level P goal counts named D n bytes why
+  Unknown : SpellsUnknown P goal counts bytes → why ≡ Refusals.Name n → Level P goal counts named D n bytes why
+  Known : (line : Line) → Spells P goal counts bytes line → Reason P goal named D n line why → Level P goal counts named D n bytes why
 
-pub level_of : (P : Instance) (goal : Option ℕ) (named : List ℕ) (D : Domains) (n : ℕ) (bytes : List ℕ) (why : LogRefusal) → TreeCause P goal named D n bytes why → Level P goal named D n bytes why
-level_of P goal named D n bytes (Refusals.Form i) h = Nothing h.1 (ap Refusals.Form h.0)
-level_of P goal named D n bytes (Refusals.Name i) h = Unknown h.1 (ap Refusals.Name h.0)
-level_of P goal named D n bytes (Refusals.Unnamed i k) h = Known h.1.0 h.1.1 (OfName k h.1.2 (ap (λ j. Refusals.Unnamed j k) h.0))
-level_of P goal named D n bytes (Refusals.Idle i) h = Known (Split h.1.0 h.1.1) h.1.2 (OfIdle h.1.3 (ap Refusals.Idle h.0))
-level_of P goal named D n bytes (Refusals.Long i k) h = Known h.1.0 h.1.1.0 (OfLong h.1.1.1 k h.1.2 (ap (λ j. Refusals.Long j k) h.0))
-level_of P goal named D n bytes (Refusals.Fails i) h = Known h.1.0 h.1.1.0 (OfFail h.1.1.1 h.1.2 h.1.3 (ap Refusals.Fails h.0))
-level_of P goal named D n bytes (Refusals.Escape i u) h = Known h.1.0 h.1.1.0 (OfEscape h.1.1.1 h.1.2 u h.1.3 (ap (λ j. Refusals.Escape j u) h.0))
-level_of P goal named D n bytes (Refusals.Unfinished i) h = Known Unfinished h.1 (OfOpen refl (ap Refusals.Unfinished h.0))
-level_of P goal named D n bytes Refusals.Ends h = absurd h
-level_of P goal named D n bytes (Refusals.Extra i) h = absurd h
-level_of P goal named D n bytes (Refusals.Turn i) h = absurd h
+pub level_of : (P : Instance) (goal : Option ℕ) (counts : Bool) (named : List ℕ) (D : Domains) (n : ℕ) (bytes : List ℕ) (why : LogRefusal) → TreeCause P goal counts named D n bytes why → Level P goal counts named D n bytes why
+level_of P goal counts named D n bytes (Refusals.Form i) h = Nothing h.1 (ap Refusals.Form h.0)
+level_of P goal counts named D n bytes (Refusals.Name i) h = Unknown h.1 (ap Refusals.Name h.0)
+level_of P goal counts named D n bytes (Refusals.Unnamed i k) h = Known h.1.0 h.1.1 (OfName k h.1.2 (ap (λ j. Refusals.Unnamed j k) h.0))
+level_of P goal counts named D n bytes (Refusals.Idle i) h = Known (Split h.1.0 h.1.1) h.1.2 (OfIdle h.1.3 (ap Refusals.Idle h.0))
+level_of P goal counts named D n bytes (Refusals.Long i k) h = Known h.1.0 h.1.1.0 (OfLong h.1.1.1 k h.1.2 (ap (λ j. Refusals.Long j k) h.0))
+level_of P goal counts named D n bytes (Refusals.Fails i) h = Known h.1.0 h.1.1.0 (OfFail h.1.1.1 h.1.2 h.1.3 (ap Refusals.Fails h.0))
+level_of P goal counts named D n bytes (Refusals.Escape i u) h = Known h.1.0 h.1.1.0 (OfEscape h.1.1.1 h.1.2 u h.1.3 (ap (λ j. Refusals.Escape j u) h.0))
+level_of P goal counts named D n bytes (Refusals.Unfinished i) h = Known Unfinished h.1 (OfOpen refl (ap Refusals.Unfinished h.0))
+level_of P goal counts named D n bytes Refusals.Ends h = absurd h
+level_of P goal counts named D n bytes (Refusals.Extra i) h = absurd h
+level_of P goal counts named D n bytes (Refusals.Turn i) h = absurd h
 
-one_level : (P : Instance) (goal : Option ℕ) (named : List ℕ) (D : Domains) (n : ℕ) (bytes : List ℕ) (why other : LogRefusal) → IsWritable P → HasNames P → Level P goal named D n bytes why → Level P goal named D n bytes other → why ≡ other
-one_level P goal named D n bytes why other w m (Nothing a e) (Nothing b f) = e ∙ sym f
-one_level P goal named D n bytes why other w m (Nothing a e) (Unknown b f) = absurd (a b.0 b.1)
-one_level P goal named D n bytes why other w m (Nothing a e) (Known line b r) = absurd (a b.0 b.1)
-one_level P goal named D n bytes why other w m (Unknown a e) (Nothing b f) = absurd (b a.0 a.1)
-one_level P goal named D n bytes why other w m (Unknown a e) (Unknown b f) = e ∙ sym f
-one_level P goal named D n bytes why other w m (Unknown a e) (Known line b r) = absurd (not_unknown P goal bytes line w b a)
-one_level P goal named D n bytes why other w m (Known line a q) (Nothing b f) = absurd (b a.0 a.1)
-one_level P goal named D n bytes why other w m (Known line a q) (Unknown b f) = absurd (not_unknown P goal bytes line w a b)
-one_level P goal named D n bytes why other w m (Known line a q) (Known line' b r) =
-    one_reason P goal named D n line why other q (subst (λ l. Reason P goal named D n l other) (spells_same P goal bytes line' line w m b a) r)
+one_level : (P : Instance) (goal : Option ℕ) (counts : Bool) (named : List ℕ) (D : Domains) (n : ℕ) (bytes : List ℕ) (why other : LogRefusal) → IsWritable P → HasNames P → Level P goal counts named D n bytes why → Level P goal counts named D n bytes other → why ≡ other
+one_level P goal counts named D n bytes why other w m (Nothing a e) (Nothing b f) = e ∙ sym f
+one_level P goal counts named D n bytes why other w m (Nothing a e) (Unknown b f) = absurd (a b.0 b.1)
+one_level P goal counts named D n bytes why other w m (Nothing a e) (Known line b r) = absurd (a b.0 b.1)
+one_level P goal counts named D n bytes why other w m (Unknown a e) (Nothing b f) = absurd (b a.0 a.1)
+one_level P goal counts named D n bytes why other w m (Unknown a e) (Unknown b f) = e ∙ sym f
+one_level P goal counts named D n bytes why other w m (Unknown a e) (Known line b r) = absurd (not_unknown P goal counts bytes line w b a)
+one_level P goal counts named D n bytes why other w m (Known line a q) (Nothing b f) = absurd (b a.0 a.1)
+one_level P goal counts named D n bytes why other w m (Known line a q) (Unknown b f) = absurd (not_unknown P goal counts bytes line w a b)
+one_level P goal counts named D n bytes why other w m (Known line a q) (Known line' b r) =
+    one_reason P goal named D n line why other q (subst (λ l. Reason P goal named D n l other) (spells_same P goal counts bytes line' line w m b a) r)
 
-pub tree_cause_same : (P : Instance) (goal : Option ℕ) (named : List ℕ) (D : Domains) (n : ℕ) (bytes : List ℕ) (why other : LogRefusal) → IsWritable P → HasNames P → TreeCause P goal named D n bytes why → TreeCause P goal named D n bytes other → why ≡ other
-tree_cause_same P goal named D n bytes why other w m a b = one_level P goal named D n bytes why other w m (level_of P goal named D n bytes why a) (level_of P goal named D n bytes other b)
+pub tree_cause_same : (P : Instance) (goal : Option ℕ) (counts : Bool) (named : List ℕ) (D : Domains) (n : ℕ) (bytes : List ℕ) (why other : LogRefusal) → IsWritable P → HasNames P → TreeCause P goal counts named D n bytes why → TreeCause P goal counts named D n bytes other → why ≡ other
+tree_cause_same P goal counts named D n bytes why other w m a b = one_level P goal counts named D n bytes why other w m (level_of P goal counts named D n bytes why a) (level_of P goal counts named D n bytes other b)
 
 pub version_cause : (kind : LogKind) (bytes : List ℕ) (why : LogRefusal) → VersionCause kind bytes why → why ≡ Refusals.Form 1
 version_cause kind bytes (Refusals.Form i) h = ap Refusals.Form h.0
@@ -237,27 +242,38 @@ turns_same P bytes name name' day day' w a b =
     let same = same_words (turn_fields name day) (turn_fields name' day') [] [] (turn_words P name day w a.0 a.1) (turn_words P name' day' w b.0 b.1) (ap (λ t. t ++ []) (sym a.2 ∙ b.2)) in
     turn_same P name name' day day' w (a.0, a.1) (b.0, b.1) same.0
 
+-- the line that says that there is no turn spells none
+pub no_turn_no_name : (P : Instance) (name : List ℕ) (day : ℕ) → IsWritable P → SpellsTurn P no_turn_text name day → ⊥
+no_turn_no_name P name day w a =
+    let same = (same_words no_turn_fields (turn_fields name day) [] [] no_turn_words (turn_words P name day w a.0 a.1) (ap (λ t. t ++ []) a.2)).0 in
+    let clash : no_turn_fields ≡ turn_fields name day = same in cc
+
 abbrev pub IsLeastUnnamedDay : Instance → List ℕ → ℕ → ℕ → Type 0
 IsLeastUnnamedDay P named day k = IsLeast (IsUnnamed P named (λ r. r ≡ TheRules.Day day)) k
 
-pub data TurnReason (P : Instance) (named bytes : List ℕ) (why : LogRefusal) : Type 0 where
-  NoTurn : SpellsNoTurn P bytes → why ≡ Refusals.Form 3 → TurnReason P named bytes why
-  NoName : (name : List ℕ) (day : ℕ) → SpellsTurn P bytes name day → symbol_of P name ≡ None → why ≡ Refusals.Name 3 → TurnReason P named bytes why
-  NoDay : (name : List ℕ) (day : ℕ) (x : Symbol) (k : ℕ) → SpellsTurn P bytes name day → symbol_of P name ≡ Some x → IsLeastUnnamedDay P named day k → why ≡ Refusals.Unnamed 3 k → TurnReason P named bytes why
-  NoDemand : (name : List ℕ) (day : ℕ) (x : Symbol) → SpellsTurn P bytes name day → symbol_of P name ≡ Some x → Names P named (TheRules.Day day) → (least P x.number day <ℤ pos 1) → why ≡ Refusals.Turn 3 → TurnReason P named bytes why
+-- bytes that spell no opening spell no turn
+pub no_turn_spelled : (P : Instance) (counts : Bool) (bytes : List ℕ) → SpellsNoOpening P counts bytes → SpellsNoTurn P bytes
+no_turn_spelled P false bytes h = h
+no_turn_spelled P true bytes h = h.0
 
-pub turn_reason : (P : Instance) (named bytes : List ℕ) (why : LogRefusal) → TurnCause P named bytes why → TurnReason P named bytes why
-turn_reason P named bytes (Refusals.Form i) h = NoTurn h.1 (ap Refusals.Form h.0)
-turn_reason P named bytes (Refusals.Name i) h = NoName h.1.0 h.1.1 h.1.2 h.1.3 (ap Refusals.Name h.0)
-turn_reason P named bytes (Refusals.Unnamed i k) h = NoDay h.1.2.0 h.1.0 h.1.1 k h.1.2.1 h.1.2.2 h.1.3 (ap (λ j. Refusals.Unnamed j k) h.0)
-turn_reason P named bytes (Refusals.Idle i) h = absurd h
-turn_reason P named bytes (Refusals.Long i k) h = absurd h
-turn_reason P named bytes (Refusals.Fails i) h = absurd h
-turn_reason P named bytes (Refusals.Escape i u) h = absurd h
-turn_reason P named bytes (Refusals.Unfinished i) h = absurd h
-turn_reason P named bytes Refusals.Ends h = absurd h
-turn_reason P named bytes (Refusals.Extra i) h = absurd h
-turn_reason P named bytes (Refusals.Turn i) h = NoDemand h.1.2.0 h.1.0 h.1.1 h.1.2.1 h.1.2.2 h.1.3 h.1.4 (ap Refusals.Turn h.0)
+pub data TurnReason (P : Instance) (counts : Bool) (named bytes : List ℕ) (why : LogRefusal) : Type 0 where
+  NoTurn : SpellsNoOpening P counts bytes → why ≡ Refusals.Form 3 → TurnReason P counts named bytes why
+  NoName : (name : List ℕ) (day : ℕ) → SpellsTurn P bytes name day → symbol_of P name ≡ None → why ≡ Refusals.Name 3 → TurnReason P counts named bytes why
+  NoDay : (name : List ℕ) (day : ℕ) (x : Symbol) (k : ℕ) → SpellsTurn P bytes name day → symbol_of P name ≡ Some x → IsLeastUnnamedDay P named day k → why ≡ Refusals.Unnamed 3 k → TurnReason P counts named bytes why
+  NoDemand : (name : List ℕ) (day : ℕ) (x : Symbol) → SpellsTurn P bytes name day → symbol_of P name ≡ Some x → Names P named (TheRules.Day day) → (least P x.number day <ℤ pos 1) → why ≡ Refusals.Turn 3 → TurnReason P counts named bytes why
+
+pub turn_reason : (P : Instance) (counts : Bool) (named bytes : List ℕ) (why : LogRefusal) → TurnCause P counts named bytes why → TurnReason P counts named bytes why
+turn_reason P counts named bytes (Refusals.Form i) h = NoTurn h.1 (ap Refusals.Form h.0)
+turn_reason P counts named bytes (Refusals.Name i) h = NoName h.1.0 h.1.1 h.1.2 h.1.3 (ap Refusals.Name h.0)
+turn_reason P counts named bytes (Refusals.Unnamed i k) h = NoDay h.1.2.0 h.1.0 h.1.1 k h.1.2.1 h.1.2.2 h.1.3 (ap (λ j. Refusals.Unnamed j k) h.0)
+turn_reason P counts named bytes (Refusals.Idle i) h = absurd h
+turn_reason P counts named bytes (Refusals.Long i k) h = absurd h
+turn_reason P counts named bytes (Refusals.Fails i) h = absurd h
+turn_reason P counts named bytes (Refusals.Escape i u) h = absurd h
+turn_reason P counts named bytes (Refusals.Unfinished i) h = absurd h
+turn_reason P counts named bytes Refusals.Ends h = absurd h
+turn_reason P counts named bytes (Refusals.Extra i) h = absurd h
+turn_reason P counts named bytes (Refusals.Turn i) h = NoDemand h.1.2.0 h.1.0 h.1.1 h.1.2.1 h.1.2.2 h.1.3 h.1.4 (ap Refusals.Turn h.0)
 
 name_known : (P : Instance) (name name' : List ℕ) (x : Symbol) → name ≡ name' → symbol_of P name ≡ None → symbol_of P name' ≡ Some x → ⊥
 name_known P name name' x e a b = let clash : None ≡ Some x = sym a ∙ ap (symbol_of P) e ∙ b in cc
@@ -265,23 +281,23 @@ name_known P name name' x e a b = let clash : None ≡ Some x = sym a ∙ ap (sy
 day_named : (P : Instance) (named : List ℕ) (day day' k : ℕ) → day ≡ day' → IsLeastUnnamedDay P named day k → Names P named (TheRules.Day day') → ⊥
 day_named P named day day' k e a n = a.0.3 (subst (Names P named) (ap TheRules.Day (sym e) ∙ sym a.0.2) n)
 
-one_turn_reason : (P : Instance) (named bytes : List ℕ) (why other : LogRefusal) → IsWritable P → TurnReason P named bytes why → TurnReason P named bytes other → why ≡ other
-one_turn_reason P named bytes why other w (NoTurn a e) (NoTurn b f) = e ∙ sym f
-one_turn_reason P named bytes why other w (NoTurn a e) (NoName name' day' b t f) = absurd (a name' day' b)
-one_turn_reason P named bytes why other w (NoTurn a e) (NoDay name' day' x' m b t l' f) = absurd (a name' day' b)
-one_turn_reason P named bytes why other w (NoTurn a e) (NoDemand name' day' x' b t d' l' f) = absurd (a name' day' b)
-one_turn_reason P named bytes why other w (NoName name day a s e) (NoTurn b f) = absurd (b name day a)
-one_turn_reason P named bytes why other w (NoName name day a s e) (NoName name' day' b t f) = e ∙ sym f
-one_turn_reason P named bytes why other w (NoName name day a s e) (NoDay name' day' x' m b t l' f) = absurd (name_known P name name' x' (turns_same P bytes name name' day day' w a b).0 s t)
-one_turn_reason P named bytes why other w (NoName name day a s e) (NoDemand name' day' x' b t d' l' f) = absurd (name_known P name name' x' (turns_same P bytes name name' day day' w a b).0 s t)
-one_turn_reason P named bytes why other w (NoDay name day x k a s l e) (NoTurn b f) = absurd (b name day a)
-one_turn_reason P named bytes why other w (NoDay name day x k a s l e) (NoName name' day' b t f) = absurd (name_known P name' name x (sym (turns_same P bytes name name' day day' w a b).0) t s)
-one_turn_reason P named bytes why other w (NoDay name day x k a s l e) (NoDay name' day' x' m b t l' f) = e ∙ ap (Refusals.Unnamed 3) (least_same (IsUnnamed P named (λ r. r ≡ TheRules.Day day)) k m l (subst (λ j. IsLeastUnnamedDay P named j m) (sym (turns_same P bytes name name' day day' w a b).1) l')) ∙ sym f
-one_turn_reason P named bytes why other w (NoDay name day x k a s l e) (NoDemand name' day' x' b t d' l' f) = absurd (day_named P named day day' k (turns_same P bytes name name' day day' w a b).1 l d')
-one_turn_reason P named bytes why other w (NoDemand name day x a s d l e) (NoTurn b f) = absurd (b name day a)
-one_turn_reason P named bytes why other w (NoDemand name day x a s d l e) (NoName name' day' b t f) = absurd (name_known P name' name x (sym (turns_same P bytes name name' day day' w a b).0) t s)
-one_turn_reason P named bytes why other w (NoDemand name day x a s d l e) (NoDay name' day' x' m b t l' f) = absurd (day_named P named day' day m (sym (turns_same P bytes name name' day day' w a b).1) l' d)
-one_turn_reason P named bytes why other w (NoDemand name day x a s d l e) (NoDemand name' day' x' b t d' l' f) = e ∙ sym f
+one_turn_reason : (P : Instance) (counts : Bool) (named bytes : List ℕ) (why other : LogRefusal) → IsWritable P → TurnReason P counts named bytes why → TurnReason P counts named bytes other → why ≡ other
+one_turn_reason P counts named bytes why other w (NoTurn a e) (NoTurn b f) = e ∙ sym f
+one_turn_reason P counts named bytes why other w (NoTurn a e) (NoName name' day' b t f) = absurd (no_turn_spelled P counts bytes a name' day' b)
+one_turn_reason P counts named bytes why other w (NoTurn a e) (NoDay name' day' x' m b t l' f) = absurd (no_turn_spelled P counts bytes a name' day' b)
+one_turn_reason P counts named bytes why other w (NoTurn a e) (NoDemand name' day' x' b t d' l' f) = absurd (no_turn_spelled P counts bytes a name' day' b)
+one_turn_reason P counts named bytes why other w (NoName name day a s e) (NoTurn b f) = absurd (no_turn_spelled P counts bytes b name day a)
+one_turn_reason P counts named bytes why other w (NoName name day a s e) (NoName name' day' b t f) = e ∙ sym f
+one_turn_reason P counts named bytes why other w (NoName name day a s e) (NoDay name' day' x' m b t l' f) = absurd (name_known P name name' x' (turns_same P bytes name name' day day' w a b).0 s t)
+one_turn_reason P counts named bytes why other w (NoName name day a s e) (NoDemand name' day' x' b t d' l' f) = absurd (name_known P name name' x' (turns_same P bytes name name' day day' w a b).0 s t)
+one_turn_reason P counts named bytes why other w (NoDay name day x k a s l e) (NoTurn b f) = absurd (no_turn_spelled P counts bytes b name day a)
+one_turn_reason P counts named bytes why other w (NoDay name day x k a s l e) (NoName name' day' b t f) = absurd (name_known P name' name x (sym (turns_same P bytes name name' day day' w a b).0) t s)
+one_turn_reason P counts named bytes why other w (NoDay name day x k a s l e) (NoDay name' day' x' m b t l' f) = e ∙ ap (Refusals.Unnamed 3) (least_same (IsUnnamed P named (λ r. r ≡ TheRules.Day day)) k m l (subst (λ j. IsLeastUnnamedDay P named j m) (sym (turns_same P bytes name name' day day' w a b).1) l')) ∙ sym f
+one_turn_reason P counts named bytes why other w (NoDay name day x k a s l e) (NoDemand name' day' x' b t d' l' f) = absurd (day_named P named day day' k (turns_same P bytes name name' day day' w a b).1 l d')
+one_turn_reason P counts named bytes why other w (NoDemand name day x a s d l e) (NoTurn b f) = absurd (no_turn_spelled P counts bytes b name day a)
+one_turn_reason P counts named bytes why other w (NoDemand name day x a s d l e) (NoName name' day' b t f) = absurd (name_known P name' name x (sym (turns_same P bytes name name' day day' w a b).0) t s)
+one_turn_reason P counts named bytes why other w (NoDemand name day x a s d l e) (NoDay name' day' x' m b t l' f) = absurd (day_named P named day' day m (sym (turns_same P bytes name name' day day' w a b).1) l' d)
+one_turn_reason P counts named bytes why other w (NoDemand name day x a s d l e) (NoDemand name' day' x' b t d' l' f) = e ∙ sym f
 
-pub turn_cause_same : (P : Instance) (named bytes : List ℕ) (why other : LogRefusal) → IsWritable P → TurnCause P named bytes why → TurnCause P named bytes other → why ≡ other
-turn_cause_same P named bytes why other w a b = one_turn_reason P named bytes why other w (turn_reason P named bytes why a) (turn_reason P named bytes other b)
+pub turn_cause_same : (P : Instance) (counts : Bool) (named bytes : List ℕ) (why other : LogRefusal) → IsWritable P → TurnCause P counts named bytes why → TurnCause P counts named bytes other → why ≡ other
+turn_cause_same P counts named bytes why other w a b = one_turn_reason P counts named bytes why other w (turn_reason P counts named bytes why a) (turn_reason P counts named bytes other b)

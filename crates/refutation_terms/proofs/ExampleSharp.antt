@@ -1,5 +1,5 @@
 -- A spent log, and a sharp one with a turn.
-use Rattle.std.proofs.Common.{◌≡◌, ◌⊎◌, ℕ, zero, suc, ◌<◌, ◌≤◌, List, [], ◌∷◌, length, get_or, refl, ap, ◌∙◌, subst, arith, inl, inr, Option, Some, None, lit<, lit≤}
+use Rattle.std.proofs.Common.{◌≡◌, ◌⊎◌, ℕ, zero, suc, ◌<◌, ◌≤◌, List, [], ◌∷◌, length, get_or, refl, ap, ◌∙◌, subst, arith, inl, inr, Option, Some, None, lit<, lit≤, false}
 use Rattle.std.specs.Prelude.{slice_get}
 use Rattle.std.specs.List.{AllByRecursion}
 use Rattle.std.specs.Int.Signed.{le_z_yes}
@@ -101,7 +101,7 @@ open_log_is_spent = record {
       named = (λ k lt. absurd (omega (arith, lt)), λ k d lt. absurd (omega (arith, lt)));
       opening = tt;
       goal = tt;
-      lines = each_at (λ k line. LineFits three_of_six None line) open_log.lines ((lit< tt, lit≤ tt), (tt, (tt, tt)));
+      lines = each_at (λ k line. LineFits three_of_six None false line) open_log.lines ((lit< tt, lit≤ tt), (tt, (tt, tt)));
     };
     allowed = tt;
     turn_named = λ r c. absurd c;

@@ -1,22 +1,23 @@
 -- The lines of a log's text are those of its tables.
-use Rattle.std.proofs.Common.{◌≡◌, ℕ, zero, suc, ◌+◌, ◌*◌, ◌/◌, ◌^◌, ◌<◌, ◌≤◌, List, [], ◌∷◌, ◌++◌, length, refl, ap, sym, ◌∙◌, subst, arith, inl, inr, true, false, Option, Some, None}
+use Rattle.std.proofs.Common.{◌≡◌, ℕ, zero, suc, ◌+◌, ◌*◌, ◌/◌, ◌^◌, ◌<◌, ◌≤◌, List, [], ◌∷◌, ◌++◌, length, refl, ap, sym, ◌∙◌, subst, arith, inl, inr, Bool, true, false, Option, Some, None}
 use Rattle.std.specs.Prelude.{codes}
 use Rattle.std.specs.List.{flat_map}
 use Rattle.std.specs.Fmt.{decimal}
 use Rattle.std.proofs.lemmas.List.{append-nil}
+use Rattle.std.proofs.lemmas.Fmt.{decimal_digit}
 use Rattle.std.proofs.Math.Nat.{le-div_iff_mul-le, div-le_self}
 use Rattle.rwsp_text.specs.Fields.{Words, IsName, NamedWeight, Values, AreInRange, spell, numbers, weight_fields}
 use Rattle.rwsp_text.specs.Kinds.{Kind, IsOfKind, IsLine, AreReadable, IsReadable}
 use Rattle.rwsp_text.specs.Lines.{AreWords}
-use Rattle.rwsp_text.proofs.KindLaws.{no_words, lines_are_words, lines_say_one}
+use Rattle.rwsp_text.proofs.KindLaws.{word_blankless, no_words, lines_are_words, lines_say_one}
 use Rattle.rwsp_terms.specs.declared.limits.TheConstants.{GREATEST_REWARD, LONGEST_WORD}
 use Rattle.rwsp_terms.specs.Instance.{Instance, cells, IsDay}
 use Rattle.rwsp_terms.specs.Rules.{rules}
 use Rattle.refutation_terms.specs.declared.lines.Version.{Version}
-use Rattle.refutation_terms.specs.declared.lines.Version.TheVariants.{Version1, Version2, Free1}
+use Rattle.refutation_terms.specs.declared.lines.Version.TheVariants.{Version1, Version2, Version3, Free1, Free2}
 use Rattle.refutation_terms.specs.Ranges.{IsLength, AreRules}
-use Rattle.refutation_terms.specs.LogText.{RawLine, RawSplit, RawWindow, RawDay, RawDead, RawBound, RawFew, RawFree, RawUnfinished, place_words, raw_fields, IsInRange}
-use Rattle.refutation_terms.specs.LineKinds.{most_turns, split_kind, window_kind, day_kind, dead_kind, bound_kind, open_kind, few_kind, free_kind, own_kinds, line_kinds, version_kinds, rules_kinds, turn_kinds, goal_kinds}
+use Rattle.refutation_terms.specs.LogText.{RawLine, RawSplit, RawWindow, RawDay, RawDead, RawBound, RawFew, RawFree, RawBlocks, RawUnfinished, place_words, raw_fields, IsInRange}
+use Rattle.refutation_terms.specs.LineKinds.{most_turns, split_kind, window_kind, day_kind, dead_kind, bound_kind, open_kind, few_kind, free_kind, blocks_kind, last_kinds, own_kinds, line_kinds, version_kinds, rules_kinds, turn_kinds, goal_kinds}
 use Rattle.refutation_terms.specs.TextLaws.{IsWritable}
 
 word_fits : LONGEST_WORD < 10 ^ 19
@@ -47,21 +48,25 @@ fields_readable P w =
       (few_turns P, (reward, (refl, ((many, refl), (refl, ((days, (omega arith, omega arith), tt), tt)))))),
     )
 
-pub lines_readable : (P : Instance) (goal : Option ℕ) → IsWritable P → IsReadable (line_kinds P goal)
-lines_readable P None w =
+pub lines_readable : (P : Instance) (goal : Option ℕ) (counts : Bool) → IsWritable P → IsReadable (line_kinds P goal counts)
+lines_readable P None false w =
     let r = fields_readable P w in
-    let own : IsReadable (own_kinds P None) = ((r.4, refl, (refl, tt)), ((tt, refl, tt), tt)) in
-    ((r.0, refl, (refl, (refl, (refl, (refl, (refl, tt)))))), ((r.1, refl, (refl, (refl, (refl, (refl, tt))))), ((r.2, refl, (refl, (refl, (refl, tt)))), ((r.3, refl, (refl, (refl, tt))), own))))
-lines_readable P (Some goal) w =
+    ((r.0, refl, (refl, (refl, (refl, (refl, (refl, tt)))))), ((r.1, refl, (refl, (refl, (refl, (refl, tt))))), ((r.2, refl, (refl, (refl, (refl, tt)))), ((r.3, refl, (refl, (refl, tt))), ((r.4, refl, (refl, tt)), ((tt, refl, tt), tt))))))
+lines_readable P None true w =
     let r = fields_readable P w in
-    let own : IsReadable (own_kinds P (Some goal)) = ((tt, refl, (refl, (refl, tt))), ((r.5, refl, (refl, tt)), ((tt, refl, tt), tt))) in
-    ((r.0, refl, (refl, (refl, (refl, (refl, (refl, (refl, tt))))))), ((r.1, refl, (refl, (refl, (refl, (refl, (refl, tt)))))), ((r.2, refl, (refl, (refl, (refl, (refl, tt))))), ((r.3, refl, (refl, (refl, (refl, tt)))), own))))
+    ((r.0, refl, (refl, (refl, (refl, (refl, (refl, (refl, tt))))))), ((r.1, refl, (refl, (refl, (refl, (refl, (refl, tt)))))), ((r.2, refl, (refl, (refl, (refl, (refl, tt))))), ((r.3, refl, (refl, (refl, (refl, tt)))), ((r.4, refl, (refl, (refl, tt))), ((tt, refl, (refl, tt)), ((tt, refl, tt), tt)))))))
+lines_readable P (Some goal) false w =
+    let r = fields_readable P w in
+    ((r.0, refl, (refl, (refl, (refl, (refl, (refl, (refl, tt))))))), ((r.1, refl, (refl, (refl, (refl, (refl, (refl, tt)))))), ((r.2, refl, (refl, (refl, (refl, (refl, tt))))), ((r.3, refl, (refl, (refl, (refl, tt)))), ((tt, refl, (refl, (refl, tt))), ((r.5, refl, (refl, tt)), ((tt, refl, tt), tt)))))))
+lines_readable P (Some goal) true w =
+    let r = fields_readable P w in
+    ((r.0, refl, (refl, (refl, (refl, (refl, (refl, (refl, (refl, tt)))))))), ((r.1, refl, (refl, (refl, (refl, (refl, (refl, (refl, tt))))))), ((r.2, refl, (refl, (refl, (refl, (refl, (refl, tt)))))), ((r.3, refl, (refl, (refl, (refl, (refl, tt))))), ((tt, refl, (refl, (refl, (refl, tt)))), ((r.5, refl, (refl, (refl, tt))), ((tt, refl, (refl, tt)), ((tt, refl, tt), tt))))))))
 
 pub goal_readable : (P : Instance) → IsWritable P → IsReadable (goal_kinds P)
 goal_readable P w = (((omega (arith, w.1), tt), refl, tt), tt)
 
 pub version_readable : IsReadable version_kinds
-version_readable = ((((refl, refl, refl), tt), refl, (refl, tt)), (((refl, tt), refl, tt), tt))
+version_readable = (((omega arith, tt), refl, (refl, tt)), (((omega arith, tt), refl, tt), tt))
 
 pub rules_readable : (P : Instance) → IsWritable P → IsReadable (rules_kinds P)
 rules_readable P w = ((((omega (arith, w.2), tt), tt), refl, tt), tt)
@@ -103,14 +108,29 @@ weights_end R y = ap (λ us. numbers R ++ (codes "weights" ∷ us)) (sym (append
 rules_end : (R : List ℕ) → numbers R ≡ numbers R ++ []
 rules_end R = sym (append-nil (numbers R))
 
-pub raw_line : (P : Instance) (goal : Option ℕ) (raw : RawLine) → IsInRange P goal raw → IsLine (line_kinds P goal) (raw_fields P raw) raw
-raw_line P goal (RawSplit p name) h = inl (refl, record { values = (p, (name, tt)); keeps = (h.0, (h.1, tt)); spelled = refl; made = refl })
-raw_line P goal (RawWindow rule p len) h = inr (inl (refl, record { values = (rule, (p, (len, tt))); keeps = ((h.0, h.1), (h.2, (h.3, tt))); spelled = refl; made = refl }))
-raw_line P goal (RawDay day name over) h = inr (inr (inl (refl, record { values = (day, (name, (over, tt))); keeps = (h.0, (h.1, tt)); spelled = refl; made = refl })))
-raw_line P goal (RawDead p len R) h =
+last_line : (counts : Bool) → IsLine (last_kinds counts) (codes "open" ∷ []) RawUnfinished
+last_line false = inl (refl, record { values = tt; keeps = tt; spelled = refl; made = refl })
+last_line true = inr (inl (refl, record { values = tt; keeps = tt; spelled = refl; made = refl }))
+
+blocks_line : (name : List ℕ) → IsName name → IsLine (last_kinds true) (codes "blocks" ∷ name ∷ []) (RawBlocks name)
+blocks_line name h = inl (refl, record { values = (name, tt); keeps = (h, tt); spelled = refl; made = refl })
+
+-- a line of the last kinds is one of those of logs with a goal or without
+own_last : (P : Instance) (goal : Option ℕ) (counts : Bool) (ws : Words) (raw : RawLine) → IsLine (last_kinds counts) ws raw → IsLine (own_kinds P goal counts) ws raw
+own_last P None counts ws raw l = inr l
+own_last P (Some goal) counts ws raw l = inr (inr l)
+
+own_line : (P : Instance) (goal : Option ℕ) (counts : Bool) (ws : Words) (raw : RawLine) → IsLine (own_kinds P goal counts) ws raw → IsLine (line_kinds P goal counts) ws raw
+own_line P goal counts ws raw l = inr (inr (inr (inr l)))
+
+pub raw_line : (P : Instance) (goal : Option ℕ) (counts : Bool) (raw : RawLine) → IsInRange P goal counts raw → IsLine (line_kinds P goal counts) (raw_fields P raw) raw
+raw_line P goal counts (RawSplit p name) h = inl (refl, record { values = (p, (name, tt)); keeps = (h.0, (h.1, tt)); spelled = refl; made = refl })
+raw_line P goal counts (RawWindow rule p len) h = inr (inl (refl, record { values = (rule, (p, (len, tt))); keeps = ((h.0, h.1), (h.2, (h.3, tt))); spelled = refl; made = refl }))
+raw_line P goal counts (RawDay day name over) h = inr (inr (inl (refl, record { values = (day, (name, (over, tt))); keeps = (h.0, (h.1, tt)); spelled = refl; made = refl })))
+raw_line P goal counts (RawDead p len R) h =
     inr (inr (inr (inl (refl, record { values = (p, (len, (R, tt))); keeps = (h.0, (h.1, (h.2, tt))); spelled = ap (λ us. place_words P p ++ (decimal len ∷ codes "rules" ∷ us)) (rules_end R); made = refl }))))
-raw_line P None (RawBound p turns R y) h =
-    inr (inr (inr (inr (inl (
+raw_line P None counts (RawBound p turns R y) h =
+    own_line P None counts (raw_fields P (RawBound p turns R y)) (RawBound p turns R y) (inl (
       refl,
       record {
         values = (p, (turns, (R, (y, tt))));
@@ -118,13 +138,13 @@ raw_line P None (RawBound p turns R y) h =
         spelled = ap (λ us. place_words P p ++ (decimal turns ∷ codes "rules" ∷ us)) (weights_end R y);
         made = refl;
       },
-    )))))
-raw_line P None RawUnfinished h = inr (inr (inr (inr (inr (inl (refl, record { values = tt; keeps = tt; spelled = refl; made = refl }))))))
-raw_line P None RawFew h = absurd h
-raw_line P None (RawFree turns reward R y) h = absurd h
-raw_line P (Some goal) RawFew h = inr (inr (inr (inr (inl (refl, record { values = tt; keeps = tt; spelled = refl; made = refl })))))
-raw_line P (Some goal) (RawFree turns reward R y) h =
-    inr (inr (inr (inr (inr (inl (
+    ))
+raw_line P (Some goal) counts (RawBound p turns R y) h = absurd h
+raw_line P None counts RawFew h = absurd h
+raw_line P (Some goal) counts RawFew h = own_line P (Some goal) counts (raw_fields P RawFew) RawFew (inl (refl, record { values = tt; keeps = tt; spelled = refl; made = refl }))
+raw_line P None counts (RawFree turns reward R y) h = absurd h
+raw_line P (Some goal) counts (RawFree turns reward R y) h =
+    own_line P (Some goal) counts (raw_fields P (RawFree turns reward R y)) (RawFree turns reward R y) (inr (inl (
       refl,
       record {
         values = (turns, (reward, (R, (y, tt))));
@@ -132,57 +152,67 @@ raw_line P (Some goal) (RawFree turns reward R y) h =
         spelled = ap (λ us. decimal turns ∷ decimal reward ∷ codes "rules" ∷ us) (weights_end R y);
         made = refl;
       },
-    ))))))
-raw_line P (Some goal) RawUnfinished h = inr (inr (inr (inr (inr (inr (inl (refl, record { values = tt; keeps = tt; spelled = refl; made = refl })))))))
-raw_line P (Some goal) (RawBound p turns R y) h = absurd h
+    )))
+raw_line P goal false (RawBlocks name) h = absurd h
+raw_line P goal true (RawBlocks name) h =
+    own_line P goal true (raw_fields P (RawBlocks name)) (RawBlocks name) (own_last P goal true (raw_fields P (RawBlocks name)) (RawBlocks name) (blocks_line name h))
+raw_line P goal counts RawUnfinished h =
+    own_line P goal counts (raw_fields P RawUnfinished) RawUnfinished (own_last P goal counts (raw_fields P RawUnfinished) RawUnfinished (last_line counts))
 
-abbrev Found : Instance → Option ℕ → Words → RawLine → Type 0
-Found P goal ws raw = (ws ≡ raw_fields P raw) × IsInRange P goal raw
+abbrev Found : Instance → Option ℕ → Bool → Words → RawLine → Type 0
+Found P goal counts ws raw = (ws ≡ raw_fields P raw) × IsInRange P goal counts raw
 
 -- a line of a kind is a written line, where each line with values in their ranges is one
-found_by : (P : Instance) (goal : Option ℕ) (kind : Kind RawLine) (w : List ℕ) (ws : Words) (raw : RawLine) → ((v : Values kind.fields) → AreInRange kind.fields v → Found P goal (kind.word ∷ spell kind.fields v) (kind.make v)) → IsOfKind kind (w ∷ ws) raw → Found P goal (w ∷ ws) raw
-found_by P goal kind w ws raw fine l =
+found_by : (P : Instance) (goal : Option ℕ) (counts : Bool) (kind : Kind RawLine) (w : List ℕ) (ws : Words) (raw : RawLine) → ((v : Values kind.fields) → AreInRange kind.fields v → Found P goal counts (kind.word ∷ spell kind.fields v) (kind.make v)) → IsOfKind kind (w ∷ ws) raw → Found P goal counts (w ∷ ws) raw
+found_by P goal counts kind w ws raw fine l =
     let s = l.1 in
     let f = fine s.values s.keeps in
-    subst (Found P goal (w ∷ ws)) s.made (ap (λ z. z ∷ ws) l.0 ∙ ap (λ us. kind.word ∷ us) s.spelled ∙ f.0, f.1)
+    subst (Found P goal counts (w ∷ ws)) s.made (ap (λ z. z ∷ ws) l.0 ∙ ap (λ us. kind.word ∷ us) s.spelled ∙ f.0, f.1)
 
-own_found : (P : Instance) (goal : Option ℕ) (w : List ℕ) (ws : Words) (raw : RawLine) → IsLine (own_kinds P goal) (w ∷ ws) raw → Found P goal (w ∷ ws) raw
-own_found P None w ws raw (inl l) =
-    found_by P None (bound_kind P) w ws raw
+last_found : (P : Instance) (goal : Option ℕ) (counts : Bool) (w : List ℕ) (ws : Words) (raw : RawLine) → IsLine (last_kinds counts) (w ∷ ws) raw → Found P goal counts (w ∷ ws) raw
+last_found P goal false w ws raw (inl l) = found_by P goal false open_kind w ws raw (λ v k. (refl, tt)) l
+last_found P goal false w ws raw (inr l) = absurd l
+last_found P goal true w ws raw (inl l) = found_by P goal true blocks_kind w ws raw (λ v k. (refl, k.0)) l
+last_found P goal true w ws raw (inr (inl l)) = found_by P goal true open_kind w ws raw (λ v k. (refl, tt)) l
+last_found P goal true w ws raw (inr (inr l)) = absurd l
+
+own_found : (P : Instance) (goal : Option ℕ) (counts : Bool) (w : List ℕ) (ws : Words) (raw : RawLine) → IsLine (own_kinds P goal counts) (w ∷ ws) raw → Found P goal counts (w ∷ ws) raw
+own_found P None counts w ws raw (inl l) =
+    found_by P None counts (bound_kind P) w ws raw
     (λ v k. (
       ap (λ us. codes "bound" ∷ place_words P v.0 ++ (decimal v.1.0 ∷ codes "rules" ∷ us)) (sym (weights_end v.1.1.0 v.1.1.1.0)),
       (k.0, turns_long P v.1.0 k.1.0, k.1.1.0, k.1.1.1.0),
     ))
     l
-own_found P None w ws raw (inr (inl l)) = found_by P None open_kind w ws raw (λ v k. (refl, tt)) l
-own_found P None w ws raw (inr (inr l)) = absurd l
-own_found P (Some goal) w ws raw (inl l) = found_by P (Some goal) few_kind w ws raw (λ v k. (refl, tt)) l
-own_found P (Some goal) w ws raw (inr (inl l)) =
-    found_by P (Some goal) (free_kind P) w ws raw
+own_found P None counts w ws raw (inr l) = last_found P None counts w ws raw l
+own_found P (Some goal) counts w ws raw (inl l) = found_by P (Some goal) counts few_kind w ws raw (λ v k. (refl, tt)) l
+own_found P (Some goal) counts w ws raw (inr (inl l)) =
+    found_by P (Some goal) counts (free_kind P) w ws raw
     (λ v k. (
       ap (λ us. codes "free" ∷ decimal v.0 ∷ decimal v.1.0 ∷ codes "rules" ∷ us) (sym (weights_end v.1.1.0 v.1.1.1.0)),
       (turns_long P v.0 k.0, k.1.0.1, k.1.1.0, k.1.1.1.0),
     ))
     l
-own_found P (Some goal) w ws raw (inr (inr (inl l))) = found_by P (Some goal) open_kind w ws raw (λ v k. (refl, tt)) l
-own_found P (Some goal) w ws raw (inr (inr (inr l))) = absurd l
+own_found P (Some goal) counts w ws raw (inr (inr l)) = last_found P (Some goal) counts w ws raw l
 
 -- and a line of the table is a written line
-pub raw_found : (P : Instance) (goal : Option ℕ) (ws : Words) (raw : RawLine) → IsLine (line_kinds P goal) ws raw → (ws ≡ raw_fields P raw) × IsInRange P goal raw
-raw_found P goal [] raw l = absurd (no_words (line_kinds P goal) raw l)
-raw_found P goal (w ∷ ws) raw (inl l) = found_by P goal (split_kind P) w ws raw (λ v k. (refl, (k.0, k.1.0))) l
-raw_found P goal (w ∷ ws) raw (inr (inl l)) = found_by P goal (window_kind P) w ws raw (λ v k. (refl, (k.0.0, k.0.1, k.1.0, k.1.1.0))) l
-raw_found P goal (w ∷ ws) raw (inr (inr (inl l))) = found_by P goal (day_kind P) w ws raw (λ v k. (refl, (k.0, k.1.0))) l
-raw_found P goal (w ∷ ws) raw (inr (inr (inr (inl l)))) =
-    found_by P goal (dead_kind P) w ws raw (λ v k. (ap (λ us. codes "dead" ∷ place_words P v.0 ++ (decimal v.1.0 ∷ codes "rules" ∷ us)) (sym (rules_end v.1.1.0)), (k.0, k.1.0, k.1.1.0))) l
-raw_found P goal (w ∷ ws) raw (inr (inr (inr (inr l)))) = own_found P goal w ws raw l
+pub raw_found : (P : Instance) (goal : Option ℕ) (counts : Bool) (ws : Words) (raw : RawLine) → IsLine (line_kinds P goal counts) ws raw → (ws ≡ raw_fields P raw) × IsInRange P goal counts raw
+raw_found P goal counts [] raw l = absurd (no_words (line_kinds P goal counts) raw l)
+raw_found P goal counts (w ∷ ws) raw (inl l) = found_by P goal counts (split_kind P) w ws raw (λ v k. (refl, (k.0, k.1.0))) l
+raw_found P goal counts (w ∷ ws) raw (inr (inl l)) = found_by P goal counts (window_kind P) w ws raw (λ v k. (refl, (k.0.0, k.0.1, k.1.0, k.1.1.0))) l
+raw_found P goal counts (w ∷ ws) raw (inr (inr (inl l))) = found_by P goal counts (day_kind P) w ws raw (λ v k. (refl, (k.0, k.1.0))) l
+raw_found P goal counts (w ∷ ws) raw (inr (inr (inr (inl l)))) =
+    found_by P goal counts (dead_kind P) w ws raw (λ v k. (ap (λ us. codes "dead" ∷ place_words P v.0 ++ (decimal v.1.0 ∷ codes "rules" ∷ us)) (sym (rules_end v.1.1.0)), (k.0, k.1.0, k.1.1.0))) l
+raw_found P goal counts (w ∷ ws) raw (inr (inr (inr (inr l)))) = own_found P goal counts w ws raw l
 
 -- the lines of a header
 
 abbrev pub version_fields : Version → Words
 version_fields Version1 = codes "rwsp-log" ∷ codes "1" ∷ []
 version_fields Version2 = codes "rwsp-log" ∷ codes "2" ∷ []
+version_fields Version3 = codes "rwsp-log" ∷ codes "3" ∷ []
 version_fields Free1 = codes "rwsp-free" ∷ codes "1" ∷ []
+version_fields Free2 = codes "rwsp-free" ∷ codes "2" ∷ []
 
 abbrev pub rules_fields : List ℕ → Words
 rules_fields R = codes "rules" ∷ numbers R
@@ -190,10 +220,15 @@ rules_fields R = codes "rules" ∷ numbers R
 abbrev pub turn_fields : List ℕ → ℕ → Words
 turn_fields name day = codes "turn" ∷ name ∷ decimal day ∷ []
 
+one_digit : (d : ℕ) → d < 10 → ((48 + d) ∷ []) ∷ [] ≡ decimal d ∷ []
+one_digit d h = ap (λ w. w ∷ []) (sym (decimal_digit d h))
+
 pub version_line : (v : Version) → IsLine version_kinds (version_fields v) v
-version_line Version1 = inl (refl, record { values = (false, tt); keeps = tt; spelled = refl; made = refl })
-version_line Version2 = inl (refl, record { values = (true, tt); keeps = tt; spelled = refl; made = refl })
-version_line Free1 = inr (inl (refl, record { values = tt; keeps = tt; spelled = refl; made = refl }))
+version_line Version1 = inl (refl, record { values = (1, tt); keeps = ((omega arith, omega arith), tt); spelled = one_digit 1 (omega arith); made = refl })
+version_line Version2 = inl (refl, record { values = (2, tt); keeps = ((omega arith, omega arith), tt); spelled = one_digit 2 (omega arith); made = refl })
+version_line Version3 = inl (refl, record { values = (3, tt); keeps = ((omega arith, omega arith), tt); spelled = one_digit 3 (omega arith); made = refl })
+version_line Free1 = inr (inl (refl, record { values = (1, tt); keeps = ((omega arith, omega arith), tt); spelled = one_digit 1 (omega arith); made = refl }))
+version_line Free2 = inr (inl (refl, record { values = (2, tt); keeps = ((omega arith, omega arith), tt); spelled = one_digit 2 (omega arith); made = refl }))
 
 pub rules_line : (P : Instance) (R : List ℕ) → AreRules P R → IsLine (rules_kinds P) (rules_fields R) R
 rules_line P R h = inl (refl, record { values = (R, tt); keeps = (h, tt); spelled = sym (append-nil (numbers R)); made = refl })
@@ -226,8 +261,15 @@ rules_words P R w h = lines_are_words (rules_kinds P) (rules_fields R) R (rules_
 pub turn_words : (P : Instance) (name : List ℕ) (day : ℕ) → IsWritable P → IsName name → IsDay P day → AreWords (turn_fields name day)
 turn_words P name day w n d = lines_are_words (turn_kinds P) (turn_fields name day) (name, day) (turn_readable P w) (turn_line P name day n d)
 
-pub raw_words : (P : Instance) (goal : Option ℕ) (raw : RawLine) → IsWritable P → IsInRange P goal raw → AreWords (raw_fields P raw)
-raw_words P goal raw w h = lines_are_words (line_kinds P goal) (raw_fields P raw) raw (lines_readable P goal w) (raw_line P goal raw h)
+-- the line of a log that counts and has no turn
+abbrev pub no_turn_fields : Words
+no_turn_fields = codes "turn" ∷ []
+
+pub no_turn_words : AreWords no_turn_fields
+no_turn_words = (omega arith, (word_blankless (codes "turn") refl, tt))
+
+pub raw_words : (P : Instance) (goal : Option ℕ) (counts : Bool) (raw : RawLine) → IsWritable P → IsInRange P goal counts raw → AreWords (raw_fields P raw)
+raw_words P goal counts raw w h = lines_are_words (line_kinds P goal counts) (raw_fields P raw) raw (lines_readable P goal counts w) (raw_line P goal counts raw h)
 
 abbrev pub goal_fields : ℕ → Words
 goal_fields goal = codes "goal" ∷ decimal goal ∷ []
@@ -253,5 +295,6 @@ turn_same P name name' day day' w h k e =
     lines_say_one (turn_kinds P) (turn_fields name day) (name, day) (name', day') (turn_readable P w) (turn_line P name day h.0 h.1) (subst (λ ws. IsLine (turn_kinds P) ws (name', day')) (sym e) (turn_line P name' day' k.0 k.1)) in
     (ap (λ (t : List ℕ × ℕ). t.0) both, ap (λ (t : List ℕ × ℕ). t.1) both)
 
-pub raw_same : (P : Instance) (goal : Option ℕ) (a b : RawLine) → IsWritable P → IsInRange P goal a → IsInRange P goal b → raw_fields P a ≡ raw_fields P b → a ≡ b
-raw_same P goal a b w h k e = lines_say_one (line_kinds P goal) (raw_fields P a) a b (lines_readable P goal w) (raw_line P goal a h) (subst (λ ws. IsLine (line_kinds P goal) ws b) (sym e) (raw_line P goal b k))
+pub raw_same : (P : Instance) (goal : Option ℕ) (counts : Bool) (a b : RawLine) → IsWritable P → IsInRange P goal counts a → IsInRange P goal counts b → raw_fields P a ≡ raw_fields P b → a ≡ b
+raw_same P goal counts a b w h k e =
+    lines_say_one (line_kinds P goal counts) (raw_fields P a) a b (lines_readable P goal counts w) (raw_line P goal counts a h) (subst (λ ws. IsLine (line_kinds P goal counts) ws b) (sym e) (raw_line P goal counts b k))

@@ -8,7 +8,7 @@ use Rattle.rwsp_terms.specs.Instance.{Instance, cells, shift_count, IsDay, least
 use Rattle.rwsp_terms.proofs.Counting.{count_same}
 use Rattle.refutation_terms.specs.declared.lines.Line.{Line}
 use Rattle.refutation_terms.specs.declared.lines.Line.TheVariants.{Split, Unfinished, Closing}
-use Rattle.refutation_terms.specs.declared.lines.Leaf.TheVariants.{Window, Day, Few, Words}
+use Rattle.refutation_terms.specs.declared.lines.Leaf.TheVariants.{Window, Day, Few, Words, Blocks}
 use Rattle.refutation_terms.specs.declared.lines.WordClaim.{WordClaim}
 use Rattle.refutation_terms.specs.declared.lines.WordClaim.TheVariants.{Dead, Light}
 use Rattle.refutation_terms.specs.declared.lines.Opening.TheVariants.{Full}
@@ -90,15 +90,16 @@ same_claim P goal D E p R (Dead len) some same h = λ u long over. h u long (sam
 same_claim P goal D E p R (Light turns reward y) some same h = λ u long over. h u long (same_over P E D p u some (turned_round P D E same) over)
 
 -- a line that holds under the one holds under the other
-pub same_holds : (P : Instance) (goal : Option ℕ) (D E : Domains) (line : Line) → 0 < cells P → GoalFits P Full goal → LineFits P goal line → AreSame P D E → Holds P goal D line → Holds P goal E line
-same_holds P goal D E (Split p x) some weeks fits same h = sym (same_idle P D E p x.number fits.0 same) ∙ h
-same_holds P goal D E (Closing (Window rule p len)) some weeks fits same h = (h.0, h.1, λ u long over. h.2 u long (same_over P E D p u some (turned_round P D E same) over))
-same_holds P goal D E (Closing (Day j x true)) some weeks fits same h = subst (λ n. greatest P x.number j <ℤ pos n) (same_fixed P D E j x.number fits.0 same) h
-same_holds P goal D E (Closing (Day j x false)) some weeks fits same h = subst (λ n. pos n <ℤ least P x.number j) (same_possible P D E j x.number fits.0 same) h
-same_holds P goal D E (Closing (Words p R claim)) some weeks fits same h = same_claim P goal D E p R claim some same h
-same_holds P None D E (Closing Few) some weeks fits same h = h
-same_holds P (Some goal) D E (Closing Few) some weeks fits same h = same_few P goal D E weeks.1 same h
-same_holds P goal D E Unfinished some weeks fits same h = h
+pub same_holds : (P : Instance) (goal : Option ℕ) (counts : Bool) (D E : Domains) (line : Line) → 0 < cells P → GoalFits P Full goal → LineFits P goal counts line → AreSame P D E → Holds P goal D line → Holds P goal E line
+same_holds P goal counts D E (Split p x) some weeks fits same h = sym (same_idle P D E p x.number fits.0 same) ∙ h
+same_holds P goal counts D E (Closing (Window rule p len)) some weeks fits same h = (h.0, h.1, λ u long over. h.2 u long (same_over P E D p u some (turned_round P D E same) over))
+same_holds P goal counts D E (Closing (Day j x true)) some weeks fits same h = subst (λ n. greatest P x.number j <ℤ pos n) (same_fixed P D E j x.number fits.0 same) h
+same_holds P goal counts D E (Closing (Day j x false)) some weeks fits same h = subst (λ n. pos n <ℤ least P x.number j) (same_possible P D E j x.number fits.0 same) h
+same_holds P goal counts D E (Closing (Words p R claim)) some weeks fits same h = same_claim P goal D E p R claim some same h
+same_holds P None counts D E (Closing Few) some weeks fits same h = h
+same_holds P (Some goal) counts D E (Closing Few) some weeks fits same h = same_few P goal D E weeks.1 same h
+same_holds P goal counts D E (Closing (Blocks x)) some weeks fits same h = h
+same_holds P goal counts D E Unfinished some weeks fits same h = h
 
 -- and a word that escapes it under the one escapes it under the other
 pub same_escapes : (P : Instance) (goal : Option ℕ) (D E : Domains) (line : Line) (w : List Symbol) → 0 < cells P → AreSame P D E → Escapes P goal D line w → Escapes P goal E line w
@@ -111,4 +112,5 @@ same_escapes P goal D E (Closing (Words p R (Dead len))) w some same h = record 
 }
 same_escapes P goal D E (Closing (Words p R (Light turns reward y))) w some same h = (same_least P D E p (turns * cells P) R (worth P goal y reward p) w some same h.0, h.1)
 same_escapes P goal D E (Closing Few) w some same h = h
+same_escapes P goal D E (Closing (Blocks x)) w some same h = h
 same_escapes P goal D E Unfinished w some same h = h

@@ -1,5 +1,5 @@
 -- A log that passes leaves no roster, or with a goal none that has as many free weekends.
-use Rattle.std.proofs.Common.{◌≡◌, ℕ, ◌-◌, ◌*◌, ◌<◌, ◌≤◌, List, length, get_or, refl, ap, sym, ◌∙◌, subst, arith, inl, inr, true, false, IsTrue, ◌==◌, pos, ℤ, Some, None, Option}
+use Rattle.std.proofs.Common.{◌≡◌, ℕ, ◌-◌, ◌*◌, ◌<◌, ◌≤◌, List, length, get_or, refl, ap, sym, ◌∙◌, subst, arith, inl, inr, Bool, true, false, IsTrue, ◌==◌, pos, ℤ, Some, None, Option}
 use Rattle.std.specs.Prelude.{◌<ℤ◌, ◌≤ℤ◌, ◌*ℤ◌, nat_le}
 use Rattle.std.proofs.lemmas.Int.{ints}
 use Rattle.std.proofs.lemmas.Bool.{eqb-true, eq-eqb, le-leb}
@@ -14,7 +14,7 @@ use Rattle.rwsp_terms.specs.Rules.{Names, Meets}
 use Rattle.rwsp_terms.proofs.Windows.{length-window}
 use Rattle.refutation_terms.specs.declared.lines.Line.{Line}
 use Rattle.refutation_terms.specs.declared.lines.Line.TheVariants.{Split, Unfinished, Closing}
-use Rattle.refutation_terms.specs.declared.lines.Leaf.TheVariants.{Window, Day, Few, Words}
+use Rattle.refutation_terms.specs.declared.lines.Leaf.TheVariants.{Window, Day, Few, Words, Blocks}
 use Rattle.refutation_terms.specs.declared.lines.WordClaim.{WordClaim}
 use Rattle.refutation_terms.specs.declared.lines.WordClaim.TheVariants.{Dead, Light}
 use Rattle.refutation_terms.specs.declared.lines.Opening.{Opening}
@@ -34,11 +34,12 @@ use Rattle.refutation_terms.proofs.Weighing.{window_weighs_enough}
 use Rattle.refutation_terms.proofs.FreeCounts.{few_leaves_none, window_is_free_enough}
 use Rattle.refutation_terms.proofs.Turning.{turned-IsRoster, turned-meets, turned_to, demanded_somewhere}
 use Rattle.refutation_terms.proofs.Named.{named-IsRule}
+use Rattle.refutation_terms.proofs.Blocks.{blocks_leave_none}
 
 -- a line that holds for the goal or none, fits the problem and cites named rules
-pub record IsProved (P : Instance) (goal : Option ℕ) (named : List ℕ) (D : Domains) (line : Line) : Type 0 where
+pub record IsProved (P : Instance) (goal : Option ℕ) (counts : Bool) (named : List ℕ) (D : Domains) (line : Line) : Type 0 where
   pub holds : Holds P goal D line
-  pub fits : LineFits P goal line
+  pub fits : LineFits P goal counts line
   pub cited : (r : Rule) → Cites P line r → Names P named r
 
 pub too_light : (w t : ℤ) → w <ℤ t → t ≤ℤ w → ⊥
@@ -70,9 +71,9 @@ words_leave_none P o goal named D s p R (Light turns reward y) goal_fits has met
     (weighs_enough P o goal y s p turns reward goal_fits has fits.4 w.is_roster days)
 
 -- a leaf leaves no roster, or with a goal none that has as many free weekends
-leaf_leaves_none : (P : Instance) (o : Opening) (goal : Option ℕ) (named : List ℕ) (D : Domains) (s : List Symbol) (line : Line) → GoalFits P o goal → HasGoal goal s → Meets P named s → Within P D s → IsLeaf line → IsProved P goal named D line → ⊥
-leaf_leaves_none P o goal named D s (Split p x) fits has met w leaf h = leaf
-leaf_leaves_none P o goal named D s (Closing (Window number p len)) fits has met w leaf h =
+leaf_leaves_none : (P : Instance) (o : Opening) (goal : Option ℕ) (counts : Bool) (named : List ℕ) (D : Domains) (s : List Symbol) (line : Line) → GoalFits P o goal → HasGoal goal s → Meets P named s → Within P D s → IsLeaf line → IsProved P goal counts named D line → ⊥
+leaf_leaves_none P o goal counts named D s (Split p x) fits has met w leaf h = leaf
+leaf_leaves_none P o goal counts named D s (Closing (Window number p len)) fits has met w leaf h =
     let some : 0 < cells P = cells_some P p h.fits.2 in
     let blocked = h.holds in
     let r = blocked.0 in
@@ -80,25 +81,26 @@ leaf_leaves_none P o goal named D s (Closing (Window number p len)) fits has met
     let bad : Bad P r (window s p len) = blocked.2 (window s p len) (length-window s p len) (over-window P D s p len some w) in
     let positive : 0 < length s = omega (arith, some, w.is_roster.long) in
     no_bad_met P r s positive (met.rules r is_named) p len bad
-leaf_leaves_none P o goal named D s (Closing (Day j x true)) fits has met w leaf h =
+leaf_leaves_none P o goal counts named D s (Closing (Day j x true)) fits has met w leaf h =
     met_not_too_many P D s j x.number h.fits.0 h.fits.1 w (met.rules (TheRules.Day j) (h.cited (TheRules.Day j) refl)) h.holds
-leaf_leaves_none P o goal named D s (Closing (Day j x false)) fits has met w leaf h =
+leaf_leaves_none P o goal counts named D s (Closing (Day j x false)) fits has met w leaf h =
     met_not_too_few P D s j x.number h.fits.0 h.fits.1 w (met.rules (TheRules.Day j) (h.cited (TheRules.Day j) refl)) h.holds
-leaf_leaves_none P o goal named D s (Closing (Words p R claim)) fits has met w leaf h = words_leave_none P o goal named D s p R claim fits has met w h.fits h.cited h.holds
-leaf_leaves_none P o None named D s (Closing Few) fits has met w leaf h = h.holds
-leaf_leaves_none P o (Some goal) named D s (Closing Few) fits has met w leaf h = few_leaves_none P goal D s fits.1 has w h.holds
-leaf_leaves_none P o goal named D s Unfinished fits has met w leaf h = h.holds
+leaf_leaves_none P o goal counts named D s (Closing (Words p R claim)) fits has met w leaf h = words_leave_none P o goal named D s p R claim fits has met w h.fits h.cited h.holds
+leaf_leaves_none P o None counts named D s (Closing Few) fits has met w leaf h = h.holds
+leaf_leaves_none P o (Some goal) counts named D s (Closing Few) fits has met w leaf h = few_leaves_none P goal D s fits.1 has w h.holds
+leaf_leaves_none P o goal counts named D s (Closing (Blocks x)) fits has met w leaf h = blocks_leave_none P x s met.is_roster h.fits.1 (λ r cites. met.rules r (h.cited r cites)) h.holds
+leaf_leaves_none P o goal counts named D s Unfinished fits has met w leaf h = h.holds
 
 -- a tree leaves no roster within its domains
-tree_leaves_none : (P : Instance) (o : Opening) (goal : Option ℕ) (named : List ℕ) (s : List Symbol) → GoalFits P o goal → HasGoal goal s → Meets P named s → (t : Tree) (D : Domains) → EachLine (IsProved P goal named) D t → Within P D s → ⊥
-tree_leaves_none P o goal named s fits has met (Leaf line leaf) D h w = leaf_leaves_none P o goal named D s line fits has met w leaf h
-tree_leaves_none P o goal named s fits has met (Node p x a b) D h w =
+tree_leaves_none : (P : Instance) (o : Opening) (goal : Option ℕ) (counts : Bool) (named : List ℕ) (s : List Symbol) → GoalFits P o goal → HasGoal goal s → Meets P named s → (t : Tree) (D : Domains) → EachLine (IsProved P goal counts named) D t → Within P D s → ⊥
+tree_leaves_none P o goal counts named s fits has met (Leaf line leaf) D h w = leaf_leaves_none P o goal counts named D s line fits has met w leaf h
+tree_leaves_none P o goal counts named s fits has met (Node p x a b) D h w =
     elim (in_either_side P D p x s w) [
-      | inl first ↦ tree_leaves_none P o goal named s fits has met a (narrowed D (Split p x) First) h.1 first
-      | inr second ↦ tree_leaves_none P o goal named s fits has met b (narrowed D (Split p x) Second) h.2 second
+      | inl first ↦ tree_leaves_none P o goal counts named s fits has met a (narrowed D (Split p x) First) h.1 first
+      | inr second ↦ tree_leaves_none P o goal counts named s fits has met b (narrowed D (Split p x) Second) h.2 second
     ]
 
-lines_are_proved : (P : Instance) (g : Log) → Passes P g → EachInOrder (IsProved P g.goal g.named) (opening P g.opening) g.lines
+lines_are_proved : (P : Instance) (g : Log) → Passes P g → EachInOrder (IsProved P g.goal g.counts g.named) (opening P g.opening) g.lines
 lines_are_proved P g passes k line e = record {
   holds = passes.holds k line e;
   fits = passes.grounded.fits.lines k line e;
@@ -109,8 +111,8 @@ lines_are_proved P g passes k line e = record {
 opening_leaves_none : (P : Instance) (g : Log) (s : List Symbol) → Passes P g → HasGoal g.goal s → Meets P g.named s → Within P (opening P g.opening) s → ⊥
 opening_leaves_none P g s passes has met w =
     let t = passes.tree.0 in
-    tree_leaves_none P g.opening g.goal g.named s passes.grounded.fits.goal has met t (opening P g.opening)
-    (in_tree (IsProved P g.goal g.named) (opening P g.opening) t (subst (EachInOrder (IsProved P g.goal g.named) (opening P g.opening)) (sym passes.tree.1) (lines_are_proved P g passes))) w
+    tree_leaves_none P g.opening g.goal g.counts g.named s passes.grounded.fits.goal has met t (opening P g.opening)
+    (in_tree (IsProved P g.goal g.counts g.named) (opening P g.opening) t (subst (EachInOrder (IsProved P g.goal g.counts g.named) (opening P g.opening)) (sym passes.tree.1) (lines_are_proved P g passes))) w
 
 -- a turned roster meets the named rules too
 turned-Meets : (P : Instance) (R : List ℕ) (k : ℕ) (s : List Symbol) → 0 < cells P → Meets P R s → Meets P R (turned P k s)

@@ -1,5 +1,5 @@
 -- Texts of logs as lists of lines, and each line as its words.
-use Rattle.std.proofs.Common.{◌≡◌, ℕ, suc, List, [], ◌∷◌, ◌++◌, map, refl, ap, sym, ◌∙◌, append_assoc, append-nil, Option, Some, None}
+use Rattle.std.proofs.Common.{◌≡◌, ℕ, suc, List, [], ◌∷◌, ◌++◌, map, refl, ap, sym, ◌∙◌, append_assoc, append-nil, Bool, true, false, Option, Some, None}
 use Rattle.std.specs.Prelude.{slice_get}
 use Rattle.std.specs.List.{AllByRecursion}
 use Rattle.rwsp_text.specs.Fields.{Words, text_of}
@@ -7,42 +7,52 @@ use Rattle.rwsp_text.specs.Lines.{text_of_lines, AreLines, AreWords}
 use Rattle.rwsp_text.proofs.LineLaws.{lines_append, are_lines_append}
 use Rattle.rwsp_terms.specs.Instance.{Instance, symbol_of, name_of}
 use Rattle.refutation_terms.specs.declared.lines.Version.{Version}
-use Rattle.refutation_terms.specs.declared.lines.Version.TheVariants.{Version1, Version2, Free1}
+use Rattle.refutation_terms.specs.declared.lines.Version.TheVariants.{Version1, Version2, Version3, Free1, Free2}
 use Rattle.refutation_terms.specs.declared.lines.Line.{Line}
 use Rattle.refutation_terms.specs.declared.lines.Turn.{Turn}
 use Rattle.refutation_terms.specs.declared.lines.Opening.{Opening}
 use Rattle.refutation_terms.specs.declared.lines.Opening.TheVariants.{Full, Turned}
 use Rattle.refutation_terms.specs.Log.{Log, Fits, LineFits, OpeningFits, GoalFits}
-use Rattle.refutation_terms.specs.LogText.{raw, raw_fields, line_text, version_text, rules_text, turn_text, goal_text, header_text, lines_text, log_text, line_of}
+use Rattle.refutation_terms.specs.LogText.{raw, raw_fields, line_text, version_text, rules_text, turn_text, no_turn_text, opening_text, goal_text, header_text, lines_text, log_text, line_of}
+use Rattle.refutation_terms.specs.Verdict.{goal_version}
 use Rattle.refutation_terms.specs.TextLaws.{IsWritable, HasNames}
 use Rattle.refutation_terms.proofs.Spelled.{spelled_raw}
-use Rattle.refutation_terms.proofs.LineTables.{version_fields, rules_fields, turn_fields, goal_fields, version_words, rules_words, turn_words, goal_words, raw_words, raw_same, turn_same as names_same}
+use Rattle.refutation_terms.proofs.LineTables.{version_fields, rules_fields, turn_fields, no_turn_fields, goal_fields, version_words, rules_words, turn_words, no_turn_words, goal_words, raw_words, raw_same, turn_same as names_same}
 
--- the version of a log with this opening and this goal or none
-abbrev pub version_of : Opening → Option ℕ → Version
-version_of Full None = Version1
-version_of (Turned t) None = Version2
-version_of o (Some goal) = Free1
+-- the version of a log with this opening and this goal or none, which may count or not
+abbrev pub version_of : Opening → Option ℕ → Bool → Version
+version_of Full None false = Version1
+version_of (Turned t) None false = Version2
+version_of o None true = Version3
+version_of o (Some goal) counts = goal_version counts
 
--- its third line, if it has one: the turn or the goal
-abbrev pub third_fields : Instance → Opening → Option ℕ → List Words
-third_fields P Full None = []
-third_fields P (Turned t) None = turn_fields (name_of P t.x) t.day ∷ []
-third_fields P o (Some goal) = goal_fields goal ∷ []
+-- the line of a turn or of none
+abbrev pub opening_fields : Instance → Opening → Words
+opening_fields P Full = no_turn_fields
+opening_fields P (Turned t) = turn_fields (name_of P t.x) t.day
 
-abbrev pub header_fields : Instance → List ℕ → Opening → Option ℕ → List Words
-header_fields P named o goal = version_fields (version_of o goal) ∷ rules_fields named ∷ third_fields P o goal
+-- its third line, if it has one: the turn, or that there is none, or the goal
+abbrev pub third_fields : Instance → Opening → Option ℕ → Bool → List Words
+third_fields P Full None false = []
+third_fields P (Turned t) None false = turn_fields (name_of P t.x) t.day ∷ []
+third_fields P o None true = opening_fields P o ∷ []
+third_fields P o (Some goal) counts = goal_fields goal ∷ []
+
+abbrev pub header_fields : Instance → List ℕ → Opening → Option ℕ → Bool → List Words
+header_fields P named o goal counts = version_fields (version_of o goal counts) ∷ rules_fields named ∷ third_fields P o goal counts
 
 abbrev pub lines_fields : Instance → Option ℕ → List Line → List Words
 lines_fields P goal lines = map (λ line. raw_fields P (raw P goal line)) lines
 
 abbrev pub log_fields : Instance → Log → List Words
-log_fields P g = header_fields P g.named g.opening g.goal ++ lines_fields P g.goal g.lines
+log_fields P g = header_fields P g.named g.opening g.goal g.counts ++ lines_fields P g.goal g.lines
 
 pub version_written : (v : Version) → version_text v ≡ text_of (version_fields v)
 version_written Version1 = refl
 version_written Version2 = refl
+version_written Version3 = refl
 version_written Free1 = refl
+version_written Free2 = refl
 
 pub lines_written : (P : Instance) (goal : Option ℕ) (lines : List Line) → lines_text P goal lines ≡ text_of_lines (lines_fields P goal lines)
 lines_written P goal [] = refl
@@ -51,58 +61,68 @@ lines_written P goal (line ∷ lines) = ap (λ t. line_text P (raw P goal line) 
 three_written : (a b c : List ℕ) → a ++ b ++ c ≡ a ++ (b ++ (c ++ []))
 three_written a b c = append_assoc a b c ∙ ap (λ t. a ++ (b ++ t)) (sym (append-nil c))
 
-header_written : (P : Instance) (named : List ℕ) (o : Opening) (goal : Option ℕ) → header_text P named o goal ≡ text_of_lines (header_fields P named o goal)
-header_written P named Full None = ap (λ t. version_text Version1 ++ t) (sym (append-nil (rules_text named)))
-header_written P named (Turned t) None = three_written (version_text Version2) (rules_text named) (turn_text (name_of P t.x) t.day)
-header_written P named Full (Some goal) = three_written (version_text Free1) (rules_text named) (goal_text goal)
-header_written P named (Turned t) (Some goal) = three_written (version_text Free1) (rules_text named) (goal_text goal)
+pub opening_written : (P : Instance) (o : Opening) → opening_text P o ≡ text_of (opening_fields P o)
+opening_written P Full = refl
+opening_written P (Turned t) = refl
+
+header_written : (P : Instance) (named : List ℕ) (o : Opening) (goal : Option ℕ) (counts : Bool) → header_text P named o goal counts ≡ text_of_lines (header_fields P named o goal counts)
+header_written P named Full None false = ap (λ t. version_text Version1 ++ t) (sym (append-nil (rules_text named)))
+header_written P named (Turned t) None false = three_written (version_text Version2) (rules_text named) (turn_text (name_of P t.x) t.day)
+header_written P named Full None true = three_written (version_text Version3) (rules_text named) no_turn_text
+header_written P named (Turned t) None true = three_written (version_text Version3) (rules_text named) (turn_text (name_of P t.x) t.day)
+header_written P named o (Some goal) false = three_written (version_text Free1) (rules_text named) (goal_text goal)
+header_written P named o (Some goal) true = three_written (version_text Free2) (rules_text named) (goal_text goal)
 
 pub log_written : (P : Instance) (g : Log) → log_text P g ≡ text_of_lines (log_fields P g)
 log_written P g =
-    ap (λ t. t ++ lines_text P g.goal g.lines) (header_written P g.named g.opening g.goal)
-    ∙ ap (λ t. text_of_lines (header_fields P g.named g.opening g.goal) ++ t) (lines_written P g.goal g.lines)
-    ∙ sym (lines_append (header_fields P g.named g.opening g.goal) (lines_fields P g.goal g.lines))
+    ap (λ t. t ++ lines_text P g.goal g.lines) (header_written P g.named g.opening g.goal g.counts)
+    ∙ ap (λ t. text_of_lines (header_fields P g.named g.opening g.goal g.counts) ++ t) (lines_written P g.goal g.lines)
+    ∙ sym (lines_append (header_fields P g.named g.opening g.goal g.counts) (lines_fields P g.goal g.lines))
 
 -- they are lines of words
-pub line_words : (P : Instance) (goal : Option ℕ) (line : Line) → IsWritable P → HasNames P → LineFits P goal line → AreWords (raw_fields P (raw P goal line))
-line_words P goal line w n h = raw_words P goal (raw P goal line) w (spelled_raw P goal line n h).0
+pub line_words : (P : Instance) (goal : Option ℕ) (counts : Bool) (line : Line) → IsWritable P → HasNames P → LineFits P goal counts line → AreWords (raw_fields P (raw P goal line))
+line_words P goal counts line w n h = raw_words P goal counts (raw P goal line) w (spelled_raw P goal counts line n h).0
 
-pub each_fits : (P : Instance) (goal : Option ℕ) (lines : List Line) → ((k : ℕ) (line : Line) → slice_get lines k ≡ Some line → LineFits P goal line) → AllByRecursion (LineFits P goal) lines
-each_fits P goal [] h = tt
-each_fits P goal (line ∷ lines) h = (h 0 line refl, each_fits P goal lines (λ k l e. h (suc k) l e))
+pub each_fits : (P : Instance) (goal : Option ℕ) (counts : Bool) (lines : List Line) → ((k : ℕ) (line : Line) → slice_get lines k ≡ Some line → LineFits P goal counts line) → AllByRecursion (LineFits P goal counts) lines
+each_fits P goal counts [] h = tt
+each_fits P goal counts (line ∷ lines) h = (h 0 line refl, each_fits P goal counts lines (λ k l e. h (suc k) l e))
 
-pub lines_words : (P : Instance) (goal : Option ℕ) (lines : List Line) → IsWritable P → HasNames P → AllByRecursion (LineFits P goal) lines → AreLines (lines_fields P goal lines)
-lines_words P goal [] w n h = tt
-lines_words P goal (line ∷ lines) w n h = (line_words P goal line w n h.0, lines_words P goal lines w n h.1)
+pub lines_words : (P : Instance) (goal : Option ℕ) (counts : Bool) (lines : List Line) → IsWritable P → HasNames P → AllByRecursion (LineFits P goal counts) lines → AreLines (lines_fields P goal lines)
+lines_words P goal counts [] w n h = tt
+lines_words P goal counts (line ∷ lines) w n h = (line_words P goal counts line w n h.0, lines_words P goal counts lines w n h.1)
 
-third_words : (P : Instance) (o : Opening) (goal : Option ℕ) → IsWritable P → HasNames P → OpeningFits P o → GoalFits P o goal → AreLines (third_fields P o goal)
-third_words P Full None w n fits of_goal = tt
-third_words P (Turned t) None w n fits of_goal = (turn_words P (name_of P t.x) t.day w (n t.x fits.1).0 fits.0, tt)
-third_words P Full (Some goal) w n fits of_goal = (goal_words P goal w of_goal.2, tt)
-third_words P (Turned t) (Some goal) w n fits of_goal = (goal_words P goal w of_goal.2, tt)
+opening_words : (P : Instance) (o : Opening) → IsWritable P → HasNames P → OpeningFits P o → AreWords (opening_fields P o)
+opening_words P Full w n fits = no_turn_words
+opening_words P (Turned t) w n fits = turn_words P (name_of P t.x) t.day w (n t.x fits.1).0 fits.0
+
+third_words : (P : Instance) (o : Opening) (goal : Option ℕ) (counts : Bool) → IsWritable P → HasNames P → OpeningFits P o → GoalFits P o goal → AreLines (third_fields P o goal counts)
+third_words P Full None false w n fits of_goal = tt
+third_words P (Turned t) None false w n fits of_goal = (turn_words P (name_of P t.x) t.day w (n t.x fits.1).0 fits.0, tt)
+third_words P o None true w n fits of_goal = (opening_words P o w n fits, tt)
+third_words P o (Some goal) counts w n fits of_goal = (goal_words P goal w of_goal.2, tt)
 
 pub log_words : (P : Instance) (g : Log) → IsWritable P → HasNames P → Fits P g → AreLines (log_fields P g)
 log_words P g w n h =
-    are_lines_append (header_fields P g.named g.opening g.goal) (lines_fields P g.goal g.lines)
-    (version_words (version_of g.opening g.goal), (rules_words P g.named w h.named, third_words P g.opening g.goal w n h.opening h.goal))
-    (lines_words P g.goal g.lines w n (each_fits P g.goal g.lines h.lines))
+    are_lines_append (header_fields P g.named g.opening g.goal g.counts) (lines_fields P g.goal g.lines)
+    (version_words (version_of g.opening g.goal g.counts), (rules_words P g.named w h.named, third_words P g.opening g.goal g.counts w n h.opening h.goal))
+    (lines_words P g.goal g.counts g.lines w n (each_fits P g.goal g.counts g.lines h.lines))
 
 -- lines are those of one list
-same_tree_line : (P : Instance) (goal : Option ℕ) (a b : Line) → IsWritable P → HasNames P → LineFits P goal a → LineFits P goal b → raw_fields P (raw P goal a) ≡ raw_fields P (raw P goal b) → a ≡ b
-same_tree_line P goal a b w n ha hb e =
-    let same = raw_same P goal (raw P goal a) (raw P goal b) w (spelled_raw P goal a n ha).0 (spelled_raw P goal b n hb).0 e in
-    let both : Some a ≡ Some b = sym (spelled_raw P goal a n ha).1 ∙ ap (line_of P) same ∙ (spelled_raw P goal b n hb).1 in
+same_tree_line : (P : Instance) (goal : Option ℕ) (counts : Bool) (a b : Line) → IsWritable P → HasNames P → LineFits P goal counts a → LineFits P goal counts b → raw_fields P (raw P goal a) ≡ raw_fields P (raw P goal b) → a ≡ b
+same_tree_line P goal counts a b w n ha hb e =
+    let same = raw_same P goal counts (raw P goal a) (raw P goal b) w (spelled_raw P goal counts a n ha).0 (spelled_raw P goal counts b n hb).0 e in
+    let both : Some a ≡ Some b = sym (spelled_raw P goal counts a n ha).1 ∙ ap (line_of P) same ∙ (spelled_raw P goal counts b n hb).1 in
     let whole : a ≡ b = cc in whole
 
 -- lines that continue where others end
-pub lines_longer : (P : Instance) (goal : Option ℕ) (a b : List Line) (zs : List Words) → IsWritable P → HasNames P → AllByRecursion (LineFits P goal) a → AllByRecursion (LineFits P goal) b → lines_fields P goal b ≡ lines_fields P goal a ++ zs → (more : List Line) × (b ≡ a ++ more) × (zs ≡ lines_fields P goal more)
-lines_longer P goal [] b zs w n ha hb e = (b, refl, sym e)
-lines_longer P goal (x ∷ a) [] zs w n ha hb e = absurd (cc)
-lines_longer P goal (x ∷ a) (y ∷ b) zs w n ha hb e =
+pub lines_longer : (P : Instance) (goal : Option ℕ) (counts : Bool) (a b : List Line) (zs : List Words) → IsWritable P → HasNames P → AllByRecursion (LineFits P goal counts) a → AllByRecursion (LineFits P goal counts) b → lines_fields P goal b ≡ lines_fields P goal a ++ zs → (more : List Line) × (b ≡ a ++ more) × (zs ≡ lines_fields P goal more)
+lines_longer P goal counts [] b zs w n ha hb e = (b, refl, sym e)
+lines_longer P goal counts (x ∷ a) [] zs w n ha hb e = absurd (cc)
+lines_longer P goal counts (x ∷ a) (y ∷ b) zs w n ha hb e =
     let first : raw_fields P (raw P goal y) ≡ raw_fields P (raw P goal x) = cc in
     let rest : lines_fields P goal b ≡ lines_fields P goal a ++ zs = cc in
-    let same : y ≡ x = same_tree_line P goal y x w n hb.0 ha.0 first in
-    let m = lines_longer P goal a b zs w n ha.1 hb.1 rest in
+    let same : y ≡ x = same_tree_line P goal counts y x w n hb.0 ha.0 first in
+    let m = lines_longer P goal counts a b zs w n ha.1 hb.1 rest in
     let more : b ≡ a ++ m.0 = m.1 in
     (m.0, (let whole : y ∷ b ≡ x ∷ a ++ m.0 = cc in whole), m.2)
 
@@ -112,3 +132,10 @@ turn_same P t u w n ht hu e =
     let both : Some t.x ≡ Some u.x = sym (n t.x ht.1).1 ∙ ap (symbol_of P) same.0 ∙ (n u.x hu.1).1 in
     let symbol : t.x ≡ u.x = cc in
     ap (λ d. record { day = d; x = t.x }) same.1 ∙ ap (λ x. record { day = u.day; x = x }) symbol
+
+-- the line of a turn or of none says one
+pub opening_same : (P : Instance) (o o' : Opening) → IsWritable P → HasNames P → OpeningFits P o → OpeningFits P o' → opening_fields P o ≡ opening_fields P o' → o ≡ o'
+opening_same P Full Full w n ho hp e = refl
+opening_same P Full (Turned u) w n ho hp e = absurd (cc)
+opening_same P (Turned t) Full w n ho hp e = absurd (cc)
+opening_same P (Turned t) (Turned u) w n ho hp e = ap Turned (turn_same P t u w n ho hp e)

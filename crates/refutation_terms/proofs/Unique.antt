@@ -1,5 +1,5 @@
 -- One verdict for a text.
-use Rattle.std.proofs.Common.{◌≡◌, ℕ, ◌+◌, ◌<◌, ◌≤◌, List, [], ◌∷◌, ◌++◌, length, take, refl, ap, sym, ◌∙◌, subst, append-nil, arith, inl, inr, ◌&&◌, Option, Some, None, pos, ℤ, length-append}
+use Rattle.std.proofs.Common.{◌≡◌, ℕ, ◌+◌, ◌<◌, ◌≤◌, List, [], ◌∷◌, ◌++◌, length, take, refl, ap, sym, ◌∙◌, subst, append-nil, arith, inl, inr, ◌&&◌, Bool, true, false, Option, Some, None, pos, ℤ, length-append}
 use Rattle.std.specs.Prelude.{slice_get, Ok, Err, ◌≤ℤ◌, ◌<ℤ◌}
 use Rattle.std.proofs.lemmas.Int.{ints}
 use Rattle.std.proofs.Math.Seq.{take-append_seam}
@@ -13,22 +13,23 @@ use Rattle.refutation_terms.specs.declared.lines.Version.{Version}
 use Rattle.refutation_terms.specs.declared.lines.LogKind.{LogKind}
 use Rattle.refutation_terms.specs.declared.lines.Line.{Line}
 use Rattle.refutation_terms.specs.declared.lines.Turn.{Turn}
-use Rattle.refutation_terms.specs.declared.lines.Opening.TheVariants.{Turned}
+use Rattle.refutation_terms.specs.declared.lines.Opening.{Opening}
+use Rattle.refutation_terms.specs.declared.lines.Opening.TheVariants.{Full, Turned}
 use Rattle.refutation_terms.specs.declared.lines.LogRefusal.{LogRefusal}
 use Rattle.refutation_terms.specs.declared.lines.LogRefusal.TheVariants as Refusals
 use Rattle.refutation_terms.specs.Word.{Domains}
 use Rattle.refutation_terms.specs.Ranges.{AreRules}
 use Rattle.refutation_terms.specs.Tree.{IsTree, after_trees, domains_at, opening, lines_leave, lines_in}
 use Rattle.refutation_terms.specs.Log.{Log, LineFits, OpeningFits, GoalFits, Holds, Cites, OpeningCites, IsAllowed, ListsShortOnly, IsGrounded, Passes}
-use Rattle.refutation_terms.specs.LogText.{raw, line_text, version_text, rules_text, turn_text, goal_text}
+use Rattle.refutation_terms.specs.LogText.{raw, line_text, version_text, rules_text, turn_text, no_turn_text, opening_text, goal_text}
 use Rattle.refutation_terms.specs.Verdict.{kind_of, Front, Start, Versioned, BeforeTurn, BeforeGoal, Reading, HasNoCause, IsSoundSoFar, header_lines, TreeCause, CauseBehind, Cause, VersionCause, GoalCause, RulesCause, IsRefused, IsAccepted}
 use Rattle.refutation_terms.specs.TextLaws.{IsWritable, HasNames, VerdictIsUnique}
 use Rattle.refutation_terms.proofs.Spelled.{fitting_lines_are_spelled}
 use Rattle.refutation_terms.proofs.Spent.{open_holds_not}
 use Rattle.refutation_terms.proofs.Trees.{part_is_not_whole, tree_is_whole}
-use Rattle.refutation_terms.proofs.Fronts.{texts_distinct, front_fields, fronts}
+use Rattle.refutation_terms.proofs.Fronts.{HasTurnLine, texts_distinct, front_fields, fronts}
 use Rattle.refutation_terms.proofs.OneRefusal.{IsAtEndOrLine, refusals_same, whole_has_none}
-use Rattle.refutation_terms.proofs.Causes.{spells_same, not_unknown, long_not_short, idle_not_holding, escaped_not_holding, Reason, OfName, OfIdle, OfLong, OfFail, OfEscape, OfOpen, Level, Nothing, Unknown, Known, level_of, tree_cause_same, version_cause, goal_cause, rules_cause, extra_cause, turns_same, TurnReason, NoTurn, NoName, NoDay, NoDemand, turn_reason, turn_cause_same}
+use Rattle.refutation_terms.proofs.Causes.{spells_same, not_unknown, long_not_short, idle_not_holding, escaped_not_holding, Reason, OfName, OfIdle, OfLong, OfFail, OfEscape, OfOpen, Level, Nothing, Unknown, Known, level_of, tree_cause_same, version_cause, goal_cause, rules_cause, extra_cause, turns_same, no_turn_spelled, no_turn_no_name, TurnReason, NoTurn, NoName, NoDay, NoDemand, turn_reason, turn_cause_same}
 
 -- a line of a log without a cause has none
 no_reason : (P : Instance) (goal : Option ℕ) (named : List ℕ) (D : Domains) (n : ℕ) (line : Line) (why : LogRefusal) → Holds P goal D line → ((r : Rule) → Cites P line r → Names P named r) → ListsShortOnly P line → Reason P goal named D n line why → ⊥
@@ -39,11 +40,11 @@ no_reason P goal named D n line why holds all short (OfFail all' plain not e) = 
 no_reason P goal named D n line why holds all short (OfEscape all' short' u a e) = escaped_not_holding P goal D line u a holds
 no_reason P goal named D n line why holds all short (OfOpen o e) = open_holds_not P goal D (subst (Holds P goal D) o holds)
 
-no_level : (P : Instance) (goal : Option ℕ) (named : List ℕ) (D : Domains) (n : ℕ) (line : Line) (why : LogRefusal) → IsWritable P → HasNames P → LineFits P goal line → Holds P goal D line → ((r : Rule) → Cites P line r → Names P named r) → ListsShortOnly P line → Level P goal named D n (line_text P (raw P goal line)) why → ⊥
-no_level P goal named D n line why w m fits holds all short (Nothing a e) = let s = fitting_lines_are_spelled P goal line m fits in a s.0 s.1
-no_level P goal named D n line why w m fits holds all short (Unknown a e) = not_unknown P goal (line_text P (raw P goal line)) line w (fitting_lines_are_spelled P goal line m fits) a
-no_level P goal named D n line why w m fits holds all short (Known other a q) =
-    no_reason P goal named D n line why holds all short (subst (λ l. Reason P goal named D n l why) (spells_same P goal (line_text P (raw P goal line)) other line w m a (fitting_lines_are_spelled P goal line m fits)) q)
+no_level : (P : Instance) (goal : Option ℕ) (counts : Bool) (named : List ℕ) (D : Domains) (n : ℕ) (line : Line) (why : LogRefusal) → IsWritable P → HasNames P → LineFits P goal counts line → Holds P goal D line → ((r : Rule) → Cites P line r → Names P named r) → ListsShortOnly P line → Level P goal counts named D n (line_text P (raw P goal line)) why → ⊥
+no_level P goal counts named D n line why w m fits holds all short (Nothing a e) = let s = fitting_lines_are_spelled P goal counts line m fits in a s.0 s.1
+no_level P goal counts named D n line why w m fits holds all short (Unknown a e) = not_unknown P goal counts (line_text P (raw P goal line)) line w (fitting_lines_are_spelled P goal counts line m fits) a
+no_level P goal counts named D n line why w m fits holds all short (Known other a q) =
+    no_reason P goal named D n line why holds all short (subst (λ l. Reason P goal named D n l why) (spells_same P goal counts (line_text P (raw P goal line)) other line w m a (fitting_lines_are_spelled P goal counts line m fits)) q)
 
 pub got_seam : (xs ys : List Line) (line : Line) → slice_get (xs ++ line ∷ ys) (length xs) ≡ Some line
 got_seam [] ys line = refl
@@ -53,7 +54,7 @@ take_all : (xs : List Line) → take (length xs) xs ≡ xs
 take_all xs = ap (take (length xs)) (sym (append-nil xs)) ∙ take-append_seam xs []
 
 -- a line of a log that is sound so far is refused for no cause behind the lines before it
-tree_line_fine : (P : Instance) (f : Log) (line : Line) (more : List Line) (n : ℕ) (why : LogRefusal) → IsWritable P → HasNames P → IsSoundSoFar P (record { named = f.named; opening = f.opening; goal = f.goal; lines = f.lines ++ line ∷ more }) → TreeCause P f.goal f.named (domains_at P f.opening f.lines (length f.lines)) n (line_text P (raw P f.goal line)) why → ⊥
+tree_line_fine : (P : Instance) (f : Log) (line : Line) (more : List Line) (n : ℕ) (why : LogRefusal) → IsWritable P → HasNames P → IsSoundSoFar P (record { named = f.named; opening = f.opening; goal = f.goal; counts = f.counts; lines = f.lines ++ line ∷ more }) → TreeCause P f.goal f.counts f.named (domains_at P f.opening f.lines (length f.lines)) n (line_text P (raw P f.goal line)) why → ⊥
 tree_line_fine P f line more n why w m h c =
     let k = length f.lines in
     let here = got_seam f.lines more line in
@@ -61,18 +62,18 @@ tree_line_fine P f line more n why w m h c =
     let before : take (length f.lines) (f.lines ++ line ∷ more) ≡ take (length f.lines) f.lines = take-append_seam f.lines (line ∷ more) ∙ sym (take_all f.lines) in
     let holds : Holds P f.goal (domains_at P f.opening f.lines (length f.lines)) line =
     subst (λ ls. Holds P f.goal (λ p z. opening P f.opening p z && lines_leave ls p z) line) before (h.holds k line here) in
-    no_level P f.goal f.named D n line why w m (h.grounded.fits.lines k line here) holds (λ r cites. h.grounded.named k line r here cites) (h.grounded.short k line here) (level_of P f.goal f.named D n (line_text P (raw P f.goal line)) why c)
+    no_level P f.goal f.counts f.named D n line why w m (h.grounded.fits.lines k line here) holds (λ r cites. h.grounded.named k line r here cites) (h.grounded.short k line here) (level_of P f.goal f.counts f.named D n (line_text P (raw P f.goal line)) why c)
 
 -- and the lines before it aren't a whole tree
-tree_not_before : (P : Instance) (f : Log) (line : Line) (more : List Line) → IsSoundSoFar P (record { named = f.named; opening = f.opening; goal = f.goal; lines = f.lines ++ line ∷ more }) → IsTree f.lines → ⊥
+tree_not_before : (P : Instance) (f : Log) (line : Line) (more : List Line) → IsSoundSoFar P (record { named = f.named; opening = f.opening; goal = f.goal; counts = f.counts; lines = f.lines ++ line ∷ more }) → IsTree f.lines → ⊥
 tree_not_before P f line more h t =
     let short : length f.lines < length (f.lines ++ line ∷ more) = omega (arith, length-append f.lines (line ∷ more)) in
     h.in_tree (length f.lines) short (subst IsTree (sym (take-append_seam f.lines (line ∷ more))) t)
 
 -- the next line of a longer log without a cause has none
-pub next_line_fine : (P : Instance) (f : Log) (line : Line) (more : List Line) (why : LogRefusal) → IsWritable P → HasNames P → IsSoundSoFar P (record { named = f.named; opening = f.opening; goal = f.goal; lines = f.lines ++ line ∷ more }) → CauseBehind P f (line_text P (raw P f.goal line)) why → ⊥
+pub next_line_fine : (P : Instance) (f : Log) (line : Line) (more : List Line) (why : LogRefusal) → IsWritable P → HasNames P → IsSoundSoFar P (record { named = f.named; opening = f.opening; goal = f.goal; counts = f.counts; lines = f.lines ++ line ∷ more }) → CauseBehind P f (line_text P (raw P f.goal line)) why → ⊥
 next_line_fine P f line more why w n h (inl c) = tree_not_before P f line more h c.0
-next_line_fine P f line more why w n h (inr c) = tree_line_fine P f line more (header_lines f.opening f.goal + length f.lines + 1) why w n h c.1
+next_line_fine P f line more why w n h (inr c) = tree_line_fine P f line more (header_lines f.opening f.goal f.counts + length f.lines + 1) why w n h c.1
 
 pub version_refutes : (kind : LogKind) (v : Version) (why : LogRefusal) → kind_of v ≡ kind → VersionCause kind (version_text v) why → ⊥
 version_refutes kind v why of h = (subst (VersionCause kind (version_text v)) (version_cause kind (version_text v) why h) h).1 v of refl
@@ -88,24 +89,39 @@ same_demand P x y day day' a b low high =
     demanded_not (least P y.number day') (subst (λ d. pos 1 ≤ℤ least P y.number d) b (subst (λ (z : Symbol). pos 1 ≤ℤ least P z.number day) a low)) high
 
 -- the turn of a log without a cause has none
-no_turn_reason : (P : Instance) (named : List ℕ) (t : Turn) (bytes : List ℕ) (why : LogRefusal) → IsWritable P → HasNames P → OpeningFits P (Turned t) → IsAllowed P (Turned t) → Names P named (TheRules.Day t.day) → bytes ≡ turn_text (name_of P t.x) t.day → TurnReason P named bytes why → ⊥
-no_turn_reason P named t bytes why w n fits allowed is_named spelled (NoTurn a e) = a (name_of P t.x) t.day ((n t.x fits.1).0, fits.0, spelled)
-no_turn_reason P named t bytes why w n fits allowed is_named spelled (NoName name day a s e) =
+no_turn_reason : (P : Instance) (counts : Bool) (named : List ℕ) (t : Turn) (bytes : List ℕ) (why : LogRefusal) → IsWritable P → HasNames P → OpeningFits P (Turned t) → IsAllowed P (Turned t) → Names P named (TheRules.Day t.day) → bytes ≡ turn_text (name_of P t.x) t.day → TurnReason P counts named bytes why → ⊥
+no_turn_reason P counts named t bytes why w n fits allowed is_named spelled (NoTurn a e) = no_turn_spelled P counts bytes a (name_of P t.x) t.day ((n t.x fits.1).0, fits.0, spelled)
+no_turn_reason P counts named t bytes why w n fits allowed is_named spelled (NoName name day a s e) =
     let same = turns_same P bytes name (name_of P t.x) day t.day w a ((n t.x fits.1).0, fits.0, spelled) in
     let clash : None ≡ Some t.x = sym s ∙ ap (symbol_of P) same.0 ∙ (n t.x fits.1).1 in cc
-no_turn_reason P named t bytes why w n fits allowed is_named spelled (NoDay name day x k a s l e) =
+no_turn_reason P counts named t bytes why w n fits allowed is_named spelled (NoDay name day x k a s l e) =
     let same = turns_same P bytes name (name_of P t.x) day t.day w a ((n t.x fits.1).0, fits.0, spelled) in
     l.0.3 (subst (Names P named) (ap TheRules.Day (sym same.1) ∙ sym l.0.2) is_named)
-no_turn_reason P named t bytes why w n fits allowed is_named spelled (NoDemand name day x a s d l e) =
+no_turn_reason P counts named t bytes why w n fits allowed is_named spelled (NoDemand name day x a s d l e) =
     let same = turns_same P bytes name (name_of P t.x) day t.day w a ((n t.x fits.1).0, fits.0, spelled) in
     let both : Some t.x ≡ Some x = sym (n t.x fits.1).1 ∙ ap (symbol_of P) (sym same.0) ∙ s in
     let symbol : t.x ≡ x = cc in
     same_demand P t.x x t.day day symbol (sym same.1) allowed l
 
-turn_is_fine : (P : Instance) (g : Log) (t : Turn) (bytes : List ℕ) (why : LogRefusal) → IsWritable P → HasNames P → IsGrounded P g → g.opening ≡ Turned t → bytes ≡ turn_text (name_of P t.x) t.day → TurnReason P g.named bytes why → ⊥
-turn_is_fine P g t bytes why w n h is_turn spelled q =
-    no_turn_reason P g.named t bytes why w n (subst (OpeningFits P) is_turn h.fits.opening) (subst (IsAllowed P) is_turn h.allowed)
-    (h.turn_named (TheRules.Day t.day) (subst (λ o. OpeningCites o (TheRules.Day t.day)) (sym is_turn) refl)) spelled q
+turn_is_fine : (P : Instance) (g : Log) (t : Turn) (why : LogRefusal) → IsWritable P → HasNames P → IsGrounded P g → g.opening ≡ Turned t → TurnReason P g.counts g.named (opening_text P (Turned t)) why → ⊥
+turn_is_fine P g t why w n h is_turn q =
+    no_turn_reason P g.counts g.named t (opening_text P (Turned t)) why w n (subst (OpeningFits P) is_turn h.fits.opening) (subst (IsAllowed P) is_turn h.allowed)
+    (h.turn_named (TheRules.Day t.day) (subst (λ o. OpeningCites o (TheRules.Day t.day)) (sym is_turn) refl)) refl q
+
+-- nor has a log that counts and says that it has no turn
+no_turn_is_fine : (P : Instance) (named : List ℕ) (why : LogRefusal) → IsWritable P → TurnReason P true named no_turn_text why → ⊥
+no_turn_is_fine P named why w (NoTurn a e) = a.1 refl
+no_turn_is_fine P named why w (NoName name day a s e) = no_turn_no_name P name day w a
+no_turn_is_fine P named why w (NoDay name day x k a s l e) = no_turn_no_name P name day w a
+no_turn_is_fine P named why w (NoDemand name day x a s d l e) = no_turn_no_name P name day w a
+
+opening_is_fine : (P : Instance) (g : Log) (o : Opening) (why : LogRefusal) → IsWritable P → HasNames P → IsGrounded P g → g.opening ≡ o → HasTurnLine o g.counts → TurnReason P g.counts g.named (opening_text P o) why → ⊥
+opening_is_fine P g (Turned t) why w n h is has_line q = turn_is_fine P g t why w n h is q
+opening_is_fine P g Full why w n h is has_line q = untold g.counts has_line q
+  where
+    untold : (counts : Bool) → HasTurnLine Full counts → TurnReason P counts g.named no_turn_text why → ⊥
+    untold false none r = none
+    untold true some r = no_turn_is_fine P g.named why w r
 
 -- nor has the goal of one
 pub goal_refutes : (P : Instance) (goal : ℕ) (why : LogRefusal) → goal ≤ P.weeks + 1 → GoalCause P (goal_text goal) why → ⊥
@@ -114,26 +130,26 @@ goal_refutes P goal why few h = (subst (GoalCause P (goal_text goal)) (goal_caus
 -- one cause for the line behind a header and lines
 pub cause_behind_same : (P : Instance) (g : Log) (line : List ℕ) (why other : LogRefusal) → IsWritable P → HasNames P → CauseBehind P g line why → CauseBehind P g line other → why ≡ other
 cause_behind_same P g line why other w n (inl a) (inl b) =
-    let k = header_lines g.opening g.goal + length g.lines + 1 in extra_cause k why a.1 ∙ sym (extra_cause k other b.1)
+    let k = header_lines g.opening g.goal g.counts + length g.lines + 1 in extra_cause k why a.1 ∙ sym (extra_cause k other b.1)
 cause_behind_same P g line why other w n (inl a) (inr b) = absurd (b.0 a.0)
 cause_behind_same P g line why other w n (inr a) (inl b) = absurd (a.0 b.0)
 cause_behind_same P g line why other w n (inr a) (inr b) =
-    tree_cause_same P g.goal g.named (domains_at P g.opening g.lines (length g.lines)) (header_lines g.opening g.goal + length g.lines + 1) line why other w n a.1 b.1
+    tree_cause_same P g.goal g.counts g.named (domains_at P g.opening g.lines (length g.lines)) (header_lines g.opening g.goal g.counts + length g.lines + 1) line why other w n a.1 b.1
 
 -- one cause for the line behind a front
 pub cause_same : (P : Instance) (kind : LogKind) (F : Front) (line : List ℕ) (why other : LogRefusal) → IsWritable P → HasNames P → Cause P kind F line why → Cause P kind F line other → why ≡ other
 cause_same P kind Start line why other w n a b = version_cause kind line why a ∙ sym (version_cause kind line other b)
 cause_same P kind (Versioned v) line why other w n a b = rules_cause P line why a ∙ sym (rules_cause P line other b)
-cause_same P kind (BeforeTurn R) line why other w n a b = turn_cause_same P R line why other w a b
-cause_same P kind (BeforeGoal R) line why other w n a b = goal_cause P line why a ∙ sym (goal_cause P line other b)
+cause_same P kind (BeforeTurn counts R) line why other w n a b = turn_cause_same P counts R line why other w a b
+cause_same P kind (BeforeGoal counts R) line why other w n a b = goal_cause P line why a ∙ sym (goal_cause P line other b)
 cause_same P kind (Reading g) line why other w n a b = cause_behind_same P g line why other w n a b
 
 sound_fronts : (P : Instance) (kind : LogKind) → IsWritable P → HasNames P → AreFronts (front_fields P) (HasNoCause P kind) (Cause P kind)
 sound_fronts P kind w n =
-    fronts P w n kind (HasNoCause P kind) (λ F h. h.0) (λ R h. h.1) (λ R h. h.1) (λ g h. h.1.grounded.fits) (Cause P kind)
+    fronts P w n kind (HasNoCause P kind) (λ F h. h.0) (λ c R h. h.1) (λ c R h. h.1) (λ g h. h.1.grounded.fits) (Cause P kind)
     (λ v why of c. version_refutes kind v why of c)
     (λ v R why are c. rules_refutes P R why are c)
-    (λ g t why h is_turn c. turn_is_fine P g t (turn_text (name_of P t.x) t.day) why w n h.1.grounded is_turn refl (turn_reason P g.named (turn_text (name_of P t.x) t.day) why c))
+    (λ g why h has_line c. opening_is_fine P g g.opening why w n h.1.grounded refl has_line (turn_reason P g.counts g.named (opening_text P g.opening) why c))
     (λ g goal why h is_goal c. let fits : GoalFits P g.opening (Some goal) = subst (GoalFits P g.opening) is_goal h.1.grounded.fits.goal in goal_refutes P goal why fits.2 c)
     (λ f line more why h c. next_line_fine P f line more why w n h.1 c)
     (λ F line why other a b. cause_same P kind F line why other w n a b)

@@ -243,7 +243,7 @@ CauseBehind P g bytes why =
     let n = header_lines g.opening g.goal g.counts + length g.lines + 1 in
     (IsTree g.lines × ExtraCause n why)
     ⊎ ((IsTree g.lines → ⊥)
-        × TreeCause P g.goal g.counts g.named (domains_at P g.opening g.lines (length g.lines)) n bytes why)
+    × TreeCause P g.goal g.counts g.named (domains_at P g.opening g.lines (length g.lines)) n bytes why)
 
 -- why the line behind the front of a log of this kind is refused
 abbrev pub Cause : Instance → LogKind → Front → List ℕ → LogRefusal → Type 0
