@@ -13,7 +13,7 @@ use Rattle.refutation_terms.specs.Tree.{IsTree, domains_at}
 use Rattle.refutation_terms.specs.Log.{Holds, LineFits, GoalFits}
 use Rattle.refutation_terms.specs.Verdict.{Spells, TreeCause, SplitsIdly, CauseBehind, header_lines}
 use Rattle.refutation_terms.proofs.SameDomains.{turned_round, same_idle, same_holds, same_escapes}
-use Rattle.refutation_terms.proofs.Spelled.{spelled_lines_fit}
+use Rattle.refutation_terms.proofs.LineTables.{spelled_lines_fit}
 use Rattle.domain_store.specs.Store.{Store, BelongsTo, has_domain, IsStore, HasDomains}
 use Rattle.domain_store.specs.States.{State, IsStateOf}
 use Rattle.domain_store.proofs.Idle.{idle_in_store}

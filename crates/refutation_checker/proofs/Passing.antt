@@ -26,7 +26,7 @@ use Rattle.refutation_terms.specs.Log.{Log, Fits, LineFits, OpeningFits, Opening
 use Rattle.refutation_terms.specs.Ranges.{AreRules}
 use Rattle.refutation_terms.specs.LogText.{raw, line_text, log_text, header_text, turn_text, raw_fields, lines_text}
 use Rattle.refutation_terms.specs.Verdict.{kind_by, BeforeTurn, IsRefused, TurnCause, header_lines}
-use Rattle.refutation_terms.proofs.Spelled.{fitting_lines_are_spelled}
+use Rattle.refutation_terms.proofs.LineTables.{fitting_lines_are_spelled}
 use Rattle.refutation_terms.proofs.Trees.{part_is_not_whole, tree_is_whole}
 use Rattle.refutation_log.proofs.HeaderTexts.{turn_visible}
 use Rattle.refutation_log.proofs.LineTexts.{small_from}

@@ -25,7 +25,7 @@ use Rattle.refutation_terms.specs.Ranges.{AreRules}
 use Rattle.refutation_terms.specs.LogText.{RawLine, IsWritten, line_of, raw, line_text, version_text, rules_text, turn_text, goal_text, lines_text}
 use Rattle.rwsp_text.specs.Lines.{IsNextLine}
 use Rattle.refutation_terms.specs.Verdict.{kind_of, Start, Versioned, BeforeTurn, BeforeGoal, header_lines, TurnCause, CauseBehind, Spells, SpellsTurn, IsUnnamed, IsVerdict}
-use Rattle.refutation_terms.proofs.Spelled.{spelled_lines_fit, symbol_of-name}
+use Rattle.refutation_terms.proofs.LineTables.{spelled_lines_fit, symbol_of-name}
 use Rattle.refutation_log.specs.Headers.{BeginsWithHeader}
 use Rattle.refutation_log.specs.ReadLog.{HasLogsOf}
 use Rattle.refutation_checker.specs.Turns.{IsSoundTurn}

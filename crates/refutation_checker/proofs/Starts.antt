@@ -19,7 +19,7 @@ use Rattle.refutation_log.specs.declared.refusal.LineRefusal.{LineRefusal}
 use Rattle.refutation_log.specs.declared.refusal.LineRefusal.TheVariants.{Form, Name}
 use Rattle.refutation_log.proofs.LogLines.{some_bytes}
 use Rattle.refutation_log.proofs.OneText.{has_names, one_list, is_writable}
-use Rattle.refutation_terms.proofs.Spelled.{fitting_lines_are_spelled, spelled_lines_fit}
+use Rattle.refutation_terms.proofs.LineTables.{fitting_lines_are_spelled, spelled_lines_fit}
 use Rattle.domain_store.specs.Splits.{IsFirstSide}
 use Rattle.domain_store.specs.States.{State, IsStateOf}
 use Rattle.domain_store.proofs.Moves.{leaf_is_tree}

@@ -14,7 +14,7 @@ use Rattle.refutation_terms.specs.Ranges.{AreRules}
 use Rattle.refutation_terms.specs.Log.{OpeningFits, GoalFits}
 use Rattle.refutation_terms.specs.LogText.{version_text, rules_text, goal_text, turn_text}
 use Rattle.refutation_terms.specs.Verdict.{kind_of, kind_by, Front, Start, Versioned, BeforeTurn, BeforeGoal, front_text, HasNoCause, IsWhole, VersionCause, RulesCause, GoalCause, TurnsTo}
-use Rattle.refutation_terms.proofs.Spelled.{symbol_of-name}
+use Rattle.refutation_terms.proofs.LineTables.{symbol_of-name}
 use Rattle.refutation_log.specs.Refusals.{SpellsVersion}
 use Rattle.refutation_log.specs.ReadLog.{IsRead, ReadCause, HasLogsOf}
 use Rattle.refutation_log.specs.Headers.{GoalIsInRange, BeginsWithHeader, IsHeaderRefused, StopsFor, TurnReadCause, StopsAtThird, IsThird}

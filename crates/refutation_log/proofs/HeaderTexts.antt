@@ -10,7 +10,7 @@ use Rattle.rwsp_text.proofs.KindLaws.{line_found, line_only, lines_are_words, on
 use Rattle.rwsp_text.proofs.LineLaws.{text_words, words_text}
 use Rattle.rwsp_terms.specs.Instance.{Instance, IsDay}
 use Rattle.rwsp_model.specs.Validity.{KeepsLimits}
-use Rattle.refutation_terms.specs.LineKinds.{rules_kind, rules_kinds, turn_kind, turn_kinds, goal_kind, goal_kinds}
+use Rattle.refutation_terms.specs.LogText.{rules_kind, rules_kinds, turn_kind, turn_kinds, goal_kind, goal_kinds}
 use Rattle.refutation_terms.specs.Verdict.{SpellsTurn}
 use Rattle.refutation_terms.specs.TextLaws.{IsWritable}
 use Rattle.refutation_terms.proofs.LineTables.{rules_fields, turn_fields, rules_line, turn_line, rules_found, turn_found as turn_line_found, rules_readable, turn_readable, turn_words, goal_fields, goal_line, goal_readable}

@@ -21,7 +21,7 @@ use Rattle.refutation_terms.specs.LogText.{raw, line_text, lines_text, log_text,
 use Rattle.rwsp_text.specs.Lines.{IsNextLine}
 use Rattle.refutation_terms.specs.Verdict.{kind_by, Spells, Reading, header_lines, IsRefusedBehindFront}
 use Rattle.refutation_terms.proofs.Trees.{tree_is_whole, whole_is_tree}
-use Rattle.refutation_terms.proofs.Spelled.{spelled_lines_fit}
+use Rattle.refutation_terms.proofs.LineTables.{spelled_lines_fit}
 use Rattle.refutation_log.specs.Printing.{EachFits}
 use Rattle.refutation_log.specs.ReadLog.{IsReadSoFar, IsRead, ReadCause, IsUnread, IsReadAs, AreReadLines, IsTreeLineRefused, open_after, log_with}
 use Rattle.refutation_log.proofs.PrintedTexts.{line_piece, joined_lines}

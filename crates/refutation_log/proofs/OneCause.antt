@@ -15,7 +15,7 @@ use Rattle.refutation_terms.specs.Tree.{IsTree, after_trees, lines_in, domains_a
 use Rattle.refutation_terms.specs.Log.{Log, Fits, LineFits, OpeningFits, GoalFits}
 use Rattle.refutation_terms.specs.LogText.{raw, line_text, log_text, turn_text}
 use Rattle.refutation_terms.specs.Verdict.{kind_by, Reading, header_lines}
-use Rattle.refutation_terms.proofs.Spelled.{fitting_lines_are_spelled}
+use Rattle.refutation_terms.proofs.LineTables.{fitting_lines_are_spelled}
 use Rattle.refutation_terms.proofs.Trees.{tree_is_whole, part_is_not_whole}
 use Rattle.refutation_terms.proofs.Fronts.{front_fields, fronts}
 use Rattle.refutation_terms.proofs.Causes.{not_unknown, Reason, OfName, OfIdle, OfLong, OfFail, OfEscape, OfOpen, Level, Nothing, Unknown, Known, level_of, turns_same, TurnReason, NoTurn, NoName, NoDay, NoDemand, turn_reason}

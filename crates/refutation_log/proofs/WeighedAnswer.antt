@@ -9,9 +9,8 @@ use Rattle.rwsp_model.specs.declared.fail.Fail.TheVariants.{Refused, Memory}
 use Rattle.refutation_terms.specs.declared.lines.Line.TheVariants.{Closing}
 use Rattle.refutation_terms.specs.declared.lines.Leaf.TheVariants.{Words}
 use Rattle.refutation_terms.specs.declared.lines.WordClaim.TheVariants.{Light}
-use Rattle.refutation_terms.specs.LogText.{RawLine, RawBound, RawFree, weights_of, line_of}
+use Rattle.refutation_terms.specs.LogText.{RawLine, RawBound, RawFree, weights_of, line_of, most_turns}
 use Rattle.rwsp_text.specs.Fields.{NamedWeight, word_at}
-use Rattle.refutation_terms.specs.LineKinds.{most_turns}
 use Rattle.refutation_log.specs.declared.refusal.LineRefusal.{LineRefusal}
 use Rattle.refutation_log.specs.declared.refusal.LineRefusal.TheVariants.{Form, Name}
 use Rattle.refutation_log.specs.declared.gather.Gathered.{Gathered}

@@ -3,14 +3,13 @@ ghost use Rattle.std.specs.Prelude.{◌≡◌, ◌≢◌, ◌<◌, ◌≤◌, �
 ghost use Rattle.std.specs.List.Sorted.{IsStrictlyIncreasing};
 ghost use Rattle.rwsp_terms.specs.Rules.{rules};
 ghost use Rattle.rwsp_model.specs.Refusals.{MatchAnswer};
-ghost use Rattle.refutation_terms.specs.LogText.{RawSplit, RawWindow, RawDay};
+ghost use Rattle.refutation_terms.specs.LogText.{RawSplit, RawWindow, RawDay, most_turns};
 ghost use Rattle.refutation_terms.specs.Verdict.{Spells};
 ghost use Rattle.rwsp_text.specs.Lines.{words_of};
 ghost use Rattle.refutation_log.specs.Refusals.{IsLineRefused};
 ghost use Rattle.rwsp_text.specs.Fields.{IsValue};
 ghost use Rattle.rwsp_text.specs.Reads.{Reads};
 ghost use Rattle.rwsp_terms.specs.declared.limits.TheConstants.{GREATEST_WEIGHT};
-ghost use Rattle.refutation_terms.specs.LineKinds.{most_turns};
 ghost use Rattle.refutation_log.specs.Reading.{split_at, window_at, day_at, head_at, rules_in, dead_at, named_weight_at, all_weights_at, weighed_at, bound_at, free_head_at, free_at, without_goal_at, with_goal_at, raw_at, Answers, AnswersWeighed, light_line};
 ghost use Rattle.refutation_log.specs.Gathering.{GivesAll, IsWeighed};
 

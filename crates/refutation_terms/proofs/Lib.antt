@@ -22,7 +22,6 @@ pub mod Spent
 pub mod ExampleSharp
 pub mod ExampleSplit
 pub mod ExampleBlunt
-pub mod Spelled
 pub mod LineTables
 pub mod Texts
 pub mod Fronts

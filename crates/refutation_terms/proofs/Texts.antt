@@ -16,8 +16,7 @@ use Rattle.refutation_terms.specs.Log.{Log, Fits, LineFits, OpeningFits, GoalFit
 use Rattle.refutation_terms.specs.LogText.{raw, raw_fields, line_text, version_text, rules_text, turn_text, no_turn_text, opening_text, goal_text, header_text, lines_text, log_text, line_of}
 use Rattle.refutation_terms.specs.Verdict.{goal_version}
 use Rattle.refutation_terms.specs.TextLaws.{IsWritable, HasNames}
-use Rattle.refutation_terms.proofs.Spelled.{spelled_raw}
-use Rattle.refutation_terms.proofs.LineTables.{version_fields, rules_fields, turn_fields, no_turn_fields, goal_fields, version_words, rules_words, turn_words, no_turn_words, goal_words, raw_words, raw_same, turn_same as names_same}
+use Rattle.refutation_terms.proofs.LineTables.{spelled_raw, version_fields, rules_fields, turn_fields, no_turn_fields, goal_fields, version_words, rules_words, turn_words, no_turn_words, goal_words, raw_words, raw_same, turn_same as names_same}
 
 -- the version of a log with this opening and this goal or none, which may count or not
 abbrev pub version_of : Opening → Option ℕ → Bool → Version

@@ -24,7 +24,7 @@ use Rattle.refutation_terms.specs.Log.{Log, LineFits, OpeningFits, GoalFits, Hol
 use Rattle.refutation_terms.specs.LogText.{raw, line_text, version_text, rules_text, turn_text, no_turn_text, opening_text, goal_text}
 use Rattle.refutation_terms.specs.Verdict.{kind_of, Front, Start, Versioned, BeforeTurn, BeforeGoal, Reading, HasNoCause, IsSoundSoFar, header_lines, TreeCause, CauseBehind, Cause, VersionCause, GoalCause, RulesCause, IsRefused, IsAccepted}
 use Rattle.refutation_terms.specs.TextLaws.{IsWritable, HasNames, VerdictIsUnique}
-use Rattle.refutation_terms.proofs.Spelled.{fitting_lines_are_spelled}
+use Rattle.refutation_terms.proofs.LineTables.{fitting_lines_are_spelled}
 use Rattle.refutation_terms.proofs.Spent.{open_holds_not}
 use Rattle.refutation_terms.proofs.Trees.{part_is_not_whole, tree_is_whole}
 use Rattle.refutation_terms.proofs.Fronts.{HasTurnLine, texts_distinct, front_fields, fronts}

@@ -13,7 +13,6 @@ pub mod Log
 pub mod Sharp
 pub mod Strip
 pub mod LogText
-pub mod LineKinds
 pub mod Verdict
 pub mod TextLaws
 pub mod Laws

@@ -1,7 +1,7 @@
 use Rattle.std.proofs.Common.{subst, sym, ◌∙◌}
 use Rattle.std.proofs.lemmas.Bool.{false≢true}
 use Rattle.refutation_terms.specs.Verdict.{Spells}
-use Rattle.refutation_terms.proofs.Spelled.{spelled_lines_fit}
+use Rattle.refutation_terms.proofs.LineTables.{spelled_lines_fit}
 use Rattle.refutation_checker.specs.LineTexts.{Judging}
 use Rattle.refutation_checker.proofs.Judging.{read_next, refused_next}
 use Rattle.refutation_checker.proofs.judge.Judge.read.Goals as goal
