@@ -30,14 +30,14 @@ abbrev pub plan_form : Form Command
 plan_form = record {
   word = codes "plan";
   fields = problem_file ∷ budget USUAL_BUDGET GREATEST_BUDGET ∷ [];
-  make = λ v. OnProblem v.0 (Plan v.1.0);
+  make = λ v. OnProblem v.0 (Plan v.1.0.0 v.1.0.1);
 }
 
 abbrev pub check_form : Form Command
 check_form = record {
   word = codes "check";
   fields = problem_file ∷ File (codes "LOG") ∷ Setting (codes "--workers") (codes "N") USUAL_WORKERS MOST_WORKERS ∷ [];
-  make = λ v. OnFiles v.0 v.1.0 (Check v.1.1.0);
+  make = λ v. OnFiles v.0 v.1.0 (Check v.1.1.0.0);
 }
 
 -- a form of two files and nothing else
@@ -59,7 +59,7 @@ abbrev pub best_form : Form Command
 best_form = record {
   word = codes "best";
   fields = problem_file ∷ budget USUAL_BEST_BUDGET GREATEST_BUDGET ∷ [];
-  make = λ v. OnProblem v.0 (Best v.1.0);
+  make = λ v. OnProblem v.0 (Best v.1.0.0 v.1.0.1);
 }
 
 abbrev pub staff_form : Form Command
@@ -68,7 +68,7 @@ staff_form = record {
   fields =
       problem_file ∷ Range (codes "LOW") (codes "HIGH") MOST_WEEKS MOST_SIZES
       ∷ budget USUAL_STAFF_BUDGET GREATEST_STAFF_BUDGET ∷ [];
-  make = λ v. OnProblem v.0 (Staff v.1.0.0 v.1.0.1 v.1.1.0);
+  make = λ v. OnProblem v.0 (Staff v.1.0.0 v.1.0.1 v.1.1.0.0 v.1.1.0.1);
 }
 
 abbrev pub crew_form : Form Command
@@ -157,10 +157,10 @@ IsUpTo limit n = (1 ≤ n) × (n ≤ limit)
 -- the numbers of a task on a problem are in their ranges
 abbrev pub IsProblemTaskInRange : ProblemTask → Type 0
 IsProblemTaskInRange Show = Unit {0}
-IsProblemTaskInRange (Plan budget) = IsUpTo GREATEST_BUDGET budget
-IsProblemTaskInRange (Best budget) = IsUpTo GREATEST_BUDGET budget
+IsProblemTaskInRange (Plan budget counts) = IsUpTo GREATEST_BUDGET budget
+IsProblemTaskInRange (Best budget counts) = IsUpTo GREATEST_BUDGET budget
 IsProblemTaskInRange (Rest minutes) = minutes ≤ LONGEST_REST
-IsProblemTaskInRange (Staff low high budget) =
+IsProblemTaskInRange (Staff low high budget counts) =
     (1 ≤ low) × (low ≤ high) × (high ≤ MOST_WEEKS) × (high < low + MOST_SIZES) × IsUpTo GREATEST_STAFF_BUDGET budget
 
 -- the number of an employee, where one is asked for
@@ -194,7 +194,7 @@ IsWithinHorizon command = Unit {0}
 
 -- the week of the instance has as many days as the task asks for
 abbrev pub HasProblemDays : ProblemTask → Instance → Type 0
-HasProblemDays (Best budget) P = P.days ≡ DAYS_OF_WEEK
+HasProblemDays (Best budget counts) P = P.days ≡ DAYS_OF_WEEK
 HasProblemDays task P = Unit {0}
 
 abbrev pub HasFilesDays : FilesTask → Instance → Type 0

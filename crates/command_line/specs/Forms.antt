@@ -1,5 +1,5 @@
 -- Forms of command lines: a word and the fields behind it. A table lists the forms of a program.
-use Rattle.std.specs.Prelude.{ℕ, ◌+◌, ◌-◌, ◌==◌, min, List, [], ◌∷◌, ◌++◌, map, codes, Option, Some, None, Bool, false, not, cond, if◌then◌else◌}
+use Rattle.std.specs.Prelude.{ℕ, ◌+◌, ◌-◌, ◌==◌, min, List, [], ◌∷◌, ◌++◌, map, codes, Option, Some, None, Bool, true, false, not, cond, if◌then◌else◌}
 use Rattle.std.specs.List.{join_with_byte}
 use Rattle.std.specs.Option.{option_map}
 use Rattle.std.specs.Str.{bytes_eq}
@@ -18,7 +18,8 @@ pub data Field : Type 0 where
   Day : (label : List ℕ) → Field
   -- the first and the last of at most `most` numbers in a row, from 1 to the greatest
   Range : (first last : List ℕ) (greatest most : ℕ) → Field
-  -- an option: a word, and behind it a number from 1 on; without them it has the usual number
+  -- an option: a word, and behind it a number from 1 on; without them it has the usual number. It tells too whether it
+  -- was left out
   Setting : (word label : List ℕ) (usual greatest : ℕ) → Field
   -- a field, or the end of the words
   Perhaps : Field → Field
@@ -29,7 +30,7 @@ Value (File label) = List ℕ
 Value (Number label least greatest) = ℕ
 Value (Day label) = Date
 Value (Range first last greatest most) = ℕ × ℕ
-Value (Setting word label usual greatest) = ℕ
+Value (Setting word label usual greatest) = ℕ × Bool
 Value (Perhaps field) = Option (Value field)
 
 -- what fields hold, one behind the other
@@ -68,10 +69,11 @@ range_at greatest most ws =
     digits_at low.0 (min greatest (low.0 + most - 1)) low.1 >>= (λ high.
     Some ((low.0, high.0), high.1)))
 
-unfoldable pub setting_at : List ℕ → ℕ → ℕ → Words → Option (ℕ × Words)
-setting_at word usual greatest [] = Some (usual, [])
+unfoldable pub setting_at : List ℕ → ℕ → ℕ → Words → Option ((ℕ × Bool) × Words)
+setting_at word usual greatest [] = Some ((usual, true), [])
 setting_at word usual greatest (w ∷ ws) =
-    if bytes_eq w word then digits_at 1 greatest ws else Some (usual, w ∷ ws)
+    if bytes_eq w word then option_map (λ n. ((n.0, false), n.1)) (digits_at 1 greatest ws)
+    else Some ((usual, true), w ∷ ws)
 
 abbrev pub field_at : (field : Field) → Words → Option (Value field × Words)
 field_at (File label) ws = file_at ws

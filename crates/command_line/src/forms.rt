@@ -69,8 +69,8 @@ fn plan<'a>(words: &mut Words<'a>) -> Option<Command<'a>>
     ensures range { IfSome result IsInRange }
 {
     let file = words.file()?;
-    let budget = words.setting("--budget", USUAL_BUDGET, GREATEST_BUDGET)?;
-    let task = ProblemTask::Plan { budget };
+    let (budget, counts) = words.setting("--budget", USUAL_BUDGET, GREATEST_BUDGET)?;
+    let task = ProblemTask::Plan { budget, counts };
     Some(Command::OnProblem { file, task })
 }
 
@@ -80,7 +80,7 @@ fn check<'a>(words: &mut Words<'a>) -> Option<Command<'a>>
 {
     let file = words.file()?;
     let second = words.file()?;
-    let workers = words.setting("--workers", USUAL_WORKERS, MOST_WORKERS)?;
+    let (workers, _) = words.setting("--workers", USUAL_WORKERS, MOST_WORKERS)?;
     let task = FilesTask::Check { workers };
     Some(Command::OnFiles { file, second, task })
 }
@@ -119,8 +119,8 @@ fn best<'a>(words: &mut Words<'a>) -> Option<Command<'a>>
     ensures range { IfSome result IsInRange }
 {
     let file = words.file()?;
-    let budget = words.setting("--budget", USUAL_BEST_BUDGET, GREATEST_BUDGET)?;
-    let task = ProblemTask::Best { budget };
+    let (budget, counts) = words.setting("--budget", USUAL_BEST_BUDGET, GREATEST_BUDGET)?;
+    let task = ProblemTask::Best { budget, counts };
     Some(Command::OnProblem { file, task })
 }
 
@@ -130,8 +130,13 @@ fn staff<'a>(words: &mut Words<'a>) -> Option<Command<'a>>
 {
     let file = words.file()?;
     let (low, high) = words.range(MOST_WEEKS, MOST_SIZES)?;
-    let budget = words.setting("--budget", USUAL_STAFF_BUDGET, GREATEST_STAFF_BUDGET)?;
-    let task = ProblemTask::Staff { low, high, budget };
+    let (budget, counts) = words.setting("--budget", USUAL_STAFF_BUDGET, GREATEST_STAFF_BUDGET)?;
+    let task = ProblemTask::Staff {
+        low,
+        high,
+        budget,
+        counts,
+    };
     Some(Command::OnProblem { file, task })
 }
 

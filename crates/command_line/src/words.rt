@@ -122,21 +122,23 @@ impl<'a> Words<'a> {
         Some((low, high))
     }
 
-    /// The number behind the word, where the word is the next one; else the usual number, and all words stay.
+    /// The number behind the word, where the word is the next one; else the usual number, and all words stay. Tells too
+    /// whether the word was left out.
     #[tactic(auto, unfolding(crate::specs::Forms::setting_at))]
-    pub fn setting(&mut self, word: &str, usual: u32, greatest: u32) -> Option<u32>
+    pub fn setting(&mut self, word: &str, usual: u32, greatest: u32) -> Option<(u32, bool)>
         requires { (1 ≤ usual) × (usual ≤ greatest) }
         ensures reads { Reads (setting_at word.now usual greatest self.old) result self.new }
-        ensures range { IfSome result (λ n. (1 ≤ n) × (n ≤ greatest)) }
+        ensures range { IfSome result (λ n. (1 ≤ n.0) × (n.0 ≤ greatest)) }
     {
         let Some(first) = self.first() else {
-            return Some(usual);
+            return Some((usual, true));
         };
         if first != word {
-            return Some(usual);
+            return Some((usual, true));
         }
         self.next();
-        self.number(1, greatest)
+        let given = self.number(1, greatest)?;
+        Some((given, false))
     }
 
     // The next word, which stays.
