@@ -25,9 +25,9 @@ use Rattle.refutation_terms.specs.Laws.{BlockCountsFit}
 use Rattle.refutation_terms.proofs.Windows.{no_bad_met}
 use Rattle.refutation_terms.proofs.Turning.{weeks_with-holds_in}
 use Rattle.refutation_terms.proofs.Sums.{sum_same, sum_le, sum_shift, sum_rows, sum_exchange}
-use Rattle.refutation_terms.proofs.CyclicCounts.{GoesRound, Passes, rises, count_later, runs_most, runs_least, runs_between, count_rest}
+use Rattle.refutation_terms.proofs.CyclicCounts.{GoesRound, InARow, counted, rises, count_later, runs_most, runs_least, runs_between, count_rest}
 
--- the test of the cells of the endless roster tells those of the class
+-- the test tells the cells of the class, round the cycle
 record Tells (c : Class) (s : List Symbol) (f : ℕ → Bool) : Type 0 where
   yes : (q : ℕ) → f q ≡ true → InClass c (cell s q)
   nay : (q : ℕ) → f q ≡ false → InClass c (cell s q) → ⊥
@@ -59,31 +59,24 @@ tells_off s = record {
 
 tells_work : (s : List Symbol) → Tells Work s (lacks s 0)
 tells_work s = record {
-  yes = λ q e. positive (cell s q).number (eqb-false (cell s q).number 0 (not-true ((cell s q).number == 0) e));
-  nay = λ q e some. none (cell s q).number some (eqb-true (cell s q).number 0 (not-false ((cell s q).number == 0) e));
+  yes = λ q e. let ne = eqb-false (cell s q).number 0 (not-true ((cell s q).number == 0) e) in omega (arith, ne);
+  nay = λ q e some. let no = eqb-true (cell s q).number 0 (not-false ((cell s q).number == 0) e) in omega (arith, no, some);
   round = λ i. ap not (has_round s 0 i);
 }
-  where
-    positive : (n : ℕ) → (n ≡ 0 → ⊥) → 0 < n
-    positive zero h = absurd (h refl)
-    positive (suc n) h = omega arith
 
-    none : (n : ℕ) → 0 < n → n ≡ 0 → ⊥
-    none n h e = omega (arith, h, e)
-
-all_in : (c : Class) (s : List Symbol) (f : ℕ → Bool) → Tells c s f → (q n : ℕ) → Passes f q n → All (InClass c) (window s q n)
+all_in : (c : Class) (s : List Symbol) (f : ℕ → Bool) → Tells c s f → (q n : ℕ) → InARow f q n → All (InClass c) (window s q n)
 all_in c s f tells q n on k d lt =
     let less : k < n = omega (arith, lt, length-window s q n) in
     subst (InClass c) (sym (get_or-window s q n k d less)) (tells.yes (q + k) (on k less))
 
 -- a run that is too long, and one that ends too soon, is a window that breaks a rule
-long_window : (c : Class) (s : List Symbol) (f : ℕ → Bool) (M q : ℕ) → Tells c s f → Passes f q (suc M) → TooLong c M (window s q (suc M))
+long_window : (c : Class) (s : List Symbol) (f : ℕ → Bool) (M q : ℕ) → Tells c s f → InARow f q (suc M) → TooLong c M (window s q (suc M))
 long_window c s f M q tells on = record {
   long = let e : suc M ≡ M + 1 = omega arith in length-window s q (suc M) ∙ e;
   within = all_in c s f tells q (suc M) on;
 }
 
-short_window : (c : Class) (s : List Symbol) (f : ℕ → Bool) (a q n : ℕ) → Tells c s f → f q ≡ false → Passes f (q + 1) (suc n) → f (q + 1 + suc n) ≡ false → suc n < a → TooShort c a (window s q (suc (suc n + 1)))
+short_window : (c : Class) (s : List Symbol) (f : ℕ → Bool) (a q n : ℕ) → Tells c s f → f q ≡ false → InARow f (q + 1) (suc n) → f (q + 1 + suc n) ≡ false → suc n < a → TooShort c a (window s q (suc (suc n + 1)))
 short_window c s f a q n tells low on end few = record {
   before = cell s q;
   block = window s (q + 1) (suc n);
@@ -92,16 +85,16 @@ short_window c s f a q n tells low on end few = record {
   starts = tells.nay q low;
   within = all_in c s f tells (q + 1) (suc n) on;
   ends = tells.nay (q + 1 + suc n) end;
-  some = let e : length (window s (q + 1) (suc n)) ≡ suc n = length-window s (q + 1) (suc n) in omega (arith, e);
-  few = let e : length (window s (q + 1) (suc n)) ≡ suc n = length-window s (q + 1) (suc n) in omega (arith, e, few);
+  some = omega (arith, length-window s (q + 1) (suc n));
+  few = omega (arith, few, length-window s (q + 1) (suc n));
 }
 
 -- so a roster without such windows has so many cells of the class as its runs can have
-can_be : (c : Class) (b : Bounds) (s : List Symbol) (f : ℕ → Bool) → Tells c s f → ((p len : ℕ) → 0 < length s → TooLong c b.greatest (window s p len) → ⊥) → ((p len : ℕ) → 0 < length s → TooShort c b.least (window s p len) → ⊥) → CanBe b (count_by (rises f) (range_with_len 0 (length s))) (count_by f (range_with_len 0 (length s)))
+can_be : (c : Class) (b : Bounds) (s : List Symbol) (f : ℕ → Bool) → Tells c s f → ((p len : ℕ) → 0 < length s → TooLong c b.greatest (window s p len) → ⊥) → ((p len : ℕ) → 0 < length s → TooShort c b.least (window s p len) → ⊥) → CanBe b (counted (length s) (rises f)) (counted (length s) f)
 can_be c b s f tells not_long not_short =
     let L = length s in
-    let k = count_by (rises f) (range_with_len 0 L) in
-    let t = count_by f (range_with_len 0 L) in
+    let k = counted L (rises f) in
+    let t = counted L f in
     let most : t ≤ b.greatest * k = runs_most L b.greatest f tells.round (λ q lt on. not_long q (suc b.greatest) (omega (arith, lt)) (long_window c s f b.greatest q tells on)) in
     let least : shortest b * k ≤ t =
     runs_least L (shortest b) f tells.round
@@ -114,7 +107,7 @@ can_be c b s f tells not_long not_short =
     (subst (λ m. m ≤ t) e least, subst (λ m. t ≤ m) d most)
 
 -- the blocks of a symbol are the runs of its cells
-blocks_are_runs : (s : List Symbol) (x : ℕ) → block_count s x ≡ count_by (rises (has s x)) (range_with_len 0 (length s))
+blocks_are_runs : (s : List Symbol) (x : ℕ) → block_count s x ≡ counted (length s) (rises (has s x))
 blocks_are_runs s x =
     let L = length s in
     sym (count_later L (begins_block s x) (λ i. let e : i + L + (L - 1) ≡ i + (L - 1) + L = omega arith in
@@ -133,11 +126,12 @@ sum_of_count f a (suc n) =
     added m n = omega (arith, ints)
 
 -- the cells with a symbol, day by day
-cells_by_day : (P : Instance) (s : List Symbol) (x : ℕ) → length s ≡ cells P → pos (count_by (has s x) (range_with_len 0 (cells P))) ≡ int_sum_by (λ j. pos (weeks_with P s x j)) (range_with_len 1 P.days)
+cells_by_day : (P : Instance) (s : List Symbol) (x : ℕ) → length s ≡ cells P → pos (counted (length s) (has s x)) ≡ int_sum_by (λ j. pos (weeks_with P s x j)) (range_with_len 1 P.days)
 cells_by_day P s x long =
     let none : 0 ≡ 0 * P.days = omega arith in
     let g : ℕ → ℤ = λ q. pos (cond (has s x q) 1 0) in
-    sym (sum_of_count (has s x) 0 (cells P))
+    sym (sum_of_count (has s x) 0 (length s))
+    ∙ ap (λ n. int_sum_by g (range_with_len 0 n)) long
     ∙ ap (λ b. int_sum_by g (range_with_len b (cells P))) none
     ∙ sum_rows g P.days 0 P.weeks
     ∙ sum_exchange (λ i k. g (i * P.days + k)) (range_with_len 0 P.weeks) (range_with_len 0 P.days)
@@ -151,7 +145,7 @@ cells_by_day P s x long =
     ∙ sym (sum_shift (λ j. pos (weeks_with P s x j)) 1 0 P.days)
 
 -- a roster that meets every day has so many as the demand asks for
-days_fit : (P : Instance) (s : List Symbol) (x : ℕ) → length s ≡ cells P → x ≤ shift_count P → ((j : ℕ) → IsDay P j → MeetsDay P j s) → (least_days P x ≤ℤ pos (count_by (has s x) (range_with_len 0 (cells P)))) × (pos (count_by (has s x) (range_with_len 0 (cells P))) ≤ℤ most_days P x)
+days_fit : (P : Instance) (s : List Symbol) (x : ℕ) → length s ≡ cells P → x ≤ shift_count P → ((j : ℕ) → IsDay P j → MeetsDay P j s) → (least_days P x ≤ℤ pos (counted (length s) (has s x))) × (pos (counted (length s) (has s x)) ≤ℤ most_days P x)
 days_fit P s x long small met =
     let sum = cells_by_day P s x long in
     let day : (j : ℕ) → 1 ≤ j → j < 1 + P.days → IsDay P j = λ j le lt. (omega (arith, le), omega (arith, lt)) in
@@ -178,41 +172,38 @@ count_fits : (P : Instance) (n : ℕ) (s : List Symbol) → IsRoster P s → n �
 count_fits P zero s roster small met =
     let L = length s in
     let days = days_fit P s 0 roster.long small (λ j day. met (TheRules.Day j) (inr (j, day, refl))) in
-    let k = count_by (rises (has s 0)) (range_with_len 0 L) in
-    let off : CanBe P.off k (count_by (has s 0) (range_with_len 0 L)) =
+    let k = counted L (rises (has s 0)) in
+    let off : CanBe P.off k (counted L (has s 0)) =
     can_be Off P.off s (has s 0) (tells_off s)
     (λ p len some. no_bad_met P TheRules.MaxOff s some (met TheRules.MaxOff (inl (inl refl))) p len)
     (λ p len some. no_bad_met P TheRules.MinOff s some (met TheRules.MinOff (inl (inr (inl refl)))) p len) in
-    let work : CanBe P.work (count_by (rises (lacks s 0)) (range_with_len 0 L)) (count_by (lacks s 0) (range_with_len 0 L)) =
+    let work : CanBe P.work (counted L (rises (lacks s 0))) (counted L (lacks s 0)) =
     can_be Work P.work s (lacks s 0) (tells_work s)
     (λ p len some. no_bad_met P TheRules.MaxWork s some (met TheRules.MaxWork (inl (inr (inr (inl refl))))) p len)
     (λ p len some. no_bad_met P TheRules.MinWork s some (met TheRules.MinWork (inl (inr (inr (inr refl))))) p len) in
-    let rest : count_by (has s 0) (range_with_len 0 L) + count_by (lacks s 0) (range_with_len 0 L) ≡ L = count_rest (has s 0) 0 L in
-    let inside : count_by (has s 0) (range_with_len 0 L) ≤ cells P = omega (arith, rest, roster.long) in
-    let others : count_by (lacks s 0) (range_with_len 0 L) ≡ cells P - count_by (has s 0) (range_with_len 0 L) = omega (arith, rest, roster.long) in
-    let same : count_by (has s 0) (range_with_len 0 (cells P)) ≡ count_by (has s 0) (range_with_len 0 L) = ap (λ m. count_by (has s 0) (range_with_len 0 m)) (sym roster.long) in
+    let rest : counted L (has s 0) + counted L (lacks s 0) ≡ L = count_rest L (has s 0) in
+    let inside : counted L (has s 0) ≤ cells P = omega (arith, rest, roster.long) in
+    let others : counted L (lacks s 0) ≡ cells P - counted L (has s 0) = omega (arith, rest, roster.long) in
     subst (BlocksFitBy P 0) (sym (blocks_are_runs s 0)) (
-      count_by (has s 0) (range_with_len 0 L),
-      subst (λ t. least_days P 0 ≤ℤ pos t) same days.0,
-      subst (λ t. pos t ≤ℤ most_days P 0) same days.1,
+      counted L (has s 0),
+      days.0,
+      days.1,
       inside,
       off,
-      subst (CanBe P.work k) others (subst (λ m. CanBe P.work m (count_by (lacks s 0) (range_with_len 0 L))) (runs_between L (has s 0) (has_round s 0)) work),
+      subst (CanBe P.work k) others (subst (λ m. CanBe P.work m (counted L (lacks s 0))) (runs_between L (has s 0) (has_round s 0)) work),
     )
 count_fits P (suc n) s roster small met =
     let L = length s in
     let x = suc n in
     let c : Class = Shift (symbol_numbered x) in
     let days = days_fit P s x roster.long small (λ j day. met (TheRules.Day j) (inr (j, day, refl))) in
-    let k = count_by (rises (has s x)) (range_with_len 0 L) in
-    let shift : CanBe (bounds P c) k (count_by (has s x) (range_with_len 0 L)) =
+    let k = counted L (rises (has s x)) in
+    let shift : CanBe (bounds P c) k (counted L (has s x)) =
     can_be c (bounds P c) s (has s x) (tells_shift s x)
     (λ p len some. no_bad_met P (TheRules.MaxShift (symbol_numbered x)) s some (met (TheRules.MaxShift (symbol_numbered x)) (inl (inl refl))) p len)
     (λ p len some. no_bad_met P (TheRules.MinShift (symbol_numbered x)) s some (met (TheRules.MinShift (symbol_numbered x)) (inl (inr refl))) p len) in
-    let same : count_by (has s x) (range_with_len 0 (cells P)) ≡ count_by (has s x) (range_with_len 0 L) = ap (λ m. count_by (has s x) (range_with_len 0 m)) (sym roster.long) in
     subst (BlocksFitBy P x) (sym (blocks_are_runs s x))
-    (between (least_days P x) (most_days P x) (k * shortest (bounds P c)) (count_by (has s x) (range_with_len 0 L)) (k * (bounds P c).greatest)
-    (subst (λ t. least_days P x ≤ℤ pos t) same days.0) (subst (λ t. pos t ≤ℤ most_days P x) same days.1) shift.0 shift.1)
+    (between (least_days P x) (most_days P x) (k * shortest (bounds P c)) (counted L (has s x)) (k * (bounds P c).greatest) days.0 days.1 shift.0 shift.1)
 
 pub block_counts_fit : BlockCountsFit
 block_counts_fit P x s roster is met = (

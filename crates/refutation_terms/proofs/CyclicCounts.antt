@@ -1,8 +1,8 @@
 -- Counts round a cycle: how many runs a test has there, against how often it passes. A test goes round by L where it
 -- says the same L places later.
-use Rattle.std.proofs.Common.{◌≡◌, ◌⊎◌, ℕ, zero, suc, ◌+◌, ◌*◌, ◌<◌, ◌≤◌, refl, ap, sym, ◌∙◌, arith, inl, inr, Bool, true, false, cond, ◌&&◌, ◌||◌, not, count_by}
+use Rattle.std.proofs.Common.{◌≡◌, ◌⊎◌, ℕ, zero, suc, ◌+◌, ◌-◌, ◌*◌, ◌<◌, ◌≤◌, refl, ap, sym, ◌∙◌, arith, inl, inr, Bool, true, false, cond, ◌&&◌, ◌||◌, not, count_by}
 use Rattle.std.specs.List.{range_with_len}
-use Rattle.std.proofs.lemmas.Bool.{cases_Bool, both_ways, or_left, or_right, or_cases}
+use Rattle.std.proofs.lemmas.Bool.{cases_Bool, both_ways, or_left, or_right, or_cases, and_parts, and_from, not-true, not_from_false, false_from_ne_true}
 use Rattle.std.proofs.Math.Nat.{eq-or-lt_of_le}
 use Rattle.rwsp_terms.proofs.Counting.{count_next, count_same, count_mono}
 use Rattle.refutation_terms.proofs.Turning.{count_shift, count_period}
@@ -10,54 +10,54 @@ use Rattle.refutation_terms.proofs.Turning.{count_shift, count_period}
 abbrev pub GoesRound : ℕ → (ℕ → Bool) → Type 0
 GoesRound L f = (i : ℕ) → f (i + L) ≡ f i
 
--- one or none
-abbrev one : Bool → ℕ
-one b = cond b 1 0
+-- how often the test passes, once round
+abbrev pub counted : ℕ → (ℕ → Bool) → ℕ
+counted L f = count_by f (range_with_len 0 L)
 
--- the test passes first at the next place
+-- the test doesn't pass here, and passes at the next place: a run begins there
 abbrev pub rises : (ℕ → Bool) → ℕ → Bool
 rises f i = f (i + 1) && not (f i)
 
--- the test passes at n places from q on
-abbrev pub Passes : (ℕ → Bool) → ℕ → ℕ → Type 0
-Passes f q n = (i : ℕ) → i < n → f (q + i) ≡ true
+-- the test passes at n places in a row
+abbrev pub InARow : (ℕ → Bool) → ℕ → ℕ → Type 0
+InARow f q n = (i : ℕ) → i < n → f (q + i) ≡ true
 
--- the test passes at one of n places from q on
+-- a run that isn't as long as a goes on
+abbrev pub RunsOn : (ℕ → Bool) → ℕ → Type 0
+RunsOn f a = (q n : ℕ) → f q ≡ false → InARow f (q + 1) (suc n) → suc n < a → f (q + 1 + suc n) ≡ true
+
+-- the test passes at one of n places
 abbrev near : (ℕ → Bool) → ℕ → ℕ → Bool
 near f zero q = false
 near f (suc n) q = f q || near f n (q + 1)
 
-count_none : (a n : ℕ) → count_by (λ i. false) (range_with_len a n) ≡ 0
-count_none a zero = refl
-count_none a (suc n) =
-    let e : count_by (λ i. false) (range_with_len a (suc n)) ≡ 0 + count_by (λ i. false) (range_with_len (a + 1) n) = count_next (λ i. false) a n in
-    let more : count_by (λ i. false) (range_with_len (a + 1) n) ≡ 0 = count_none (a + 1) n in
-    omega arith
+-- a test that says the same everywhere
+count_fixed : (b : Bool) (a n : ℕ) → count_by (λ i. b) (range_with_len a n) ≡ n * cond b 1 0
+count_fixed b a zero = omega arith
+count_fixed b a (suc n) =
+    let more : count_by (λ i. b) (range_with_len (a + 1) n) ≡ n * cond b 1 0 = count_fixed b (a + 1) n in
+    let sum : suc n * cond b 1 0 ≡ cond b 1 0 + n * cond b 1 0 = omega arith in
+    omega (arith, count_next (λ i. b) a n)
 
--- two counts together are at most two others, where they are at each place
-count_pairs : (f g h k : ℕ → Bool) (a n : ℕ) → ((i : ℕ) → i < a + n → one (f i) + one (g i) ≤ one (h i) + one (k i)) → count_by f (range_with_len a n) + count_by g (range_with_len a n) ≤ count_by h (range_with_len a n) + count_by k (range_with_len a n)
-count_pairs f g h k a zero le = omega arith
-count_pairs f g h k a (suc n) le =
-    let here : one (f a) + one (g a) ≤ one (h a) + one (k a) = le a (omega arith) in
-    let more : count_by f (range_with_len (a + 1) n) + count_by g (range_with_len (a + 1) n) ≤ count_by h (range_with_len (a + 1) n) + count_by k (range_with_len (a + 1) n) = count_pairs f g h k (a + 1) n (λ i lt. le i (omega (arith, lt))) in
-    let p : count_by f (range_with_len a (suc n)) ≡ one (f a) + count_by f (range_with_len (a + 1) n) = count_next f a n in
-    let q : count_by g (range_with_len a (suc n)) ≡ one (g a) + count_by g (range_with_len (a + 1) n) = count_next g a n in
-    let r : count_by h (range_with_len a (suc n)) ≡ one (h a) + count_by h (range_with_len (a + 1) n) = count_next h a n in
-    let s : count_by k (range_with_len a (suc n)) ≡ one (k a) + count_by k (range_with_len (a + 1) n) = count_next k a n in
-    omega arith
+-- two counts together are two others, where they are at each place
+count_pairs : (f g h k : ℕ → Bool) (a n : ℕ) → ((i : ℕ) → cond {A = ℕ} (f i) 1 0 + cond (g i) 1 0 ≡ cond (h i) 1 0 + cond (k i) 1 0) → count_by f (range_with_len a n) + count_by g (range_with_len a n) ≡ count_by h (range_with_len a n) + count_by k (range_with_len a n)
+count_pairs f g h k a zero same = refl
+count_pairs f g h k a (suc n) same =
+    let here : cond {A = ℕ} (f a) 1 0 + cond (g a) 1 0 ≡ cond (h a) 1 0 + cond (k a) 1 0 = same a in
+    let more : count_by f (range_with_len (a + 1) n) + count_by g (range_with_len (a + 1) n) ≡ count_by h (range_with_len (a + 1) n) + count_by k (range_with_len (a + 1) n) = count_pairs f g h k (a + 1) n same in
+    omega (arith, count_next f a n, count_next g a n, count_next h a n, count_next k a n)
 
 -- a count round the cycle begins anywhere
-pub count_later : (L : ℕ) (f : ℕ → Bool) → GoesRound L f → (b : ℕ) → count_by (λ i. f (i + b)) (range_with_len 0 L) ≡ count_by f (range_with_len 0 L)
+pub count_later : (L : ℕ) (f : ℕ → Bool) → GoesRound L f → (b : ℕ) → counted L (λ i. f (i + b)) ≡ counted L f
 count_later L f round b =
     let e : b ≡ b + 0 = omega arith in
     count_same (λ i. f (i + b)) (λ i. f (b + i)) 0 L (λ i le lt. let d : i + b ≡ b + i = omega arith in ap f d)
     ∙ sym (count_shift f b 0 L) ∙ ap (λ a. count_by f (range_with_len a L)) (sym e) ∙ count_period f L round b
 
-later_round : (L : ℕ) (f : ℕ → Bool) → GoesRound L f → (b : ℕ) → GoesRound L (λ i. f (i + b))
-later_round L f round b i = let e : i + L + b ≡ i + b + L = omega arith in ap f e ∙ round (i + b)
-
-pub rises_round : (L : ℕ) (f : ℕ → Bool) → GoesRound L f → GoesRound L (rises f)
-rises_round L f round i = ap (λ b. b && not (f (i + L))) (later_round L f round 1 i) ∙ ap (λ b. f (i + 1) && not b) (round i)
+rises_round : (L : ℕ) (f : ℕ → Bool) → GoesRound L f → GoesRound L (rises f)
+rises_round L f round i =
+    let e : i + L + 1 ≡ i + 1 + L = omega arith in
+    ap (λ b. b && not (f (i + L))) (ap f e ∙ round (i + 1)) ∙ ap (λ b. f (i + 1) && not b) (round i)
 
 near_round : (L : ℕ) (f : ℕ → Bool) → GoesRound L f → (n : ℕ) → GoesRound L (near f n)
 near_round L f round zero i = refl
@@ -65,163 +65,131 @@ near_round L f round (suc n) i =
     let e : i + L + 1 ≡ i + 1 + L = omega arith in
     ap (λ b. b || near f n (i + L + 1)) (round i) ∙ ap (λ b. f i || b) (ap (near f n) e ∙ near_round L f round n (i + 1))
 
-either_le : (b c : Bool) → one (b || c) + one false ≤ one b + one c
-either_le true c = omega arith
-either_le false c = omega arith
+-- one place more
+near_next : (L : ℕ) (f : ℕ → Bool) → GoesRound L f → (n : ℕ) → counted L (near f (suc n)) + counted L (λ i. f i && near f n (i + 1)) ≡ counted L f + counted L (near f n)
+near_next L f round n =
+    count_pairs (near f (suc n)) (λ i. f i && near f n (i + 1)) f (λ i. near f n (i + 1)) 0 L (λ i. either_both (f i) (near f n (i + 1)))
+    ∙ ap (λ c. counted L f + c) (count_later L (near f n) (near_round L f round n) 1)
+  where
+    either_both : (b c : Bool) → cond {A = ℕ} (b || c) 1 0 + cond (b && c) 1 0 ≡ cond b 1 0 + cond c 1 0
+    either_both true c = refl
+    either_both false true = refl
+    either_both false false = refl
 
 -- places near one that passes are at most n for each
-near_most : (L : ℕ) (f : ℕ → Bool) → GoesRound L f → (n : ℕ) → count_by (near f n) (range_with_len 0 L) ≤ n * count_by f (range_with_len 0 L)
-near_most L f round zero = let e : count_by (near f zero) (range_with_len 0 L) ≡ 0 = count_none 0 L in omega (arith, e)
+near_most : (L : ℕ) (f : ℕ → Bool) → GoesRound L f → (n : ℕ) → counted L (near f n) ≤ n * counted L f
+near_most L f round zero = omega (arith, count_fixed false 0 L)
 near_most L f round (suc n) =
-    let both : count_by (near f (suc n)) (range_with_len 0 L) + count_by (λ i. false) (range_with_len 0 L) ≤ count_by f (range_with_len 0 L) + count_by (λ i. near f n (i + 1)) (range_with_len 0 L) =
-    count_pairs (near f (suc n)) (λ i. false) f (λ i. near f n (i + 1)) 0 L (λ i lt. either_le (f i) (near f n (i + 1))) in
-    let turn : count_by (λ i. near f n (i + 1)) (range_with_len 0 L) ≡ count_by (near f n) (range_with_len 0 L) = count_later L (near f n) (near_round L f round n) 1 in
-    let more : count_by (near f n) (range_with_len 0 L) ≤ n * count_by f (range_with_len 0 L) = near_most L f round n in
-    let sum : suc n * count_by f (range_with_len 0 L) ≡ count_by f (range_with_len 0 L) + n * count_by f (range_with_len 0 L) = omega arith in
-    omega arith
-
-either_ge : (b c : Bool) → (b ≡ true → c ≡ true → ⊥) → one b + one c ≤ one (b || c) + one false
-either_ge true true h = absurd (h refl refl)
-either_ge true false h = omega arith
-either_ge false c h = omega arith
+    let sum : suc n * counted L f ≡ counted L f + n * counted L f = omega arith in
+    omega (arith, near_next L f round n, near_most L f round n)
 
 -- and n for each, where no two that pass are so close
-near_least : (L : ℕ) (f : ℕ → Bool) → GoesRound L f → (n : ℕ) → ((m q : ℕ) → m < n → q < L → f q ≡ true → near f m (q + 1) ≡ true → ⊥) → n * count_by f (range_with_len 0 L) ≤ count_by (near f n) (range_with_len 0 L)
+near_least : (L : ℕ) (f : ℕ → Bool) → GoesRound L f → (n : ℕ) → ((m q : ℕ) → m < n → q < L → f q ≡ true → near f m (q + 1) ≡ true → ⊥) → n * counted L f ≤ counted L (near f n)
 near_least L f round zero apart = omega arith
 near_least L f round (suc n) apart =
-    let both : count_by f (range_with_len 0 L) + count_by (λ i. near f n (i + 1)) (range_with_len 0 L) ≤ count_by (near f (suc n)) (range_with_len 0 L) + count_by (λ i. false) (range_with_len 0 L) =
-    count_pairs f (λ i. near f n (i + 1)) (near f (suc n)) (λ i. false) 0 L (λ i lt. either_ge (f i) (near f n (i + 1)) (apart n i (omega arith) (omega (arith, lt)))) in
-    let none : count_by (λ i. false) (range_with_len 0 L) ≡ 0 = count_none 0 L in
-    let turn : count_by (λ i. near f n (i + 1)) (range_with_len 0 L) ≡ count_by (near f n) (range_with_len 0 L) = count_later L (near f n) (near_round L f round n) 1 in
-    let more : n * count_by f (range_with_len 0 L) ≤ count_by (near f n) (range_with_len 0 L) = near_least L f round n (λ m q lt. apart m q (omega (arith, lt))) in
-    let sum : suc n * count_by f (range_with_len 0 L) ≡ count_by f (range_with_len 0 L) + n * count_by f (range_with_len 0 L) = omega arith in
-    omega arith
+    let twice : ℕ → Bool = λ i. f i && near f n (i + 1) in
+    let none : counted L twice ≡ counted L (λ i. false) =
+    count_same twice (λ i. false) 0 L
+    (λ i le lt. false_from_ne_true (twice i) (λ e. let both = and_parts (f i) (near f n (i + 1)) e in apart n i (omega arith) (omega (arith, lt)) both.0 both.1)) in
+    let more : n * counted L f ≤ counted L (near f n) = near_least L f round n (λ m q lt. apart m q (omega (arith, lt))) in
+    let sum : suc n * counted L f ≡ counted L f + n * counted L f = omega arith in
+    omega (arith, near_next L f round n, count_fixed false 0 L)
 
-risen : (f : ℕ → Bool) (q : ℕ) → f q ≡ false → f (q + 1) ≡ true → rises f q ≡ true
-risen f q e d = ap (λ b. f (q + 1) && not b) e ∙ ap (λ b. b && true) d
-
-risen_from : (b c : Bool) → (c && not b) ≡ true → (b ≡ false) × (c ≡ true)
-risen_from true true e = absurd (cc)
-risen_from true false e = absurd (cc)
-risen_from false true e = (refl, refl)
-risen_from false false e = absurd (cc)
-
--- a test that doesn't pass here and passes n places later rises on the way
-climbs : (f : ℕ → Bool) (n q : ℕ) → f q ≡ false → f (q + n) ≡ true → near (rises f) n q ≡ true
-climbs f zero q low high = let e : q + zero ≡ q = omega arith in let d : f (q + zero) ≡ f q = ap f e in absurd (cc)
-climbs f (suc n) q low high =
-    let d : q + suc n ≡ q + 1 + n = omega arith in
-    elim (cases_Bool (f (q + 1))) [
-      | inl e ↦ or_left (rises f q) (near (rises f) n (q + 1)) (risen f q low e)
-      | inr e ↦ or_right (rises f q) (near (rises f) n (q + 1)) (climbs f n (q + 1) e (sym (ap f d) ∙ high))
+near_place : (f : ℕ → Bool) (n q : ℕ) → near f n q ≡ true → (i : ℕ) × (i < n) × (f (q + i) ≡ true)
+near_place f zero q e = absurd (cc)
+near_place f (suc n) q e =
+    elim (or_cases (f q) (near f n (q + 1)) e) [
+      | inl here ↦ let d : q + 0 ≡ q = omega arith in (0, omega arith, ap f d ∙ here)
+      | inr later ↦
+          let there = near_place f n (q + 1) later in
+          let d : q + suc there.0 ≡ q + 1 + there.0 = omega arith in
+          (suc there.0, omega (arith, there.1), ap f d ∙ there.2)
     ]
 
-passes_before : (f : ℕ → Bool) (q n : ℕ) → f q ≡ true → Passes f (q + 1) n → Passes f q (suc n)
-passes_before f q n here more zero lt = let e : q + zero ≡ q = omega arith in ap f e ∙ here
-passes_before f q n here more (suc i) lt = let e : q + suc i ≡ q + 1 + i = omega arith in ap f e ∙ more i (omega (arith, lt))
+risen : (f : ℕ → Bool) (q : ℕ) → rises f q ≡ true → (f q ≡ false) × (f (q + 1) ≡ true)
+risen f q up = let both = and_parts (f (q + 1)) (not (f q)) up in (not-true (f q) both.1, both.0)
 
--- so a test that doesn't pass at n + 1 places in a row rises near where it passes
-rises_near : (f : ℕ → Bool) (n q : ℕ) → (Passes f q (suc n) → ⊥) → f (q + n) ≡ true → (f q ≡ true) ⊎ (f q ≡ false) → near (rises f) n q ≡ true
-rises_near f n q short high (inr e) = climbs f n q e high
-rises_near f zero q short high (inl e) = absurd (short (passes_before f q 0 e (λ i lt. absurd (omega (arith, lt)))))
-rises_near f (suc n) q short high (inl e) =
-    let d : q + suc n ≡ q + 1 + n = omega arith in
-    or_right (rises f q) (near (rises f) n (q + 1)) (rises_near f n (q + 1) (λ more. short (passes_before f q (suc n) e more)) (sym (ap f d) ∙ high) (cases_Bool (f (q + 1))))
+-- where the test passes, it rises a little before or passes all the way
+rises_or_stays : (f : ℕ → Bool) (n q : ℕ) → f (q + n) ≡ true → (near (rises f) n q ≡ true) ⊎ InARow f q (suc n)
+rises_or_stays f zero q high = inr (λ i lt. let e : q + i ≡ q + zero = omega (arith, lt) in ap f e ∙ high)
+rises_or_stays f (suc n) q high =
+    let d : q + 1 + n ≡ q + suc n = omega arith in
+    elim (rises_or_stays f n (q + 1) (ap f d ∙ high)) [
+      | inl later ↦ inl (or_right (rises f q) (near (rises f) n (q + 1)) later)
+      | inr on ↦ begins (on 0 (omega arith)) on (cases_Bool (f q))
+    ]
+  where
+    begins : f (q + 1 + 0) ≡ true → InARow f (q + 1) (suc n) → (f q ≡ true) ⊎ (f q ≡ false) → (near (rises f) (suc n) q ≡ true) ⊎ InARow f q (suc (suc n))
+    begins next on (inl here) = inr (λ i lt. from_next i lt)
+      where
+        from_next : (i : ℕ) → i < suc (suc n) → f (q + i) ≡ true
+        from_next zero lt = let e : q + zero ≡ q = omega arith in ap f e ∙ here
+        from_next (suc i) lt = let e : q + suc i ≡ q + 1 + i = omega arith in ap f e ∙ on i (omega (arith, lt))
+    begins next on (inr low) =
+        let e : q + 1 + 0 ≡ q + 1 = omega arith in
+        inl (or_left (rises f q) (near (rises f) n (q + 1)) (and_from (f (q + 1)) (not (f q)) (sym (ap f e) ∙ next) (not_from_false (f q) low)))
 
 -- runs of at most M places: M places for each run are enough
-pub runs_most : (L M : ℕ) (f : ℕ → Bool) → GoesRound L f → ((q : ℕ) → q < L → Passes f q (suc M) → ⊥) → count_by f (range_with_len 0 L) ≤ M * count_by (rises f) (range_with_len 0 L)
+pub runs_most : (L M : ℕ) (f : ℕ → Bool) → GoesRound L f → ((q : ℕ) → q < L → InARow f q (suc M) → ⊥) → counted L f ≤ M * counted L (rises f)
 runs_most L M f round short =
-    let turn : count_by (λ i. f (i + M)) (range_with_len 0 L) ≡ count_by f (range_with_len 0 L) = count_later L f round M in
-    let fewer : count_by (λ i. f (i + M)) (range_with_len 0 L) ≤ count_by (near (rises f) M) (range_with_len 0 L) =
-    count_mono (λ i. f (i + M)) (near (rises f) M) 0 L (λ i le lt high. rises_near f M i (short i (omega (arith, lt))) high (cases_Bool (f i))) in
-    let most : count_by (near (rises f) M) (range_with_len 0 L) ≤ M * count_by (rises f) (range_with_len 0 L) = near_most L (rises f) (rises_round L f round) M in
-    omega arith
+    let fewer : counted L (λ i. f (i + M)) ≤ counted L (near (rises f) M) =
+    count_mono (λ i. f (i + M)) (near (rises f) M) 0 L
+    (λ i le lt high. elim (rises_or_stays f M i high) [
+      | inl up ↦ up
+      | inr on ↦ absurd (short i (omega (arith, lt)) on)
+    ]) in
+    omega (arith, count_later L f round M, near_most L (rises f) (rises_round L f round) M)
 
--- no run is shorter than a: one that ends has so many places
-abbrev pub RunsOn : (ℕ → Bool) → ℕ → Type 0
-RunsOn f a = (q n : ℕ) → f q ≡ false → Passes f (q + 1) (suc n) → suc n < a → f (q + 1 + suc n) ≡ true
-
-passes_more : (f : ℕ → Bool) (q n : ℕ) → Passes f q n → f (q + n) ≡ true → Passes f q (suc n)
-passes_more f q n more here i lt = passes_by (eq-or-lt_of_le (let le : i ≤ n = omega (arith, lt) in le))
-  where
-    passes_by : (i ≡ n) ⊎ (i < n) → f (q + i) ≡ true
-    passes_by (inl e) = ap (λ k. f (q + k)) e ∙ here
-    passes_by (inr less) = more i less
-
--- from where it rises it passes a places
-reaches : (f : ℕ → Bool) (a q : ℕ) → RunsOn f a → rises f q ≡ true → (n : ℕ) → n ≤ a → Passes f (q + 1) n
+-- from where it rises it passes at a places
+reaches : (f : ℕ → Bool) (a q : ℕ) → RunsOn f a → rises f q ≡ true → (n : ℕ) → n ≤ a → InARow f (q + 1) n
 reaches f a q on up zero le = λ i lt. absurd (omega (arith, lt))
-reaches f a q on up (suc zero) le =
-    let e : q + 1 + 0 ≡ q + 1 = omega arith in
-    passes_more f (q + 1) 0 (λ i lt. absurd (omega (arith, lt))) (ap f e ∙ (risen_from (f q) (f (q + 1)) up).1)
-reaches f a q on up (suc (suc n)) le =
-    let more = reaches f a q on up (suc n) (omega (arith, le)) in
-    passes_more f (q + 1) (suc n) more (on q n (risen_from (f q) (f (q + 1)) up).0 more (omega (arith, le)))
-
--- where it passes it doesn't rise
-never_rises : (f : ℕ → Bool) (m q : ℕ) → Passes f q m → near (rises f) m q ≡ true → ⊥
-never_rises f zero q on e = absurd (cc)
-never_rises f (suc m) q on e =
-    elim (or_cases (rises f q) (near (rises f) m (q + 1)) e) [
-      | inl up ↦
-          let d : q + 0 ≡ q = omega arith in
-          both_ways (f q) (risen_from (f q) (f (q + 1)) up).0 (sym (ap f d) ∙ on 0 (omega arith))
-      | inr later ↦ never_rises f m (q + 1) (λ i lt. let d : q + 1 + i ≡ q + suc i = omega arith in ap f d ∙ on (suc i) (omega (arith, lt))) later
+reaches f a q on up (suc n) le =
+    let more = reaches f a q on up n (omega (arith, le)) in
+    λ i lt. elim (eq-or-lt_of_le (let small : i ≤ n = omega (arith, lt) in small)) [
+      | inl e ↦ ap (λ k. f (q + 1 + k)) e ∙ last n more le
+      | inr less ↦ more i less
     ]
-
--- behind a place where it rises, at most a places on, it passes
-passes_behind : (f : ℕ → Bool) (a : ℕ) → RunsOn f a → (n q : ℕ) → n ≤ a → near (rises f) n q ≡ true → f (q + n) ≡ true
-passes_behind f a on zero q le e = absurd (cc)
-passes_behind f a on (suc n) q le e =
-    let d : q + suc n ≡ q + 1 + n = omega arith in
-    elim (or_cases (rises f q) (near (rises f) n (q + 1)) e) [
-      | inl up ↦ ap f d ∙ reaches f a q on up (suc n) le n (omega arith)
-      | inr later ↦ ap f d ∙ passes_behind f a on n (q + 1) (omega (arith, le)) later
-    ]
+  where
+    last : (n : ℕ) → InARow f (q + 1) n → suc n ≤ a → f (q + 1 + n) ≡ true
+    last zero more le = let e : q + 1 + zero ≡ q + 1 = omega arith in ap f e ∙ (risen f q up).1
+    last (suc n) more le = on q n (risen f q up).0 more (omega (arith, le))
 
 -- runs of at least a places: there are a places for each
-pub runs_least : (L a : ℕ) (f : ℕ → Bool) → GoesRound L f → (0 < L → RunsOn f a) → a * count_by (rises f) (range_with_len 0 L) ≤ count_by f (range_with_len 0 L)
+pub runs_least : (L a : ℕ) (f : ℕ → Bool) → GoesRound L f → (0 < L → RunsOn f a) → a * counted L (rises f) ≤ counted L f
 runs_least L a f round on =
-    let turn : count_by (λ i. f (i + a)) (range_with_len 0 L) ≡ count_by f (range_with_len 0 L) = count_later L f round a in
-    let some : (q : ℕ) → q < L → 0 < L = λ q lt. omega (arith, lt) in
-    let fewer : count_by (near (rises f) a) (range_with_len 0 L) ≤ count_by (λ i. f (i + a)) (range_with_len 0 L) =
-    count_mono (near (rises f) a) (λ i. f (i + a)) 0 L (λ i le lt e. passes_behind f a (on (omega (arith, lt))) a i (omega arith) e) in
-    let least : a * count_by (rises f) (range_with_len 0 L) ≤ count_by (near (rises f) a) (range_with_len 0 L) =
-    near_least L (rises f) (rises_round L f round) a (λ m q lt less up later. never_rises f m (q + 1) (reaches f a q (on (some q less)) up m (omega (arith, lt))) later) in
-    omega arith
+    let fewer : counted L (near (rises f) a) ≤ counted L (λ i. f (i + a)) =
+    count_mono (near (rises f) a) (λ i. f (i + a)) 0 L
+    (λ i le lt e.
+    let up = near_place (rises f) a i e in
+    let d : i + a ≡ i + up.0 + 1 + (a - (up.0 + 1)) = omega (arith, up.1) in
+    ap f d ∙ reaches f a (i + up.0) (on (omega (arith, lt))) up.2 a (omega arith) (a - (up.0 + 1)) (omega (arith, up.1))) in
+    let least : a * counted L (rises f) ≤ counted L (near (rises f) a) =
+    near_least L (rises f) (rises_round L f round) a
+    (λ m q lt less here later.
+    let up = near_place (rises f) m (q + 1) later in
+    both_ways (f (q + 1 + up.0)) (risen f (q + 1 + up.0) up.2).0 (reaches f a q (on (omega (arith, less))) here m (omega (arith, lt)) up.0 up.1)) in
+    omega (arith, count_later L f round a)
 
-ends_as_begins : (b c : Bool) → one (c && not b) + one b ≤ one (not c && not (not b)) + one c
-ends_as_begins true true = omega arith
-ends_as_begins true false = omega arith
-ends_as_begins false true = omega arith
-ends_as_begins false false = omega arith
-
-begins_as_ends : (b c : Bool) → one (not c && not (not b)) + one c ≤ one (c && not b) + one b
-begins_as_ends true true = omega arith
-begins_as_ends true false = omega arith
-begins_as_ends false true = omega arith
-begins_as_ends false false = omega arith
-
--- it has as many runs as there are runs between them
-pub runs_between : (L : ℕ) (f : ℕ → Bool) → GoesRound L f → count_by (rises (λ i. not (f i))) (range_with_len 0 L) ≡ count_by (rises f) (range_with_len 0 L)
+-- a test has as many runs as its opposite
+pub runs_between : (L : ℕ) (f : ℕ → Bool) → GoesRound L f → counted L (rises (λ i. not (f i))) ≡ counted L (rises f)
 runs_between L f round =
-    let turn : count_by (λ i. f (i + 1)) (range_with_len 0 L) ≡ count_by f (range_with_len 0 L) = count_later L f round 1 in
-    let up : count_by (rises f) (range_with_len 0 L) + count_by f (range_with_len 0 L) ≤ count_by (rises (λ i. not (f i))) (range_with_len 0 L) + count_by (λ i. f (i + 1)) (range_with_len 0 L) =
-    count_pairs (rises f) f (rises (λ i. not (f i))) (λ i. f (i + 1)) 0 L (λ i lt. ends_as_begins (f i) (f (i + 1))) in
-    let down : count_by (rises (λ i. not (f i))) (range_with_len 0 L) + count_by (λ i. f (i + 1)) (range_with_len 0 L) ≤ count_by (rises f) (range_with_len 0 L) + count_by f (range_with_len 0 L) =
-    count_pairs (rises (λ i. not (f i))) (λ i. f (i + 1)) (rises f) f 0 L (λ i lt. begins_as_ends (f i) (f (i + 1))) in
-    omega arith
-
-one_or_other : (b : Bool) → one b + one (not b) ≡ 1
-one_or_other true = refl
-one_or_other false = refl
+    omega (
+      arith,
+      count_later L f round 1,
+      count_pairs (rises f) f (rises (λ i. not (f i))) (λ i. f (i + 1)) 0 L (λ i. one_each (f i) (f (i + 1))),
+    )
+  where
+    one_each : (b c : Bool) → cond {A = ℕ} (c && not b) 1 0 + cond b 1 0 ≡ cond (not c && not (not b)) 1 0 + cond c 1 0
+    one_each true true = refl
+    one_each true false = refl
+    one_each false true = refl
+    one_each false false = refl
 
 -- and passes or doesn't at each place
-pub count_rest : (f : ℕ → Bool) (a n : ℕ) → count_by f (range_with_len a n) + count_by (λ i. not (f i)) (range_with_len a n) ≡ n
-count_rest f a zero = refl
-count_rest f a (suc n) =
-    let more : count_by f (range_with_len (a + 1) n) + count_by (λ i. not (f i)) (range_with_len (a + 1) n) ≡ n = count_rest f (a + 1) n in
-    let here : one (f a) + one (not (f a)) ≡ 1 = one_or_other (f a) in
-    let p : count_by f (range_with_len a (suc n)) ≡ one (f a) + count_by f (range_with_len (a + 1) n) = count_next f a n in
-    let q : count_by (λ i. not (f i)) (range_with_len a (suc n)) ≡ one (not (f a)) + count_by (λ i. not (f i)) (range_with_len (a + 1) n) = count_next (λ i. not (f i)) a n in
-    omega arith
+pub count_rest : (L : ℕ) (f : ℕ → Bool) → counted L f + counted L (λ i. not (f i)) ≡ L
+count_rest L f =
+    omega (arith, count_pairs f (λ i. not (f i)) (λ i. true) (λ i. false) 0 L (λ i. one_of_two (f i)), count_fixed true 0 L, count_fixed false 0 L)
+  where
+    one_of_two : (b : Bool) → cond {A = ℕ} b 1 0 + cond (not b) 1 0 ≡ 1 + 0
+    one_of_two true = refl
+    one_of_two false = refl
