@@ -1,6 +1,6 @@
 -- One cause for a line that is refused.
-use Rattle.std.proofs.Common.{◌≡◌, ℕ, ◌≤◌, List, [], ◌∷◌, ◌++◌, refl, ap, sym, ◌∙◌, subst, arith, inl, inr, Bool, true, false, Option, Some, None, pos}
-use Rattle.std.specs.Prelude.{◌<ℤ◌, ◌*ℤ◌}
+use Rattle.std.proofs.Common.{◌≡◌, ℕ, ◌≤◌, List, [], ◌++◌, refl, ap, sym, ◌∙◌, subst, arith, Bool, true, false, Option, Some, None, pos}
+use Rattle.std.specs.Prelude.{◌<ℤ◌}
 use Rattle.rwsp_terms.specs.declared.data.Symbol.{Symbol}
 use Rattle.rwsp_terms.specs.declared.data.Rule.{Rule}
 use Rattle.rwsp_terms.specs.declared.data.Rule.TheVariants as TheRules
@@ -9,22 +9,18 @@ use Rattle.rwsp_terms.specs.Rules.{Names}
 use Rattle.refutation_terms.specs.declared.lines.LogKind.{LogKind}
 use Rattle.refutation_terms.specs.declared.lines.Line.{Line}
 use Rattle.refutation_terms.specs.declared.lines.Line.TheVariants.{Split, Unfinished, Closing}
-use Rattle.refutation_terms.specs.declared.lines.Leaf.TheVariants.{Window, Day, Few, Words, Blocks}
-use Rattle.refutation_terms.specs.declared.lines.WordClaim.{WordClaim}
-use Rattle.refutation_terms.specs.declared.lines.WordClaim.TheVariants.{Dead, Light}
-use Rattle.refutation_terms.specs.WordsLeaf.{worth, owed, WordsHold, WordsEscape}
 use Rattle.refutation_terms.specs.declared.lines.LogRefusal.{LogRefusal}
 use Rattle.refutation_terms.specs.declared.lines.LogRefusal.TheVariants as Refusals
 use Rattle.refutation_terms.specs.Word.{Domains}
 use Rattle.refutation_terms.specs.Tree.{is_idle}
 use Rattle.refutation_terms.specs.Log.{Holds, Cites, CitesOnlyNamed, ListsShortOnly}
-use Rattle.refutation_terms.specs.Escape.{ComesFirst}
 use Rattle.refutation_terms.specs.LogText.{RawLine, raw_fields, line_text, no_turn_text, line_of, IsInRange}
 use Rattle.refutation_terms.specs.Verdict.{IsLeast, IsUnnamed, ListsLong, IsPlainLeaf, Escapes, SpellsNothing, SpellsUnknown, Spells, TreeCause, SpellsTurn, SpellsNoTurn, SpellsNoOpening, TurnCause, RulesCause, VersionCause, GoalCause, ExtraCause}
 use Rattle.refutation_terms.specs.TextLaws.{IsWritable, HasNames}
 use Rattle.rwsp_text.proofs.LineLaws.{same_words}
 use Rattle.refutation_terms.proofs.LineTables.{turn_fields, turn_words, no_turn_fields, no_turn_words, turn_same, raw_words, raw_same}
-use Rattle.refutation_terms.proofs.Sound.{too_light}
+pub use Rattle.refutation_terms.proofs.LeafLaws.{first_same}
+use Rattle.refutation_terms.proofs.LeafLaws.{leaf_escapes_same, escaped_leaf_not_holding, wordless_lists_none, wordless_not_escaped, leaf_long_not_short}
 
 least_same : (A : ℕ → Type 0) (k m : ℕ) → IsLeast A k → IsLeast A m → k ≡ m
 least_same A k m a b = let x : k ≤ m = a.1 m b.0 in let y : m ≤ k = b.1 k a.0 in omega (arith, x, y)
@@ -45,28 +41,9 @@ not_unknown P goal counts bytes a w sa u =
     let same : sa.0 ≡ u.0 = lines_same P goal counts sa.0 u.0 w (sym sa.1.spelled ∙ u.1.spelled) sa.1.in_range u.1.in_range in
     let clash : Some a ≡ None = sym sa.2 ∙ ap (line_of P) same ∙ u.2 in cc
 
--- the words that show an escape are one
-pub first_same : (u v : List Symbol) → ComesFirst u v → ComesFirst v u → u ≡ v
-first_same [] [] a b = refl
-first_same [] (y ∷ v) a b = absurd b
-first_same (x ∷ u) [] a b = absurd a
-first_same (x ∷ u) (y ∷ v) (inl a) (inl b) = absurd (omega (arith, a, b))
-first_same (x ∷ u) (y ∷ v) (inl a) (inr b) = let e : y.number ≡ x.number = ap (λ (z : Symbol). z.number) b.0 in absurd (omega (arith, a, e))
-first_same (x ∷ u) (y ∷ v) (inr a) (inl b) = let e : x.number ≡ y.number = ap (λ (z : Symbol). z.number) a.0 in absurd (omega (arith, b, e))
-first_same (x ∷ u) (y ∷ v) (inr a) (inr b) =
-    let head : x ≡ y = a.0 in
-    let rest : u ≡ v = first_same u v a.1 b.1 in
-    let whole : x ∷ u ≡ y ∷ v = cc in whole
-
 escapes_same : (P : Instance) (goal : Option ℕ) (D : Domains) (line : Line) (u v : List Symbol) → Escapes P goal D line u → Escapes P goal D line v → u ≡ v
-escapes_same P goal D (Closing (Words p R (Dead len))) u v a b = first_same u v (a.least v b.clean) (b.least u a.clean)
-escapes_same P goal D (Closing (Words p R (Light turns reward y))) u v a b = first_same u v (a.0.least v b.0.heavy) (b.0.least u a.0.heavy)
-escapes_same P goal D (Closing (Window number p len)) u v a b = absurd a
-escapes_same P goal D (Closing (Day j x over)) u v a b = absurd a
-escapes_same P goal D (Closing Few) u v a b = absurd a
-escapes_same P goal D (Closing (Blocks x)) u v a b = absurd a
-escapes_same P goal D (Split p x) u v a b = absurd a
-escapes_same P goal D Unfinished u v a b = absurd a
+escapes_same P goal D (Closing leaf) u v a b = leaf_escapes_same P goal D leaf u v a b
+escapes_same P goal D line u v a b = absurd a
 
 -- an idle split
 abbrev pub IsIdleLine : Instance → Domains → Line → Type 0
@@ -99,50 +76,24 @@ idle_not_escaped P goal D (Split p x) u i l = l
 idle_not_escaped P goal D leaf u i l = absurd i
 
 plain_lists_none : (P : Instance) (line : Line) (k : ℕ) → IsPlainLeaf line → ListsLong P line k → ⊥
-plain_lists_none P (Closing (Words p R claim)) k i l = i
-plain_lists_none P (Closing (Window number p len)) k i l = l
-plain_lists_none P (Closing (Day j x over)) k i l = l
-plain_lists_none P (Closing Few) k i l = l
-plain_lists_none P (Closing (Blocks x)) k i l = l
-plain_lists_none P (Split p x) k i l = i
-plain_lists_none P Unfinished k i l = i
+plain_lists_none P (Closing leaf) k i l = wordless_lists_none P leaf k i l
+plain_lists_none P line k i l = i
 
 plain_not_escaped : (P : Instance) (goal : Option ℕ) (D : Domains) (line : Line) (u : List Symbol) → IsPlainLeaf line → Escapes P goal D line u → ⊥
-plain_not_escaped P goal D (Closing (Words p R claim)) u i l = i
-plain_not_escaped P goal D (Closing (Window number p len)) u i l = l
-plain_not_escaped P goal D (Closing (Day j x over)) u i l = l
-plain_not_escaped P goal D (Closing Few) u i l = l
-plain_not_escaped P goal D (Closing (Blocks x)) u i l = l
-plain_not_escaped P goal D (Split p x) u i l = i
-plain_not_escaped P goal D Unfinished u i l = i
+plain_not_escaped P goal D (Closing leaf) u i l = wordless_not_escaped P goal D leaf u i l
+plain_not_escaped P goal D line u i l = i
 
 pub long_not_short : (P : Instance) (line : Line) (k : ℕ) → ListsShortOnly P line → ListsLong P line k → ⊥
-long_not_short P (Closing (Words p R claim)) k i l = l.3 (i l.0 (k, l.2, l.1))
-long_not_short P (Closing (Window number p len)) k i l = l
-long_not_short P (Closing (Day j x over)) k i l = l
-long_not_short P (Closing Few) k i l = l
-long_not_short P (Closing (Blocks x)) k i l = l
-long_not_short P (Split p x) k i l = l
-long_not_short P Unfinished k i l = l
+long_not_short P (Closing leaf) k i l = leaf_long_not_short P leaf k i l
+long_not_short P line k i l = l
 
 pub idle_not_holding : (P : Instance) (goal : Option ℕ) (D : Domains) (line : Line) → IsIdleLine P D line → Holds P goal D line → ⊥
 idle_not_holding P goal D (Split p x) i h = let clash : true ≡ false = sym i ∙ h in cc
 idle_not_holding P goal D leaf i h = absurd i
 
--- a claim of words that a word escapes isn't true
-claim_escaped : (P : Instance) (goal : Option ℕ) (D : Domains) (p : ℕ) (R : List ℕ) (claim : WordClaim) (u : List Symbol) → WordsEscape P goal D p R claim u → WordsHold P goal D p R claim → ⊥
-claim_escaped P goal D p R (Dead len) u e h = h u e.clean.long e.clean.over e.clean.clean
-claim_escaped P goal D p R (Light turns reward y) u e h =
-    too_light (worth P goal y reward p u) (pos turns *ℤ owed P goal y reward) (h u e.0.heavy.clean.long e.0.heavy.clean.over e.0.heavy.clean.clean) e.1
-
 pub escaped_not_holding : (P : Instance) (goal : Option ℕ) (D : Domains) (line : Line) (u : List Symbol) → Escapes P goal D line u → Holds P goal D line → ⊥
-escaped_not_holding P goal D (Closing (Words p R claim)) u e h = claim_escaped P goal D p R claim u e h
-escaped_not_holding P goal D (Closing (Window number p len)) u e h = e
-escaped_not_holding P goal D (Closing (Day j x over)) u e h = e
-escaped_not_holding P goal D (Closing Few) u e h = e
-escaped_not_holding P goal D (Closing (Blocks x)) u e h = e
-escaped_not_holding P goal D (Split p x) u e h = e
-escaped_not_holding P goal D Unfinished u e h = e
+escaped_not_holding P goal D (Closing leaf) u e h = escaped_leaf_not_holding P goal D leaf u e h
+escaped_not_holding P goal D line u e h = e
 
 open_cites_none : (P : Instance) (line : Line) (r : Rule) → line ≡ Unfinished → Cites P line r → ⊥
 open_cites_none P line r e c = subst (λ l. Cites P l r) e c

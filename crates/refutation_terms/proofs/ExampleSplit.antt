@@ -29,7 +29,7 @@ use Rattle.refutation_terms.specs.Sharp.{SomeWindowHolds, SomeDayHolds, NoWordHa
 use Rattle.refutation_terms.specs.Examples.{from_to, singles, short_rules, odd_cycle, odd_log, off, shift_D}
 use Rattle.refutation_terms.proofs.Tests.{left_of}
 use Rattle.refutation_terms.proofs.Named.{named-IsRule}
-use Rattle.refutation_terms.proofs.Sound.{too_light}
+use Rattle.refutation_terms.proofs.Weighing.{too_light}
 use Rattle.refutation_terms.proofs.Weighing.{window_weighs_enough}
 use Rattle.refutation_terms.proofs.ExampleSharp.{one_shift_is, block_rules_are_short}
 

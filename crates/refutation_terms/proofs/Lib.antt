@@ -4,7 +4,7 @@ pub mod Sides
 pub mod Trees
 pub mod TreeDomains
 pub mod Counts
-pub mod SameDomains
+pub mod SameCells
 pub mod Alone
 pub mod Sums
 pub mod Weighing
@@ -12,6 +12,8 @@ pub mod Turning
 pub mod FreeCounts
 pub mod CyclicCounts
 pub mod Blocks
+pub mod LeafLaws
+pub mod SameDomains
 pub mod Named
 pub mod Sound
 pub mod AsSaid

@@ -1,116 +1,23 @@
--- What is said of domains rests on their positions alone.
-use Rattle.std.proofs.Common.{◌≡◌, ℕ, ◌+◌, ◌-◌, ◌*◌, ◌%◌, ◌<◌, List, [], ◌∷◌, ap, sym, ◌∙◌, subst, arith, Bool, true, false, IsTrue, ◌&&◌, ◌||◌, ◌==◌, not, Option, Some, None}
-use Rattle.std.specs.Prelude.{ℤ, pos, ◌<ℤ◌}
-use Rattle.std.specs.List.{range_with_len, list_all}
-use Rattle.std.proofs.Math.Path.{fun_ext}
+-- What lines say under domains rests on the positions of the domains alone.
+use Rattle.std.proofs.Common.{ℕ, ◌<◌, List, sym, ◌∙◌, Bool, Option}
 use Rattle.rwsp_terms.specs.declared.data.Symbol.{Symbol}
-use Rattle.rwsp_terms.specs.Instance.{Instance, cells, shift_count, IsDay, least, greatest}
-use Rattle.rwsp_terms.proofs.Counting.{count_same}
+use Rattle.rwsp_terms.specs.Instance.{Instance, cells}
 use Rattle.refutation_terms.specs.declared.lines.Line.{Line}
 use Rattle.refutation_terms.specs.declared.lines.Line.TheVariants.{Split, Unfinished, Closing}
-use Rattle.refutation_terms.specs.declared.lines.Leaf.TheVariants.{Window, Day, Few, Words, Blocks}
-use Rattle.refutation_terms.specs.declared.lines.WordClaim.{WordClaim}
-use Rattle.refutation_terms.specs.declared.lines.WordClaim.TheVariants.{Dead, Light}
 use Rattle.refutation_terms.specs.declared.lines.Opening.TheVariants.{Full}
-use Rattle.refutation_terms.specs.Word.{Domains, AreSame, Over}
-use Rattle.refutation_terms.specs.WordsLeaf.{WordsHold, worth}
-use Rattle.refutation_terms.specs.FewLeaf.{may_be_free, HasTooFewFree}
-use Rattle.refutation_terms.specs.DayLeaf.{is_only, fixed, possible}
-use Rattle.refutation_terms.specs.Escape.{IsCleanOver, IsHeaviestBy, IsLeastHeaviestBy}
-use Rattle.refutation_terms.specs.Tree.{is_idle}
+use Rattle.refutation_terms.specs.Word.{Domains, AreSame}
 use Rattle.refutation_terms.specs.Log.{Holds, LineFits, GoalFits}
 use Rattle.refutation_terms.specs.Verdict.{Escapes}
-use Rattle.refutation_terms.proofs.Counts.{in_column}
-
-pub turned_round : (P : Instance) (D E : Domains) → AreSame P D E → AreSame P E D
-turned_round P D E same p x inside = sym (same p x inside)
-
--- by the domain of one position
-same_only : (P : Instance) (D E : Domains) (p x : ℕ) → p < cells P → AreSame P D E → is_only P D p x ≡ is_only P E p x
-same_only P D E p x inside same =
-    let test : (ℕ → Bool) → Bool = λ f. f x && list_all (λ z. (z == x) || not (f z)) (range_with_len 0 (shift_count P + 1)) in
-    let here : D p ≡ E p = fun_ext (λ z. same p z inside) in
-    ap test here
-
-pub same_idle : (P : Instance) (D E : Domains) (p x : ℕ) → p < cells P → AreSame P D E → is_idle P D p x ≡ is_idle P E p x
-same_idle P D E p x inside same =
-    ap (λ b. not b || is_only P D p x) (same p x inside) ∙ ap (λ b. not (E p x) || b) (same_only P D E p x inside same)
-
--- by counts over the weeks
-same_fixed : (P : Instance) (D E : Domains) (j x : ℕ) → IsDay P j → AreSame P D E → fixed P D j x ≡ fixed P E j x
-same_fixed P D E j x day same =
-    count_same (λ i. is_only P D (i * P.days + (j - 1)) x) (λ i. is_only P E (i * P.days + (j - 1)) x) 0 P.weeks
-    (λ i le less. same_only P D E (i * P.days + (j - 1)) x (in_column P i j (omega (arith, less)) day) same)
-
-same_possible : (P : Instance) (D E : Domains) (j x : ℕ) → IsDay P j → AreSame P D E → possible P D j x ≡ possible P E j x
-same_possible P D E j x day same =
-    count_same (λ i. D (i * P.days + (j - 1)) x) (λ i. E (i * P.days + (j - 1)) x) 0 P.weeks
-    (λ i le less. same (i * P.days + (j - 1)) x (in_column P i j (omega (arith, less)) day))
-
--- by words over them
-pub same_over : (P : Instance) (D E : Domains) (p : ℕ) (u : List Symbol) → 0 < cells P → AreSame P D E → Over P D p u → Over P E p u
-same_over P D E p [] some same over = tt
-same_over P D E p (x ∷ u) some same over =
-    let inside : p % cells P < cells P = omega (arith, some) in
-    (subst IsTrue (same (p % cells P) x.number inside) over.0, same_over P D E (p + 1) u some same over.1)
-
-same_clean : (P : Instance) (D E : Domains) (p len : ℕ) (R : List ℕ) (u : List Symbol) → 0 < cells P → AreSame P D E → IsCleanOver P D p len R u → IsCleanOver P E p len R u
-same_clean P D E p len R u some same h = record { long = h.long; over = same_over P D E p u some same h.over; clean = h.clean }
-
-same_heaviest : (P : Instance) (D E : Domains) (p len : ℕ) (R : List ℕ) (weighs : List Symbol → ℤ) (u : List Symbol) → 0 < cells P → AreSame P D E → IsHeaviestBy P D p len R weighs u → IsHeaviestBy P E p len R weighs u
-same_heaviest P D E p len R weighs u some same h = record {
-  clean = same_clean P D E p len R u some same h.clean;
-  heaviest = λ v c. h.heaviest v (same_clean P E D p len R v some (turned_round P D E same) c);
-}
-
-pub same_least : (P : Instance) (D E : Domains) (p len : ℕ) (R : List ℕ) (weighs : List Symbol → ℤ) (u : List Symbol) → 0 < cells P → AreSame P D E → IsLeastHeaviestBy P D p len R weighs u → IsLeastHeaviestBy P E p len R weighs u
-same_least P D E p len R weighs u some same h = record {
-  heavy = same_heaviest P D E p len R weighs u some same h.heavy;
-  least = λ v c. h.least v (same_heaviest P E D p len R weighs v some (turned_round P D E same) c);
-}
-
--- as many weeks can have their weekend off
-in_week : (P : Instance) (i d : ℕ) → P.days ≡ 7 → i < P.weeks → d < 7 → i * 7 + d < cells P
-in_week P i d days less small =
-    let within : i * P.days + (d + 1 - 1) < cells P = in_column P i (d + 1) (omega (arith, less)) (omega arith, omega (arith, days, small)) in
-    subst (λ n. i * n + d < cells P) days (omega (arith, within))
-
-same_may_be_free : (P : Instance) (D E : Domains) (i : ℕ) → P.days ≡ 7 → i < P.weeks → AreSame P D E → may_be_free D i ≡ may_be_free E i
-same_may_be_free P D E i days less same =
-    ap (λ b. b && D (i * 7 + 6) 0) (same (i * 7 + 5) 0 (in_week P i 5 days less (omega arith)))
-    ∙ ap (λ b. E (i * 7 + 5) 0 && b) (same (i * 7 + 6) 0 (in_week P i 6 days less (omega arith)))
-
-same_few : (P : Instance) (goal : ℕ) (D E : Domains) → P.days ≡ 7 → AreSame P D E → HasTooFewFree P goal D → HasTooFewFree P goal E
-same_few P goal D E days same h =
-    subst (λ n. n < goal) (count_same (may_be_free D) (may_be_free E) 0 P.weeks (λ i le less. same_may_be_free P D E i days (omega (arith, less)) same)) h
-
--- the claim of a leaf of words is true under the other too
-same_claim : (P : Instance) (goal : Option ℕ) (D E : Domains) (p : ℕ) (R : List ℕ) (claim : WordClaim) → 0 < cells P → AreSame P D E → WordsHold P goal D p R claim → WordsHold P goal E p R claim
-same_claim P goal D E p R (Dead len) some same h = λ u long over. h u long (same_over P E D p u some (turned_round P D E same) over)
-same_claim P goal D E p R (Light turns reward y) some same h = λ u long over. h u long (same_over P E D p u some (turned_round P D E same) over)
+pub use Rattle.refutation_terms.proofs.SameCells.{turned_round, same_idle, same_over, same_least}
+use Rattle.refutation_terms.proofs.LeafLaws.{leaf_holds_same, leaf_escapes_too}
 
 -- a line that holds under the one holds under the other
 pub same_holds : (P : Instance) (goal : Option ℕ) (counts : Bool) (D E : Domains) (line : Line) → 0 < cells P → GoalFits P Full goal → LineFits P goal counts line → AreSame P D E → Holds P goal D line → Holds P goal E line
 same_holds P goal counts D E (Split p x) some weeks fits same h = sym (same_idle P D E p x.number fits.0 same) ∙ h
-same_holds P goal counts D E (Closing (Window rule p len)) some weeks fits same h = (h.0, h.1, λ u long over. h.2 u long (same_over P E D p u some (turned_round P D E same) over))
-same_holds P goal counts D E (Closing (Day j x true)) some weeks fits same h = subst (λ n. greatest P x.number j <ℤ pos n) (same_fixed P D E j x.number fits.0 same) h
-same_holds P goal counts D E (Closing (Day j x false)) some weeks fits same h = subst (λ n. pos n <ℤ least P x.number j) (same_possible P D E j x.number fits.0 same) h
-same_holds P goal counts D E (Closing (Words p R claim)) some weeks fits same h = same_claim P goal D E p R claim some same h
-same_holds P None counts D E (Closing Few) some weeks fits same h = h
-same_holds P (Some goal) counts D E (Closing Few) some weeks fits same h = same_few P goal D E weeks.1 same h
-same_holds P goal counts D E (Closing (Blocks x)) some weeks fits same h = h
+same_holds P goal counts D E (Closing leaf) some weeks fits same h = leaf_holds_same P goal counts D E leaf some weeks fits same h
 same_holds P goal counts D E Unfinished some weeks fits same h = h
 
 -- and a word that escapes it under the one escapes it under the other
 pub same_escapes : (P : Instance) (goal : Option ℕ) (D E : Domains) (line : Line) (w : List Symbol) → 0 < cells P → AreSame P D E → Escapes P goal D line w → Escapes P goal E line w
-same_escapes P goal D E (Split p x) w some same h = h
-same_escapes P goal D E (Closing (Window rule p len)) w some same h = h
-same_escapes P goal D E (Closing (Day j x over)) w some same h = h
-same_escapes P goal D E (Closing (Words p R (Dead len))) w some same h = record {
-  clean = same_clean P D E p len R w some same h.clean;
-  least = λ v c. h.least v (same_clean P E D p len R v some (turned_round P D E same) c);
-}
-same_escapes P goal D E (Closing (Words p R (Light turns reward y))) w some same h = (same_least P D E p (turns * cells P) R (worth P goal y reward p) w some same h.0, h.1)
-same_escapes P goal D E (Closing Few) w some same h = h
-same_escapes P goal D E (Closing (Blocks x)) w some same h = h
-same_escapes P goal D E Unfinished w some same h = h
+same_escapes P goal D E (Closing leaf) w some same h = leaf_escapes_too P goal D E leaf w some same h
+same_escapes P goal D E line w some same h = absurd h

@@ -1,40 +1,27 @@
 -- A log that passes leaves no roster, or with a goal none that has as many free weekends.
-use Rattle.std.proofs.Common.{◌≡◌, ℕ, ◌-◌, ◌*◌, ◌<◌, ◌≤◌, List, length, get_or, refl, ap, sym, ◌∙◌, subst, arith, inl, inr, Bool, true, false, IsTrue, ◌==◌, pos, ℤ, Some, None, Option}
-use Rattle.std.specs.Prelude.{◌<ℤ◌, ◌≤ℤ◌, ◌*ℤ◌, nat_le}
-use Rattle.std.proofs.lemmas.Int.{ints}
+use Rattle.std.proofs.Common.{◌≡◌, ℕ, ◌-◌, ◌<◌, ◌≤◌, List, get_or, refl, ap, sym, ◌∙◌, subst, arith, inl, inr, Bool, IsTrue, ◌==◌, Some, None, Option}
+use Rattle.std.specs.Prelude.{nat_le}
 use Rattle.std.proofs.lemmas.Bool.{eqb-true, eq-eqb, le-leb}
 use Rattle.rwsp_terms.specs.declared.data.Symbol.{Symbol}
-use Rattle.rwsp_terms.specs.declared.data.Weight.{Weight}
 use Rattle.rwsp_terms.specs.declared.data.Rule.{Rule}
 use Rattle.rwsp_terms.specs.declared.data.Rule.TheVariants as TheRules
-use Rattle.rwsp_terms.specs.Instance.{Instance, cells, shift_count, IsDay, off_symbol}
-use Rattle.rwsp_terms.specs.Window.{Bad, window}
+use Rattle.rwsp_terms.specs.Instance.{Instance, cells, shift_count, off_symbol}
 use Rattle.rwsp_terms.specs.Roster.{IsRoster, MeetsDay}
 use Rattle.rwsp_terms.specs.Rules.{Names, Meets}
-use Rattle.rwsp_terms.proofs.Windows.{length-window}
 use Rattle.refutation_terms.specs.declared.lines.Line.{Line}
 use Rattle.refutation_terms.specs.declared.lines.Line.TheVariants.{Split, Unfinished, Closing}
-use Rattle.refutation_terms.specs.declared.lines.Leaf.TheVariants.{Window, Day, Few, Words, Blocks}
-use Rattle.refutation_terms.specs.declared.lines.WordClaim.{WordClaim}
-use Rattle.refutation_terms.specs.declared.lines.WordClaim.TheVariants.{Dead, Light}
 use Rattle.refutation_terms.specs.declared.lines.Opening.{Opening}
 use Rattle.refutation_terms.specs.declared.lines.Opening.TheVariants.{Full, Turned}
 use Rattle.refutation_terms.specs.Word.{Domains, Within, turned}
 use Rattle.refutation_terms.specs.Tree.{IsLeaf, Tree, Leaf, Node, First, Second, narrowed, opening, opening_leaves}
 use Rattle.refutation_terms.specs.Log.{Log, Holds, LineFits, OpeningFits, GoalFits, Cites, OpeningCites, IsAllowed, Passes}
-use Rattle.refutation_terms.specs.Ranges.{HasWeight}
-use Rattle.refutation_terms.specs.WordsLeaf.{RewardFits, WordsFit, WordsCite, WordsHold, worth, owed}
 use Rattle.refutation_terms.specs.Laws.{HasGoal}
 use Rattle.refutation_terms.proofs.Tests.{both, where_passed}
-use Rattle.refutation_terms.proofs.Windows.{over-window, clean-window, no_bad_met}
 use Rattle.refutation_terms.proofs.Sides.{in_either_side}
 use Rattle.refutation_terms.proofs.TreeDomains.{EachLine, EachInOrder, in_tree}
-use Rattle.refutation_terms.proofs.Counts.{met_not_too_many, met_not_too_few}
-use Rattle.refutation_terms.proofs.Weighing.{window_weighs_enough}
-use Rattle.refutation_terms.proofs.FreeCounts.{few_leaves_none, window_is_free_enough}
 use Rattle.refutation_terms.proofs.Turning.{turned-IsRoster, turned-meets, turned_to, demanded_somewhere}
 use Rattle.refutation_terms.proofs.Named.{named-IsRule}
-use Rattle.refutation_terms.proofs.Blocks.{blocks_leave_none}
+use Rattle.refutation_terms.proofs.LeafLaws.{leaf_leaves_none}
 
 -- a line that holds for the goal or none, fits the problem and cites named rules
 pub record IsProved (P : Instance) (goal : Option ℕ) (counts : Bool) (named : List ℕ) (D : Domains) (line : Line) : Type 0 where
@@ -42,58 +29,15 @@ pub record IsProved (P : Instance) (goal : Option ℕ) (counts : Bool) (named : 
   pub fits : LineFits P goal counts line
   pub cited : (r : Rule) → Cites P line r → Names P named r
 
-pub too_light : (w t : ℤ) → w <ℤ t → t ≤ℤ w → ⊥
-too_light w t a b = omega (arith, ints)
-
-cells_some : (P : Instance) (p : ℕ) → p < cells P → 0 < cells P
-cells_some P p lt = omega (arith, lt)
-
--- a word of a whole number of turns of a roster that meets the demand and the goal weighs what is owed
-weighs_enough : (P : Instance) (o : Opening) (goal : Option ℕ) (y : List Weight) (s : List Symbol) (p turns reward : ℕ) → GoalFits P o goal → HasGoal goal s → RewardFits goal p reward → IsRoster P s → ((j : ℕ) → IsDay P j → HasWeight y j → MeetsDay P j s) → (pos turns *ℤ owed P goal y reward) ≤ℤ worth P goal y reward p (window s p (turns * cells P))
-weighs_enough P o None y s p turns reward fits has is roster days = window_weighs_enough P y s p turns roster days
-weighs_enough P o (Some goal) y s p turns reward fits has is roster days =
-    let A : ℕ → Type 0 = λ q. (pos turns *ℤ owed P (Some goal) y reward) ≤ℤ worth P (Some goal) y reward q (window s q (turns * cells P)) in
-    subst A (sym is.0) (window_is_free_enough P y s turns reward goal fits.1 roster days has)
-
--- a true claim of words leaves no roster
-words_leave_none : (P : Instance) (o : Opening) (goal : Option ℕ) (named : List ℕ) (D : Domains) (s : List Symbol) (p : ℕ) (R : List ℕ) (claim : WordClaim) → GoalFits P o goal → HasGoal goal s → Meets P named s → Within P D s → WordsFit P goal p R claim → ((r : Rule) → WordsCite P R claim r → Names P named r) → WordsHold P goal D p R claim → ⊥
-words_leave_none P o goal named D s p R (Dead len) goal_fits has met w fits cited holds =
-    let some : 0 < cells P = cells_some P p fits.0 in
-    let meets_R : Meets P R s = record { is_roster = met.is_roster; rules = λ r n. met.rules r (cited r n) } in
-    holds (window s p len) (length-window s p len) (over-window P D s p len some w) (clean-window P R s p len some meets_R)
-words_leave_none P o goal named D s p R (Light turns reward y) goal_fits has met w fits cited holds =
-    let some : 0 < cells P = cells_some P p fits.0 in
-    let len = turns * cells P in
-    let meets_R : Meets P R s = record { is_roster = met.is_roster; rules = λ r n. met.rules r (cited r (inl n)) } in
-    let days : (j : ℕ) → IsDay P j → HasWeight y j → MeetsDay P j s = λ j day weighs. met.rules (TheRules.Day j) (cited (TheRules.Day j) (inr (j, weighs, refl))) in
-    too_light (worth P goal y reward p (window s p len)) (pos turns *ℤ owed P goal y reward)
-    (holds (window s p len) (length-window s p len) (over-window P D s p len some w) (clean-window P R s p len some meets_R))
-    (weighs_enough P o goal y s p turns reward goal_fits has fits.4 w.is_roster days)
-
 -- a leaf leaves no roster, or with a goal none that has as many free weekends
-leaf_leaves_none : (P : Instance) (o : Opening) (goal : Option ℕ) (counts : Bool) (named : List ℕ) (D : Domains) (s : List Symbol) (line : Line) → GoalFits P o goal → HasGoal goal s → Meets P named s → Within P D s → IsLeaf line → IsProved P goal counts named D line → ⊥
-leaf_leaves_none P o goal counts named D s (Split p x) fits has met w leaf h = leaf
-leaf_leaves_none P o goal counts named D s (Closing (Window number p len)) fits has met w leaf h =
-    let some : 0 < cells P = cells_some P p h.fits.2 in
-    let blocked = h.holds in
-    let r = blocked.0 in
-    let is_named : Names P named r = h.cited r (number, (0, omega arith, refl), blocked.1) in
-    let bad : Bad P r (window s p len) = blocked.2 (window s p len) (length-window s p len) (over-window P D s p len some w) in
-    let positive : 0 < length s = omega (arith, some, w.is_roster.long) in
-    no_bad_met P r s positive (met.rules r is_named) p len bad
-leaf_leaves_none P o goal counts named D s (Closing (Day j x true)) fits has met w leaf h =
-    met_not_too_many P D s j x.number h.fits.0 h.fits.1 w (met.rules (TheRules.Day j) (h.cited (TheRules.Day j) refl)) h.holds
-leaf_leaves_none P o goal counts named D s (Closing (Day j x false)) fits has met w leaf h =
-    met_not_too_few P D s j x.number h.fits.0 h.fits.1 w (met.rules (TheRules.Day j) (h.cited (TheRules.Day j) refl)) h.holds
-leaf_leaves_none P o goal counts named D s (Closing (Words p R claim)) fits has met w leaf h = words_leave_none P o goal named D s p R claim fits has met w h.fits h.cited h.holds
-leaf_leaves_none P o None counts named D s (Closing Few) fits has met w leaf h = h.holds
-leaf_leaves_none P o (Some goal) counts named D s (Closing Few) fits has met w leaf h = few_leaves_none P goal D s fits.1 has w h.holds
-leaf_leaves_none P o goal counts named D s (Closing (Blocks x)) fits has met w leaf h = blocks_leave_none P x s met.is_roster h.fits.1 (λ r cites. met.rules r (h.cited r cites)) h.holds
-leaf_leaves_none P o goal counts named D s Unfinished fits has met w leaf h = h.holds
+line_leaves_none : (P : Instance) (o : Opening) (goal : Option ℕ) (counts : Bool) (named : List ℕ) (D : Domains) (s : List Symbol) (line : Line) → GoalFits P o goal → HasGoal goal s → Meets P named s → Within P D s → IsLeaf line → IsProved P goal counts named D line → ⊥
+line_leaves_none P o goal counts named D s (Split p x) fits has met w leaf h = leaf
+line_leaves_none P o goal counts named D s (Closing leaf) fits has met w is h = leaf_leaves_none P o goal counts named D s leaf fits has met w h.fits h.cited h.holds
+line_leaves_none P o goal counts named D s Unfinished fits has met w leaf h = h.holds
 
 -- a tree leaves no roster within its domains
 tree_leaves_none : (P : Instance) (o : Opening) (goal : Option ℕ) (counts : Bool) (named : List ℕ) (s : List Symbol) → GoalFits P o goal → HasGoal goal s → Meets P named s → (t : Tree) (D : Domains) → EachLine (IsProved P goal counts named) D t → Within P D s → ⊥
-tree_leaves_none P o goal counts named s fits has met (Leaf line leaf) D h w = leaf_leaves_none P o goal counts named D s line fits has met w leaf h
+tree_leaves_none P o goal counts named s fits has met (Leaf line leaf) D h w = line_leaves_none P o goal counts named D s line fits has met w leaf h
 tree_leaves_none P o goal counts named s fits has met (Node p x a b) D h w =
     elim (in_either_side P D p x s w) [
       | inl first ↦ tree_leaves_none P o goal counts named s fits has met a (narrowed D (Split p x) First) h.1 first

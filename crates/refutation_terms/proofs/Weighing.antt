@@ -1,6 +1,6 @@
 -- What a window of whole turns weighs.
 use Rattle.std.proofs.Common.{◌≡◌, ◌≢◌, ◌⊎◌, ℕ, zero, suc, ◌+◌, ◌-◌, ◌*◌, ◌%◌, ◌<◌, ◌≤◌, List, length, get_or, refl, ap, sym, ◌∙◌, subst, arith, inl, inr, ◌==◌, count_by, pos, negsuc, ℤ}
-use Rattle.std.specs.Prelude.{◌≤ℤ◌, ◌+ℤ◌, ◌*ℤ◌}
+use Rattle.std.specs.Prelude.{◌<ℤ◌, ◌≤ℤ◌, ◌+ℤ◌, ◌*ℤ◌}
 use Rattle.std.specs.List.{range_with_len}
 use Rattle.std.specs.Int.{int_min}
 use Rattle.std.proofs.lemmas.Int.{ints}
@@ -17,6 +17,10 @@ use Rattle.refutation_terms.specs.Word.{weight, int_sum_by, least_weight, total}
 use Rattle.refutation_terms.specs.Laws.{MeetsWeighedDays, HasSingleNumbers}
 use Rattle.refutation_terms.proofs.Counts.{in_column}
 use Rattle.refutation_terms.proofs.Sums.{sum_same, sum_le, sum_shift, sum_periods, sum_rows, sum_exchange, sum_by_number, times_pos_le, min_between, min_same}
+
+-- what weighs less than is owed doesn't weigh as much
+pub too_light : (w t : ℤ) → w <ℤ t → t ≤ℤ w → ⊥
+too_light w t a b = omega (arith, ints)
 
 -- what the cell at a place weighs
 abbrev pub cell_weight : Instance → List Weight → List Symbol → ℕ → ℤ
