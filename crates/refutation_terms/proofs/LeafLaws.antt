@@ -1,16 +1,22 @@
--- The laws of leaves, kind by kind: a leaf leaves no roster, and what it says of domains rests on their positions
--- alone; only a leaf of words lists rules or is escaped, by one word, and then it doesn't hold.
-use Rattle.std.proofs.Common.{◌≡◌, ℕ, ◌*◌, ◌<◌, List, [], ◌∷◌, length, refl, ap, sym, subst, arith, inl, inr, Bool, true, false, Some, None, Option, pos}
-use Rattle.std.specs.Prelude.{◌<ℤ◌, ◌≤ℤ◌, ◌*ℤ◌}
+-- The laws of leaves, kind by kind: a leaf leaves no roster; what it rests on are rules of the problem, and what it says
+-- of domains rests on their positions alone; only a leaf of words lists rules or is escaped, by one word, and then it
+-- doesn't hold.
+use Rattle.std.proofs.Common.{◌≡◌, ℕ, ◌*◌, ◌<◌, List, [], ◌∷◌, length, refl, ap, sym, ◌∙◌, subst, arith, inl, inr, Bool, true, false, Some, None, Option, pos}
+use Rattle.std.specs.Prelude.{◌≢◌, ◌≤◌, ◌==◌, ◌&&◌, zero, suc, ◌<ℤ◌, ◌≤ℤ◌, ◌*ℤ◌}
+use Rattle.std.specs.List.{AllByRecursion}
+use Rattle.std.proofs.lemmas.Bool.{cases_Bool}
 use Rattle.rwsp_terms.specs.declared.data.Symbol.{Symbol}
 use Rattle.rwsp_terms.specs.declared.data.Weight.{Weight}
 use Rattle.rwsp_terms.specs.declared.data.Rule.{Rule}
 use Rattle.rwsp_terms.specs.declared.data.Rule.TheVariants as TheRules
-use Rattle.rwsp_terms.specs.Instance.{Instance, cells, IsDay, least, greatest}
+use Rattle.rwsp_terms.specs.Instance.{Instance, cells, shift_count, IsDay, IsSymbol, least, greatest}
 use Rattle.rwsp_terms.specs.Window.{Bad, window}
-use Rattle.rwsp_terms.specs.Roster.{IsRoster, MeetsDay}
+use Rattle.rwsp_terms.specs.Roster.{IsRule, IsRoster, MeetsDay}
 use Rattle.rwsp_terms.specs.Rules.{Names, Meets}
+use Rattle.rwsp_terms.specs.Weights.{weight_at}
 use Rattle.rwsp_terms.proofs.Windows.{length-window}
+use Rattle.rwsp_terms.proofs.Elements.{all_to}
+use Rattle.rwsp_terms.proofs.Ascending.{here_from_test, weight_past}
 use Rattle.refutation_terms.specs.declared.lines.Leaf.{Leaf}
 use Rattle.refutation_terms.specs.declared.lines.Leaf.TheVariants.{Window, Day, Few, Words, Blocks}
 use Rattle.refutation_terms.specs.declared.lines.WordClaim.{WordClaim}
@@ -21,9 +27,11 @@ use Rattle.refutation_terms.specs.Word.{Domains, Within, AreSame}
 use Rattle.refutation_terms.specs.Ranges.{HasWeight}
 use Rattle.refutation_terms.specs.Escape.{ComesFirst}
 use Rattle.refutation_terms.specs.WordsLeaf.{RewardFits, WordsFit, WordsCite, WordsHold, WordsEscape, worth, owed}
+use Rattle.refutation_terms.specs.BlocksLeaf.{IsBlockRule}
 use Rattle.refutation_terms.specs.Leaves.{LeafFits, LeafCites, LeafHolds, LeafListsShort, LeafListsLong, LeafEscapes, IsWordless}
 use Rattle.refutation_terms.specs.Log.{GoalFits}
 use Rattle.refutation_terms.specs.Laws.{HasGoal}
+use Rattle.refutation_terms.proofs.Named.{named-IsRule}
 use Rattle.refutation_terms.proofs.Windows.{over-window, clean-window, no_bad_met}
 use Rattle.refutation_terms.proofs.SameCells.{turned_round, same_fixed, same_possible, same_over, same_clean, same_least, same_few}
 use Rattle.refutation_terms.proofs.Counts.{met_not_too_many, met_not_too_few}
@@ -74,6 +82,38 @@ leaf_leaves_none P o goal counts named D s (Words p R claim) goal_fits has met w
 leaf_leaves_none P o None counts named D s Few goal_fits has met w fits cited holds = holds
 leaf_leaves_none P o (Some goal) counts named D s Few goal_fits has met w fits cited holds = few_leaves_none P goal D s goal_fits.1 has w holds
 leaf_leaves_none P o goal counts named D s (Blocks x) goal_fits has met w fits cited holds = blocks_leave_none P x s met.is_roster fits.1 (λ r cites. met.rules r (cited r cites)) holds
+
+-- a day that weighs something is one of the problem's
+weighed_is_day : (P : Instance) (y : List Weight) (j x : ℕ) → AllByRecursion (λ e. IsDay P e.day × IsSymbol P e.symbol) y → weight_at y j x ≢ pos 0 → IsDay P j
+weighed_is_day P [] j x h ne = absurd (ne refl)
+weighed_is_day P (e ∷ y) j x h ne =
+    elim (cases_Bool ((e.day == j) && (e.symbol.number == x))) [
+      | inl here ↦ subst (IsDay P) (here_from_test e j x here).0 h.0.0
+      | inr past ↦ weighed_is_day P y j x h.1 (λ z. ne (weight_past e y j x past ∙ z))
+    ]
+
+words_cite_rules : (P : Instance) (goal : Option ℕ) (p : ℕ) (R : List ℕ) (claim : WordClaim) (r : Rule) → WordsFit P goal p R claim → WordsCite P R claim r → IsRule P r
+words_cite_rules P goal p R (Dead len) r fits c = named-IsRule P R r c
+words_cite_rules P goal p R (Light turns reward y) r fits (inl c) = named-IsRule P R r c
+words_cite_rules P goal p R (Light turns reward y) r fits (inr c) =
+    subst (IsRule P) (sym c.2) (weighed_is_day P y c.0 c.1.0 (all_to (λ e. IsDay P e.day × IsSymbol P e.symbol) y fits.3.1) c.1.1)
+
+block_rules_are : (P : Instance) (n : ℕ) (r : Rule) → n ≤ shift_count P → IsBlockRule n r → IsRule P r
+block_rules_are P zero r small (inl e) = subst (IsRule P) (sym e) tt
+block_rules_are P zero r small (inr (inl e)) = subst (IsRule P) (sym e) tt
+block_rules_are P zero r small (inr (inr (inl e))) = subst (IsRule P) (sym e) tt
+block_rules_are P zero r small (inr (inr (inr e))) = subst (IsRule P) (sym e) tt
+block_rules_are P (suc n) r small (inl e) = subst (IsRule P) (sym e) (omega arith, small)
+block_rules_are P (suc n) r small (inr e) = subst (IsRule P) (sym e) (omega arith, small)
+
+-- what a leaf that fits rests on are rules of the problem
+pub leaf_cites_rules : (P : Instance) (goal : Option ℕ) (counts : Bool) (leaf : Leaf) (r : Rule) → LeafFits P goal counts leaf → LeafCites P leaf r → IsRule P r
+leaf_cites_rules P goal counts (Window number p len) r fits c = named-IsRule P (number ∷ []) r c
+leaf_cites_rules P goal counts (Day j x over) r fits c = subst (IsRule P) (sym c) fits.0
+leaf_cites_rules P goal counts (Words p R claim) r fits c = words_cite_rules P goal p R claim r fits c
+leaf_cites_rules P goal counts (Blocks x) r fits (inl c) = block_rules_are P x.number r fits.1 c
+leaf_cites_rules P goal counts (Blocks x) r fits (inr c) = subst (IsRule P) (sym c.2) c.1
+leaf_cites_rules P goal counts leaf r fits c = absurd c
 
 -- the claim of a leaf of words is true under the other too
 same_claim : (P : Instance) (goal : Option ℕ) (D E : Domains) (p : ℕ) (R : List ℕ) (claim : WordClaim) → 0 < cells P → AreSame P D E → WordsHold P goal D p R claim → WordsHold P goal E p R claim

@@ -12,9 +12,9 @@ pub mod Turning
 pub mod FreeCounts
 pub mod CyclicCounts
 pub mod Blocks
+pub mod Named
 pub mod LeafLaws
 pub mod SameDomains
-pub mod Named
 pub mod Sound
 pub mod AsSaid
 pub mod InWords
