@@ -9,7 +9,7 @@ use Rattle.rwsp_terms.specs.Window.{Bad}
 use Rattle.refutation_terms.specs.WindowLeaf.{IsBlocked}
 use Rattle.refutation_terms.specs.Word.{Over}
 use Rattle.domain_store.specs.Store.{Store, has_domain}
-use Rattle.window_rules.specs.Views.{left_in, MayStand, AreAllBad}
+use Rattle.plain_leaves.specs.Views.{left_in, MayStand, AreAllBad}
 
 over_stands : (P : Instance) (S : Store) (p : ℕ) (u : List Symbol) → length S.sets ≡ cells P → Over P (has_domain S) p u → MayStand (left_in S) p u
 over_stands P S p [] long over = tt

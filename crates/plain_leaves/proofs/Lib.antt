@@ -1,2 +1,7 @@
+mod Lying
+mod Shapes
+pub mod Words
+mod Starts
+mod Found
 pub mod Domains
 pub mod Blocked

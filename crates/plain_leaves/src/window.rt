@@ -6,9 +6,9 @@ ghost use Rattle.rwsp_terms.specs.declared.limits.TheConstants.{LONGEST_WORD};
 ghost use Rattle.refutation_terms.specs.WindowLeaf.{IsBlocked};
 ghost use Rattle.domain_store.specs.Store.{BelongsTo, has_domain};
 
+use crate::bad_length;
 use domain_store::Domains;
 use rwsp_model::{Problem, rule_at};
-use window_rules::bad_length;
 
 /// Whether the number is that of a rule for which every word of `len` days over the domains from position `p` on is
 /// bad. No word is bad for a day's rule. A word that passes a position twice may take two symbols there. Takes no

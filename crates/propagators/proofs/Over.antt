@@ -8,9 +8,9 @@ use Rattle.rwsp_terms.specs.declared.limits.TheConstants.{LONGEST_WORD}
 use Rattle.rwsp_terms.specs.Instance.{Instance, cells}
 use Rattle.rwsp_terms.specs.Rules.{rules, rule_of}
 use Rattle.domain_store.specs.Store.{Store, has_domain}
-use Rattle.window_rules.specs.declared.bad_windows.BadWindow.{BadWindow}
-use Rattle.window_rules.specs.Views.{left_in, MayStand, AreAllBad}
-use Rattle.window_rules.specs.BadWindows.{HasNoneOver, IsBadNear}
+use Rattle.plain_leaves.specs.declared.bad_windows.BadWindow.{BadWindow}
+use Rattle.plain_leaves.specs.Views.{left_in, MayStand, AreAllBad}
+use Rattle.plain_leaves.specs.BadWindows.{HasNoneOver, IsBadNear}
 use Rattle.plain_leaves.proofs.Blocked.{all_bad_blocked, blocked_all_bad}
 use Rattle.propagators.specs.Windows.{IsWindow, NoWindowOver}
 

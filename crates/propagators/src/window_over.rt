@@ -11,7 +11,7 @@ use domain_store::Domains;
 use refutation_terms::{Leaf, Line};
 use rwsp_model::{Problem, rule_at, rule_count};
 use rwsp_terms::limits::LONGEST_WORD;
-use window_rules::bad_window_over;
+use plain_leaves::bad_window_over;
 
 /// A window leaf. Rules count from 1, positions from 0.
 #[derive(Clone, Copy)]

@@ -11,7 +11,7 @@ use crate::days::day_is_met;
 use crate::place::Place;
 use rwsp_model::{Problem, Roster};
 use rwsp_terms::Rule;
-use window_rules::first_bad_window;
+use plain_leaves::first_bad_window;
 
 // The first window that breaks the rule.
 fn first_window(problem: &Problem, roster: &Roster, rule: Rule) -> Option<Place>

@@ -1,5 +1,0 @@
-mod Lying
-mod Shapes
-pub mod Words
-mod Starts
-mod Found
