@@ -5,3 +5,4 @@ mod Starts
 mod Found
 pub mod Domains
 pub mod Blocked
+mod BlockCounts
