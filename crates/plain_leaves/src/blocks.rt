@@ -3,7 +3,7 @@ ghost use Rattle.std.specs.Prelude.{◌≡◌, ◌*◌, ◌<◌, ◌≤◌, ◌�
 ghost use Rattle.rwsp_terms.specs.Instance.{IsShift, IsSymbol, cells, off_symbol};
 ghost use Rattle.rwsp_terms.specs.declared.limits.TheConstants.{GREATEST_BOUND, MOST_CELLS, MOST_DAYS, MOST_SHIFTS, MOST_WEEKS};
 ghost use Rattle.refutation_terms.specs.BlocksLeaf.{BlocksHold, NoBlocksHold, OffBlocksFit, least_days, most_days, shortest};
-ghost use Rattle.plain_leaves.specs.FirstBlocks.{IsFirstBlocks};
+ghost use Rattle.refutation_terms.specs.BlocksLeaf.{IsFirstBlocks};
 
 use rwsp_model::Problem;
 use rwsp_terms::{Bounds, Class, Symbol};

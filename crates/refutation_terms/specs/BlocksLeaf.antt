@@ -1,5 +1,5 @@
 -- A leaf that counts: no number of blocks of a symbol has as many days as the demand asks for.
-use Rattle.std.specs.Prelude.{◌≡◌, ◌⊎◌, ℕ, zero, suc, ◌+◌, ◌-◌, ◌*◌, ◌≤◌, ◌==◌, ◌&&◌, not, IsTrue, List, length, Bool, count_by, ℤ, pos, ◌≤ℤ◌}
+use Rattle.std.specs.Prelude.{◌≡◌, ◌⊎◌, ℕ, zero, suc, ◌+◌, ◌-◌, ◌*◌, ◌<◌, ◌≤◌, ◌==◌, ◌&&◌, not, IsTrue, List, length, Bool, count_by, ℤ, pos, ◌≤ℤ◌}
 use Rattle.std.specs.Int.{int_max, int_min}
 use Rattle.std.specs.List.{range_with_len}
 use Rattle.rwsp_terms.specs.declared.data.Bounds.{Bounds}
@@ -76,3 +76,13 @@ BlocksCite P x r = IsBlockRule x.number r ⊎ ((j : ℕ) × IsDay P j × (r ≡ 
 -- no leaf of this kind holds
 abbrev pub NoBlocksHold : Instance → Type 0
 NoBlocksHold P = (x : Symbol) → IsSymbol P x → BlocksHold P x → ⊥
+
+-- the one symbol is counted before the other: the shifts in their order, then the day off
+abbrev pub IsCountedBefore : Symbol → Symbol → Type 0
+IsCountedBefore y x = (0 < y.number) × ((y.number < x.number) ⊎ (x.number ≡ 0))
+
+-- the leaf of the symbol holds, and that of no symbol that is counted before it
+pub record IsFirstBlocks (P : Instance) (x : Symbol) : Type 0 where
+  pub symbol : IsSymbol P x
+  pub holds : BlocksHold P x
+  pub first : (y : Symbol) → IsSymbol P y → IsCountedBefore y x → BlocksHold P y → ⊥
