@@ -52,8 +52,10 @@ joined first second = first
 
 -- the leaves include all window and day leaves of the problem
 pub record HasPlainLeaves (P : Instance) (leaves : Store → Line → Type 0) : Type 0 where
-  pub windows : (S : Store) (number p len : ℕ) → LineFits P None (Closing (Window number p len)) → leaves S (Closing (Window number p len))
-  pub days : (S : Store) (j : ℕ) (x : Symbol) (over : Bool) → LineFits P None (Closing (Day j x over)) → leaves S (Closing (Day j x over))
+  pub windows : (S : Store) (number p len : ℕ) → LineFits P None false (Closing (Window number p len))
+      → leaves S (Closing (Window number p len))
+  pub days : (S : Store) (j : ℕ) (x : Symbol) (over : Bool) → LineFits P None false (Closing (Day j x over))
+      → leaves S (Closing (Day j x over))
 
 -- the position is one of the problem, and its domain has the symbol and another beside it
 pub record IsBesideAnother (P : Instance) (S : Store) (p : ℕ) (x : Symbol) : Type 0 where
