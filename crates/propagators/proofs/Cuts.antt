@@ -179,7 +179,7 @@ one_symbol_more P D j n before here z less =
 
 pub closing_day : (P : Instance) (S : Store) (j : ℕ) (x : Symbol) (over : Bool) → IsFirstOverrun P (has_domain S) j x.number over → IsClosing P (IsDayLeaf P) S (Closing (Day j x over))
 closing_day P S j x over first =
-    let fits : LineFits P None (Closing (Day j x over)) = (first.day, first.first.symbol) in
+    let fits : LineFits P None false (Closing (Day j x over)) = (first.day, first.first.symbol) in
     (fits, record { leaf = tt; fits = fits; short = tt; holds = holds_where_overrun P (has_domain S) j x over first.first.holds })
 
 pub none_closes : (P : Instance) (S : Store) → ((j z : ℕ) → IsDay P j → z ≤ shift_count P → IsWithinDemand P (has_domain S) j z) → Closes P (IsDayLeaf P) S → ⊥

@@ -1,5 +1,5 @@
 -- Domains are told apart by their symbols, all short rules have one list, and what plain bounds weigh.
-use Rattle.std.proofs.Common.{◌≡◌, ℕ, zero, suc, ◌+◌, ◌<◌, ◌≤◌, List, [], ◌∷◌, length, get_or, refl, sym, ◌∙◌, subst, arith, inl, inr, Option, Some, None, true, eqb}
+use Rattle.std.proofs.Common.{◌≡◌, ℕ, zero, suc, ◌+◌, ◌<◌, ◌≤◌, List, [], ◌∷◌, length, get_or, refl, sym, ◌∙◌, subst, arith, inl, inr, Option, Some, None, true, false, eqb}
 use Rattle.std.specs.Prelude.{All, Contains, slice_get, map, pos, negsuc, ℤ}
 use Rattle.std.specs.List.{range_with_len, flat_map}
 use Rattle.std.specs.List.Sorted.{IsStrictlyIncreasing}
@@ -152,7 +152,7 @@ searched_answer P D R None none searched = record {
 searched_answer P D R (Some y) none found = (searched_fit P D R found.0 y found.2, inr (found.0, found.1, found.2), found.3)
 
 -- the bound of such weights fits
-top_bound : (P : Instance) (D : Domains) (R : List ℕ) (y : List Weight) → KeepsLimits P → AreShortRules P R → IsTopAnswer P D R (Some y) → LineFits P None (Closing (Words 0 R (Light 1 0 y)))
+top_bound : (P : Instance) (D : Domains) (R : List ℕ) (y : List Weight) → KeepsLimits P → AreShortRules P R → IsTopAnswer P D R (Some y) → LineFits P None false (Closing (Words 0 R (Light 1 0 y)))
 top_bound P D R y limits short h =
     let some : 0 < cells P = some_cells P limits in
     let few : cells P ≤ MOST_CELLS = limits.few_cells in

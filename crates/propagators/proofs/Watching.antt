@@ -82,7 +82,7 @@ abbrev IsAwaited : Instance → List Bool → ℕ → ℕ → Type 0
 IsAwaited P pending p len = (q : ℕ) × (get_or pending q false ≡ true) × LiesOver P p len q
 
 still_awaited : (P : Instance) (sets : List (List ℕ)) (pending : List Bool) (p number at len : ℕ) (s : List ℕ) (flag lost : Bool)
-    → IsWatch (record { problem = P; sets = sets; pending = pending }) → flag ≡ (get_or pending p false || lost) → LineFits P None (Closing (Window number at len)) → IsBlocked P (has_known sets) number at len
+    → IsWatch (record { problem = P; sets = sets; pending = pending }) → flag ≡ (get_or pending p false || lost) → LineFits P None false (Closing (Window number at len)) → IsBlocked P (has_known sets) number at len
     → IsAwaited P (set pending p flag) at len
 still_awaited P sets pending p number at len s flag lost w is fits blocked =
     let q = w.awaited number at len fits blocked in

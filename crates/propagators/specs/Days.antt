@@ -15,7 +15,7 @@ use Rattle.propagators.specs.Counted.{Counted, StandsFor}
 
 -- a day leaf of the problem
 abbrev pub IsDayLeaf : Instance → Line → Type 0
-IsDayLeaf P (Closing (Day j x over)) = LineFits P None (Closing (Day j x over))
+IsDayLeaf P (Closing (Day j x over)) = LineFits P None false (Closing (Day j x over))
 IsDayLeaf P line = ⊥
 
 -- the symbol is beside another in the domain of the position, and a day leaf holds once it is alone there
@@ -81,5 +81,5 @@ pub record IsDayCut (P : Instance) (D : Domains) (p : ℕ) (x : Symbol) (j : ℕ
     (over : Bool) : Type 0 where
   pub position : p < cells P
   pub useful : is_idle P D p x.number ≡ false
-  pub fits : LineFits P None (Closing (Day j counted over))
+  pub fits : LineFits P None false (Closing (Day j counted over))
   pub holds : Holds P None (narrowed D (Split p x) First) (Closing (Day j counted over))

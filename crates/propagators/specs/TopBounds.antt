@@ -1,5 +1,5 @@
 -- The bounds of one turn from position 0 on, with all short rules.
-use Rattle.std.specs.Prelude.{◌≡◌, ◌⊎◌, ℕ, ◌<◌, List, slice_get, Option, Some, None}
+use Rattle.std.specs.Prelude.{◌≡◌, ◌⊎◌, ℕ, ◌<◌, List, slice_get, false, Option, Some, None}
 use Rattle.rwsp_terms.specs.declared.data.Weight.{Weight}
 use Rattle.rwsp_terms.specs.declared.limits.TheConstants.{SEARCHED_ROUNDS}
 use Rattle.rwsp_terms.specs.Instance.{Instance}
@@ -50,4 +50,5 @@ pub record IsTopWatch (w : TopWatch) : Type 0 where
 -- a bound that holds under the domains, or none where no bound of the start holds
 abbrev pub IsBoundLook : Instance → Store → Store → Option Line → Type 0
 IsBoundLook P start S None = (line : Line) → IsStartBound P start S line → Holds P None (has_domain S) line → ⊥
-IsBoundLook P start S (Some line) = LineFits P None line × IsStartBound P start S line × Holds P None (has_domain S) line
+IsBoundLook P start S (Some line) =
+    LineFits P None false line × IsStartBound P start S line × Holds P None (has_domain S) line

@@ -13,7 +13,7 @@ use Rattle.domain_store.specs.Store.{Store, has_domain}
 
 -- a window leaf of the problem
 abbrev pub IsWindowLeaf : Instance → Line → Type 0
-IsWindowLeaf P (Closing (Window number p len)) = LineFits P None (Closing (Window number p len))
+IsWindowLeaf P (Closing (Window number p len)) = LineFits P None false (Closing (Window number p len))
 IsWindowLeaf P line = ⊥
 
 -- what a propagator of windows is made of: its problem, the domain that it knows for each position, and whether the
@@ -36,7 +36,7 @@ pub record IsWatch (w : WindowWatch) : Type 0 where
   pub long : length w.sets ≡ cells w.problem
   pub flags : length w.pending ≡ cells w.problem
   pub small : (p x : ℕ) → has_known w.sets p x ≡ true → x ≤ MOST_SHIFTS
-  pub awaited : (number p len : ℕ) → LineFits w.problem None (Closing (Window number p len))
+  pub awaited : (number p len : ℕ) → LineFits w.problem None false (Closing (Window number p len))
       → IsBlocked w.problem (has_known w.sets) number p len
       → (q : ℕ) × (slice_index_or w.pending q false ≡ true) × LiesOver w.problem p len q
 
@@ -47,7 +47,7 @@ pub record IsSpan (pending : List Bool) (first end : ℕ) : Type 0 where
 
 -- a window leaf that holds
 pub record IsWindow (P : Instance) (S : Store) (number p len : ℕ) : Type 0 where
-  pub fits : LineFits P None (Closing (Window number p len))
+  pub fits : LineFits P None false (Closing (Window number p len))
   pub holds : IsBlocked P (has_domain S) number p len
 
 -- no window of the rule that lies over the position holds

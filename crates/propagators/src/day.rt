@@ -1,5 +1,5 @@
 // The leaves of days.
-ghost use Rattle.std.specs.Prelude.{◌≡◌, ℕ, ◌<◌, ◌↔◌, IfOk, Bool, None};
+ghost use Rattle.std.specs.Prelude.{◌≡◌, ℕ, ◌<◌, ◌↔◌, IfOk, Bool, false, None};
 ghost use Rattle.rwsp_terms.specs.declared.data.Symbol.{Symbol};
 ghost use Rattle.refutation_terms.specs.declared.lines.Line.{Line};
 ghost use Rattle.refutation_terms.specs.declared.lines.Line.TheVariants.{Closing};
@@ -51,7 +51,8 @@ impl<'a> DayProp<'a> {
         ensures serves { IfOk result (λ d. ⟦<DayProp<'a> as Propagator>⟧.serves d problem.now) }
         ensures tracks { IfOk result (λ d. ⟦<DayProp<'a> as Propagator>⟧.tracks d doms.now) }
         ensures leaves { IfOk result (λ d. (S : Store) (j : ℕ) (x : Symbol) (over : Bool)
-            → LineFits problem.now None (Closing (Day j x over)) → ⟦<DayProp<'a> as Propagator>⟧.leaves d S (Closing (Day j x over))) }
+            → LineFits problem.now None false (Closing (Day j x over))
+            → ⟦<DayProp<'a> as Propagator>⟧.leaves d S (Closing (Day j x over))) }
         ensures days_only { IfOk result (λ d. (S : Store) (line : Line)
             → ⟦<DayProp<'a> as Propagator>⟧.leaves d S line → IsDayLeaf problem.now line) }
         ensures spent { IfOk result (λ d. (S : Store) (p : ℕ) (x : Symbol)

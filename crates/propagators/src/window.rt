@@ -60,7 +60,7 @@ impl<'a> WindowProp<'a> {
         ensures serves { IfOk result (λ w. ⟦<WindowProp<'a> as Propagator>⟧.serves w problem.now) }
         ensures tracks { IfOk result (λ w. ⟦<WindowProp<'a> as Propagator>⟧.tracks w doms.now) }
         ensures leaves { IfOk result (λ w. (S : Store) (number p len : ℕ)
-            → LineFits problem.now None (Closing (Window number p len))
+            → LineFits problem.now None false (Closing (Window number p len))
             → ⟦<WindowProp<'a> as Propagator>⟧.leaves w S (Closing (Window number p len))) }
         ensures windows_only { IfOk result (λ w. (S : Store) (line : Line)
             → ⟦<WindowProp<'a> as Propagator>⟧.leaves w S line → IsWindowLeaf problem.now line) }

@@ -8,10 +8,10 @@ ghost use Rattle.domain_store.specs.Store.{BelongsTo};
 ghost use Rattle.propagators.specs.Windows.{IsWindow, NoWindowOver};
 
 use domain_store::Domains;
+use plain_leaves::bad_window_over;
 use refutation_terms::{Leaf, Line};
 use rwsp_model::{Problem, rule_at, rule_count};
 use rwsp_terms::limits::LONGEST_WORD;
-use plain_leaves::bad_window_over;
 
 /// A window leaf. Rules count from 1, positions from 0.
 #[derive(Clone, Copy)]
