@@ -1,5 +1,5 @@
 -- The logs that a search ends with.
-use Rattle.std.proofs.Common.{◌≡◌, ℕ, zero, suc, ◌+◌, ◌<◌, ◌≤◌, List, [], ◌++◌, length, get_or, Option, Some, refl, ap, sym, ◌∙◌, subst, append-nil, arith, length-append, inl, inr, cond, false}
+use Rattle.std.proofs.Common.{◌≡◌, ℕ, zero, suc, ◌+◌, ◌<◌, ◌≤◌, List, [], ◌++◌, length, get_or, Bool, Option, Some, refl, ap, sym, ◌∙◌, subst, append-nil, arith, length-append, inl, inr, cond, false}
 use Rattle.std.specs.Prelude.{slice_get, Contains, replicate}
 use Rattle.std.specs.List.Sorted.{IsStrictlyIncreasing}
 use Rattle.std.proofs.lemmas.List.{get_or_default, length-replicate}
@@ -40,7 +40,7 @@ abbrev pub AreOpen : List Line → Type 0
 AreOpen rest = (m : ℕ) (line : Line) → slice_get rest m ≡ Some line → line ≡ Unfinished
 
 abbrev pub log_of : Progress → List Line → Log
-log_of s rest = record { named = s.named; opening = s.aim.opening; goal = s.aim.goal; lines = s.lines.items ++ rest }
+log_of s rest = record { named = s.named; opening = s.aim.opening; goal = s.aim.goal; counts = false; lines = s.lines.items ++ rest }
 
 each_in : (Q : Line → Type 0) (ls rest : List Line) → ((k : ℕ) (line : Line) → slice_get ls k ≡ Some line → Q line) → Q Unfinished → AreOpen rest → (k : ℕ) (line : Line) → slice_get (ls ++ rest) k ≡ Some line → Q line
 each_in Q ls rest each here opened k line e = elim (got_in ls rest k line e) [
@@ -54,7 +54,7 @@ grounded P s rest w allowed up opened = record {
     named = are_rules P s.named up w.numbers;
     opening = w.opening_fits;
     goal = w.goal_fits;
-    lines = each_in (LineFits P s.aim.goal) s.lines.items rest (λ k line e. (w.stand k line e).fits) tt opened;
+    lines = each_in (LineFits P s.aim.goal false) s.lines.items rest (λ k line e. (w.stand k line e).fits) tt opened;
   };
   allowed = allowed;
   turn_named = λ r h. (w.cited r).1 (inl h);
@@ -72,18 +72,20 @@ is_log_of : (P : Instance) (s : Progress) (rest : List Line) → IsProgress P s 
 is_log_of P s rest w = record {
   same_opening = refl;
   same_goal = refl;
+  no_blocks = refl;
   cited = λ r n. elim ((w.cited r).0 n) [
     | inl start ↦ inl start
     | inr at ↦ inr (at.0, at.1, got_left s.lines.items rest at.0 at.1 at.2, at.3)
   ];
 }
 
-same_log : (g h : Log) → g.named ≡ h.named → g.opening ≡ h.opening → g.goal ≡ h.goal → g.lines ≡ h.lines → g ≡ h
-same_log g h a b d c =
-    ap (λ (R : List ℕ). record { named = R; opening = g.opening; goal = g.goal; lines = g.lines }) a
-    ∙ ap (λ (t : Opening). record { named = h.named; opening = t; goal = g.goal; lines = g.lines }) b
-    ∙ ap (λ (o : Option ℕ). record { named = h.named; opening = h.opening; goal = o; lines = g.lines }) d
-    ∙ ap (λ (ls : List Line). record { named = h.named; opening = h.opening; goal = h.goal; lines = ls }) c
+same_log : (g h : Log) → g.named ≡ h.named → g.opening ≡ h.opening → g.goal ≡ h.goal → g.counts ≡ h.counts → g.lines ≡ h.lines → g ≡ h
+same_log g h a b d n c =
+    ap (λ (R : List ℕ). record { named = R; opening = g.opening; goal = g.goal; counts = g.counts; lines = g.lines }) a
+    ∙ ap (λ (t : Opening). record { named = h.named; opening = t; goal = g.goal; counts = g.counts; lines = g.lines }) b
+    ∙ ap (λ (o : Option ℕ). record { named = h.named; opening = h.opening; goal = o; counts = g.counts; lines = g.lines }) d
+    ∙ ap (λ (m : Bool). record { named = h.named; opening = h.opening; goal = h.goal; counts = m; lines = g.lines }) n
+    ∙ ap (λ (ls : List Line). record { named = h.named; opening = h.opening; goal = h.goal; counts = h.counts; lines = ls }) c
 
 abbrev none : List Line
 none = []
@@ -92,10 +94,10 @@ none_open : AreOpen none
 none_open m line e = absurd (cc)
 
 -- a whole tree passes
-pub passing_end : (P : Instance) (s : Progress) (g : Log) → IsProgress P s → IsAllowed P s.aim.opening → IsStrictlyIncreasing s.named → IsTree s.lines.items → length s.lines.items ≤ s.aim.budget → g.named ≡ s.named → g.opening ≡ s.aim.opening → g.goal ≡ s.aim.goal → g.lines ≡ s.lines.items → IsEnded P s.aim s.lines.items (NoRoster g)
-passing_end P s g w allowed up tree few a b d c =
+pub passing_end : (P : Instance) (s : Progress) (g : Log) → IsProgress P s → IsAllowed P s.aim.opening → IsStrictlyIncreasing s.named → IsTree s.lines.items → length s.lines.items ≤ s.aim.budget → g.named ≡ s.named → g.opening ≡ s.aim.opening → g.goal ≡ s.aim.goal → g.counts ≡ false → g.lines ≡ s.lines.items → IsEnded P s.aim s.lines.items (NoRoster g)
+passing_end P s g w allowed up tree few a b d n c =
     let whole : s.lines.items ++ none ≡ s.lines.items = append-nil s.lines.items in
-    let is : log_of s none ≡ g = sym (same_log g (log_of s none) a b d (c ∙ sym whole)) in
+    let is : log_of s none ≡ g = sym (same_log g (log_of s none) a b d n (c ∙ sym whole)) in
     let worked : size g ≤ length g.lines = count_by-le-length is_worked g.lines in
     let long : length g.lines ≡ length s.lines.items = ap length c in
     let passes : Passes P (log_of s none) = record {
@@ -125,10 +127,10 @@ pub some_open : (w : State) → w.whole ≡ false → 1 ≤ open_trees w
 some_open w part = let e : open_trees w ≡ second_sides_to_come w.splits + 1 = ap (λ b. cond b 0 (second_sides_to_come w.splits + 1)) part in omega arith
 
 -- lines that have used up the budget, with the rest left open
-pub spent_end : (P : Instance) (s : Progress) (n : ℕ) (g : Log) → IsProgress P s → IsAllowed P s.aim.opening → IsStrictlyIncreasing s.named → IsTree (s.lines.items ++ replicate n Unfinished) → length s.lines.items ≤ s.aim.budget → s.aim.budget ≤ length s.lines.items → 1 ≤ n → g.named ≡ s.named → g.opening ≡ s.aim.opening → g.goal ≡ s.aim.goal → g.lines ≡ s.lines.items ++ replicate n Unfinished → IsEnded P s.aim s.lines.items (Undecided g)
-spent_end P s n g w allowed up tree few all some a b d c =
+pub spent_end : (P : Instance) (s : Progress) (n : ℕ) (g : Log) → IsProgress P s → IsAllowed P s.aim.opening → IsStrictlyIncreasing s.named → IsTree (s.lines.items ++ replicate n Unfinished) → length s.lines.items ≤ s.aim.budget → s.aim.budget ≤ length s.lines.items → 1 ≤ n → g.named ≡ s.named → g.opening ≡ s.aim.opening → g.goal ≡ s.aim.goal → g.counts ≡ false → g.lines ≡ s.lines.items ++ replicate n Unfinished → IsEnded P s.aim s.lines.items (Undecided g)
+spent_end P s n g w allowed up tree few all some a b d m c =
     let rest : List Line = replicate n Unfinished in
-    let is : log_of s rest ≡ g = sym (same_log g (log_of s rest) a b d c) in
+    let is : log_of s rest ≡ g = sym (same_log g (log_of s rest) a b d m c) in
     let long : length (s.lines.items ++ rest) ≡ length s.lines.items + length rest = length-append s.lines.items rest in
     let many : length rest ≡ n = length-replicate n Unfinished in
     let spent : IsSpent P (log_of s rest) s.aim.budget = record {

@@ -118,7 +118,7 @@ line_count (Node p x a b) =
 
 -- a split that isn't idle
 abbrev IsUseful : Instance → Domains → Line → Type 0
-IsUseful P D line = (p : ℕ) (x : Symbol) → line ≡ Split p x → LineFits P None (Split p x) × (is_idle P D p x.number ≡ false)
+IsUseful P D line = (p : ℕ) (x : Symbol) → line ≡ Split p x → LineFits P None false (Split p x) × (is_idle P D p x.number ≡ false)
 
 abbrev HasSome : Instance → Domains → Type 0
 HasSome P D = (q : ℕ) → q < cells P → 0 < size_at (shift_count P) D q
@@ -130,7 +130,7 @@ record IsParted (P : Instance) (D A B : Domains) (p : ℕ) : Type 0 where
   some_first : 0 < size_at (shift_count P) A p
   some_second : 0 < size_at (shift_count P) B p
 
-parted : (P : Instance) (D : Domains) (p : ℕ) (x : Symbol) → LineFits P None (Split p x) → is_idle P D p x.number ≡ false → IsParted P D (narrowed D (Split p x) First) (narrowed D (Split p x) Second) p
+parted : (P : Instance) (D : Domains) (p : ℕ) (x : Symbol) → LineFits P None false (Split p x) → is_idle P D p x.number ≡ false → IsParted P D (narrowed D (Split p x) First) (narrowed D (Split p x) Second) p
 parted P D p x fits useful =
     let last : ℕ = shift_count P in
     let A : Domains = narrowed D (Split p x) First in
@@ -197,7 +197,7 @@ leaves_counted (Node p x a b) =
 
 useful_splits : (P : Instance) (g : Log) → Fits P g → HasNoIdleSplit P g.opening g.lines (length g.lines) → EachInOrder (IsUseful P) (opening P g.opening) g.lines
 useful_splits P g fits none k line e p x is = (
-  subst (LineFits P g.goal) is (fits.lines k line e),
+  subst (LineFits P g.goal g.counts) is (fits.lines k line e),
   none k p x (slice_get_within g.lines k line e) (e ∙ ap (λ (l : Line). Some l) is),
 )
 

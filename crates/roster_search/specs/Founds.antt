@@ -1,5 +1,5 @@
 -- What a search finds.
-use Rattle.std.specs.Prelude.{◌≡◌, ℕ, ◌≤◌, List, slice_get, Option, Some}
+use Rattle.std.specs.Prelude.{◌≡◌, ℕ, ◌≤◌, List, slice_get, false, Option, Some}
 use Rattle.rwsp_terms.specs.declared.data.Symbol.{Symbol}
 use Rattle.rwsp_terms.specs.Instance.{Instance}
 use Rattle.refutation_terms.specs.declared.lines.Line.{Line}
@@ -40,10 +40,11 @@ AreForced P leaves spent start lines = AtEachSplit (IsForced P leaves spent) P s
 abbrev pub FewHoldsAtNoSplit : Instance → Option ℕ → Opening → List Line → Type 0
 FewHoldsAtNoSplit P goal start lines = AtEachSplit (λ D p x. FewHolds P goal D → ⊥) P start lines
 
--- a log from this opening, for this goal or none, that names what it cites and no more
+-- a log from this opening, for this goal or none, that may not count blocks and names what it cites and no more
 pub record IsLogOf (P : Instance) (start : Opening) (goal : Option ℕ) (g : Log) : Type 0 where
   pub same_opening : g.opening ≡ start
   pub same_goal : g.goal ≡ goal
+  pub no_blocks : g.counts ≡ false
   pub cited : NamesOnlyCited P g
 
 -- such a log, whose splits are as the propagator says, and at none of them is the leaf of few weeks at hand

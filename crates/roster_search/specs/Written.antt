@@ -20,10 +20,11 @@ use Rattle.roster_search.specs.declared.progress.Progress.{Progress}
 use Rattle.refutation_log.specs.declared.found.Found.{Found}
 use Rattle.refutation_log.specs.declared.found.Found.TheVariants.{Roster, NoRoster, Undecided}
 
--- a line that holds, with its numbers in their ranges and with short rules only in its list, for this goal or none
+-- a line that holds, with its numbers in their ranges and with short rules only in its list, for this goal or none, in
+-- a log that may not count
 pub record Stands (P : Instance) (goal : Option ℕ) (D : Domains) (line : Line) : Type 0 where
   pub holds : Holds P goal D line
-  pub fits : LineFits P goal line
+  pub fits : LineFits P goal false line
   pub short : ListsShortOnly P line
 
 -- the rule is that of the turn of the opening, or one of the lines cites it

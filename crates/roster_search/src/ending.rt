@@ -13,7 +13,7 @@ use rwsp_terms::limits::GREATEST_BUDGET;
 use std::alloc::AllocError;
 
 /// The log of the lines, once they are a whole tree or the budget is spent. What is open then is left
-/// unfinished.
+/// unfinished. No line of a search counts blocks, so the log may not.
 pub fn end(problem: &Problem, progress: Progress) -> Result<Found, AllocError>
     requires written { IsProgress problem.now progress }
     requires allowed { IsAllowed problem.now progress.aim.opening }
@@ -34,10 +34,10 @@ pub fn end(problem: &Problem, progress: Progress) -> Result<Found, AllocError>
     let count = walk.open_count();
     drop(walk);
     if is_whole {
-        return Ok(Found::NoRoster(Log::new(named, aim.opening, aim.goal, lines)));
+        return Ok(Found::NoRoster(Log::new(named, aim.opening, aim.goal, false, lines)));
     }
     leave_open(&mut lines, count)?;
-    Ok(Found::Undecided(Log::new(named, aim.opening, aim.goal, lines)))
+    Ok(Found::Undecided(Log::new(named, aim.opening, aim.goal, false, lines)))
 }
 
 // Writes `count` unfinished lines.
