@@ -8,7 +8,7 @@ pub returns-then-blocks_holds-2 : goal.returns-then-blocks_holds-2
 returns-then-blocks_holds-2 c = record {
   symbol = omega arith;
   holds = c.blocks_holds-2.ensures.0 c.if-blocks_holds-2.true;
-  earliest = λ y known before hold. c.loop-number.invariant y before.0 (omega (arith, known)) hold;
+  first = λ y known before hold. c.loop-number.invariant y before.0 (omega (arith, known)) hold;
 }
 
 pub returns-else-blocks_holds-2 : goal.returns-else-blocks_holds-2
