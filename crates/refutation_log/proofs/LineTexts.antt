@@ -1,5 +1,5 @@
 -- The words of a text line, and the answer to it.
-use Rattle.std.proofs.Common.{◌≡◌, ◌≢◌, ℕ, ◌^◌, ◌<◌, List, [], ◌∷◌, ◌++◌, refl, ap, sym, ◌∙◌, subst, arith, Option, Some, None, Result, Ok, Err}
+use Rattle.std.proofs.Common.{◌≡◌, ◌≢◌, ℕ, ◌^◌, ◌<◌, List, [], ◌∷◌, ◌++◌, refl, ap, sym, ◌∙◌, subst, arith, Bool, true, false, Option, Some, None, Result, Ok, Err}
 use Rattle.std.specs.Prelude.{codes, cond, IfSome}
 use Rattle.std.specs.Str.{bytes_eq}
 use Rattle.std.specs.List.{join_with_byte}
@@ -17,14 +17,14 @@ use Rattle.rwsp_model.specs.declared.fail.Fail.{Fail}
 use Rattle.rwsp_model.specs.declared.fail.Fail.TheVariants.{Refused, Memory}
 use Rattle.rwsp_model.proofs.Numbering.{rules_are_many}
 use Rattle.refutation_terms.specs.declared.lines.Line.{Line}
-use Rattle.refutation_terms.specs.LogText.{RawLine, RawDead, RawBound, RawFew, RawFree, RawUnfinished, IsWritten, raw_fields, line_of, WeightsAscend, line_kinds, most_turns, split_kind, window_kind, day_kind, dead_kind, bound_kind, free_kind}
+use Rattle.refutation_terms.specs.LogText.{RawLine, RawDead, RawBound, RawFew, RawFree, RawUnfinished, IsWritten, raw_fields, line_of, WeightsAscend, line_kinds, own_kinds, last_kinds, most_turns, split_kind, window_kind, day_kind, dead_kind, bound_kind, free_kind}
 use Rattle.refutation_terms.specs.Verdict.{Spells}
 use Rattle.refutation_terms.specs.TextLaws.{IsWritable}
 use Rattle.refutation_terms.proofs.LineTables.{lines_readable, raw_line, raw_found, raw_words}
 use Rattle.refutation_log.specs.Refusals.{IsLineRefused}
 use Rattle.refutation_log.specs.declared.refusal.LineRefusal.{LineRefusal}
 use Rattle.refutation_log.specs.declared.refusal.LineRefusal.TheVariants.{Form, Name}
-use Rattle.refutation_log.specs.Reading.{head_at, free_head_at, rules_in, all_weights_at, weighed_at, split_at, window_at, day_at, dead_at, bound_at, free_at, without_goal_at, with_goal_at, raw_at, Answers}
+use Rattle.refutation_log.specs.Reading.{head_at, free_head_at, rules_in, all_weights_at, weighed_at, split_at, window_at, day_at, dead_at, bound_at, free_at, blocks_at, last_at, without_goal_at, with_goal_at, own_at, raw_at, Answers}
 
 pub is_writable : (P : Instance) → KeepsLimits P → IsWritable P
 is_writable P limits =
@@ -84,7 +84,21 @@ free_is P ws =
     ∙ then_three (number_at 1 (most_turns P) ws) (λ turns. number_at 0 GREATEST_REWARD turns.1) (λ reward. word_at (codes "rules") reward.1) (λ turns reward rest. ((turns.0, reward.0), rest))
     (λ head. word_at (codes "weights") (rules_in P head.1).1 >>= (λ rest. all_weights_at P rest >>= (λ y. Some (RawFree head.0.0 head.0.1 (rules_in P head.1).0 y))))
 
--- the kinds that logs with a goal, or without one, have alone
+-- the last kinds, and those that logs with a goal, or without one, have alone
+last_is : (counts : Bool) (w : List ℕ) (ws : Words) → last_at counts w ws ≡ read_line (last_kinds counts) (w ∷ ws)
+unfolding last_at blocks_at read_line
+last_is false w ws = refl
+last_is true w ws = refl
+
+own_is : (P : Instance) (goal : Option ℕ) (counts : Bool) (w : List ℕ) (ws : Words) → own_at P goal counts w ws ≡ read_line (own_kinds P goal counts) (w ∷ ws)
+unfolding without_goal_at with_goal_at read_line
+own_is P None counts w ws =
+    ap (λ b. cond (bytes_eq w (codes "bound")) b (last_at counts w ws)) (bound_is P ws)
+    ∙ ap (λ l. cond (bytes_eq w (codes "bound")) (read (bound_kind P).fields (bound_kind P).make ws) l) (last_is counts w ws)
+own_is P (Some goal) counts w ws =
+    ap (λ f. cond (bytes_eq w (codes "few")) (done_at RawFew ws) (cond (bytes_eq w (codes "free")) f (last_at counts w ws))) (free_is P ws)
+    ∙ ap (λ l. cond (bytes_eq w (codes "few")) (done_at RawFew ws) (cond (bytes_eq w (codes "free")) (read (free_kind P).fields (free_kind P).make ws) l)) (last_is counts w ws)
+
 abbrev with_dead : Instance → List ℕ → Words → Option RawLine → Option RawLine → Option RawLine
 with_dead P w ws dead own =
     cond (bytes_eq w (codes "split")) (read (split_kind P).fields (split_kind P).make ws)
@@ -92,52 +106,48 @@ with_dead P w ws dead own =
     (cond (bytes_eq w (codes "day")) (read (day_kind P).fields (day_kind P).make ws)
     (cond (bytes_eq w (codes "dead")) dead own)))
 
-pub raw_is : (P : Instance) (goal : Option ℕ) (ws : Words) → raw_at P goal ws ≡ read_line (line_kinds P goal) ws
-unfolding raw_at without_goal_at with_goal_at read_line split_at window_at day_at
-raw_is P None [] = refl
-raw_is P (Some goal) [] = refl
-raw_is P None (w ∷ ws) =
-    ap (λ d. with_dead P w ws d (cond (bytes_eq w (codes "bound")) (bound_at P ws) (cond (bytes_eq w (codes "open")) (done_at RawUnfinished ws) None))) (dead_is P ws)
-    ∙ ap (λ b. with_dead P w ws (read (dead_kind P).fields (dead_kind P).make ws) (cond (bytes_eq w (codes "bound")) b (cond (bytes_eq w (codes "open")) (done_at RawUnfinished ws) None))) (bound_is P ws)
-raw_is P (Some goal) (w ∷ ws) =
-    ap (λ d. with_dead P w ws d (cond (bytes_eq w (codes "few")) (done_at RawFew ws) (cond (bytes_eq w (codes "free")) (free_at P ws) (cond (bytes_eq w (codes "open")) (done_at RawUnfinished ws) None)))) (dead_is P ws)
-    ∙ ap (λ f. with_dead P w ws (read (dead_kind P).fields (dead_kind P).make ws) (cond (bytes_eq w (codes "few")) (done_at RawFew ws) (cond (bytes_eq w (codes "free")) f (cond (bytes_eq w (codes "open")) (done_at RawUnfinished ws) None)))) (free_is P ws)
+pub raw_is : (P : Instance) (goal : Option ℕ) (counts : Bool) (ws : Words) → raw_at P goal counts ws ≡ read_line (line_kinds P goal counts) ws
+unfolding raw_at read_line split_at window_at day_at
+raw_is P goal counts [] = refl
+raw_is P goal counts (w ∷ ws) =
+    ap (λ d. with_dead P w ws d (own_at P goal counts w ws)) (dead_is P ws)
+    ∙ ap (with_dead P w ws (read (dead_kind P).fields (dead_kind P).make ws)) (own_is P goal counts w ws)
 
 -- what is written is read
-pub written_read : (P : Instance) (goal : Option ℕ) (bytes body : List ℕ) (raw : RawLine) → IsWritable P → bytes ≡ body ++ 10 ∷ [] → IsWritten P goal bytes raw → read_line (line_kinds P goal) (words_of body) ≡ Some raw
-written_read P goal bytes body raw s e h =
-    ap (read_line (line_kinds P goal)) (text_words bytes body (raw_fields P raw) (raw_words P goal raw s h.in_range) e h.spelled)
-    ∙ line_only (line_kinds P goal) (raw_fields P raw) raw (lines_readable P goal s) (raw_line P goal raw h.in_range)
+pub written_read : (P : Instance) (goal : Option ℕ) (counts : Bool) (bytes body : List ℕ) (raw : RawLine) → IsWritable P → bytes ≡ body ++ 10 ∷ [] → IsWritten P goal counts bytes raw → read_line (line_kinds P goal counts) (words_of body) ≡ Some raw
+written_read P goal counts bytes body raw s e h =
+    ap (read_line (line_kinds P goal counts)) (text_words bytes body (raw_fields P raw) (raw_words P goal counts raw s h.in_range) e h.spelled)
+    ∙ line_only (line_kinds P goal counts) (raw_fields P raw) raw (lines_readable P goal counts s) (raw_line P goal counts raw h.in_range)
 
-pub read_written : (P : Instance) (goal : Option ℕ) (bytes body : List ℕ) (raw : RawLine) → bytes ≡ body ++ 10 ∷ [] → read_line (line_kinds P goal) (words_of body) ≡ Some raw → IfSome (line_of P raw) WeightsAscend → IsWritten P goal bytes raw
-read_written P goal bytes body raw e h up =
-    let f = raw_found P goal (words_of body) raw (line_found (line_kinds P goal) (words_of body) raw h) in
+pub read_written : (P : Instance) (goal : Option ℕ) (counts : Bool) (bytes body : List ℕ) (raw : RawLine) → bytes ≡ body ++ 10 ∷ [] → read_line (line_kinds P goal counts) (words_of body) ≡ Some raw → IfSome (line_of P raw) WeightsAscend → IsWritten P goal counts bytes raw
+read_written P goal counts bytes body raw e h up =
+    let f = raw_found P goal counts (words_of body) raw (line_found (line_kinds P goal counts) (words_of body) raw h) in
     record { spelled = words_text bytes body (raw_fields P raw) e f.0; in_range = f.1; ascends = up }
 
-answer_by : (P : Instance) (goal : Option ℕ) (bytes body : List ℕ) (o : Option RawLine) (result : Result Line (Fail LineRefusal)) → IsWritable P → bytes ≡ body ++ 10 ∷ [] → read_line (line_kinds P goal) (words_of body) ≡ o → Answers P o result → MatchAnswer result (Spells P goal bytes) (IsLineRefused P goal bytes)
-answer_by P goal bytes body None (Ok line) s e r a = absurd a
-answer_by P goal bytes body (Some raw) (Ok line) s e r a =
-    (raw, read_written P goal bytes body raw e r (subst (λ o. IfSome o WeightsAscend) (sym a.0) a.1), a.0)
-answer_by P goal bytes body o (Err Memory) s e r a = tt
-answer_by P goal bytes body None (Err (Refused Form)) s e r a =
-    λ raw h. let w : read_line (line_kinds P goal) (words_of body) ≡ Some raw = written_read P goal bytes body raw s e h in absurd (cc)
-answer_by P goal bytes body (Some raw) (Err (Refused Form)) s e r a =
+answer_by : (P : Instance) (goal : Option ℕ) (counts : Bool) (bytes body : List ℕ) (o : Option RawLine) (result : Result Line (Fail LineRefusal)) → IsWritable P → bytes ≡ body ++ 10 ∷ [] → read_line (line_kinds P goal counts) (words_of body) ≡ o → Answers P o result → MatchAnswer result (Spells P goal counts bytes) (IsLineRefused P goal counts bytes)
+answer_by P goal counts bytes body None (Ok line) s e r a = absurd a
+answer_by P goal counts bytes body (Some raw) (Ok line) s e r a =
+    (raw, read_written P goal counts bytes body raw e r (subst (λ o. IfSome o WeightsAscend) (sym a.0) a.1), a.0)
+answer_by P goal counts bytes body o (Err Memory) s e r a = tt
+answer_by P goal counts bytes body None (Err (Refused Form)) s e r a =
+    λ raw h. let w : read_line (line_kinds P goal counts) (words_of body) ≡ Some raw = written_read P goal counts bytes body raw s e h in absurd (cc)
+answer_by P goal counts bytes body (Some raw) (Err (Refused Form)) s e r a =
     λ other h.
-    let w : read_line (line_kinds P goal) (words_of body) ≡ Some other = written_read P goal bytes body other s e h in
+    let w : read_line (line_kinds P goal counts) (words_of body) ≡ Some other = written_read P goal counts bytes body other s e h in
     let same : other ≡ raw = let z : Some other ≡ Some raw = sym w ∙ r in cc in
     let up : IfSome (line_of P raw) WeightsAscend = subst (λ q. IfSome (line_of P q) WeightsAscend) same h.ascends in
     let up' : IfSome (Some a.0) WeightsAscend = subst (λ o. IfSome o WeightsAscend) a.1 up in
     a.2 up'
-answer_by P goal bytes body None (Err (Refused Name)) s e r a = absurd a
-answer_by P goal bytes body (Some raw) (Err (Refused Name)) s e r a =
-    (raw, read_written P goal bytes body raw e r (subst (λ o. IfSome o WeightsAscend) (sym a) tt), a)
+answer_by P goal counts bytes body None (Err (Refused Name)) s e r a = absurd a
+answer_by P goal counts bytes body (Some raw) (Err (Refused Name)) s e r a =
+    (raw, read_written P goal counts bytes body raw e r (subst (λ o. IfSome o WeightsAscend) (sym a) tt), a)
 
-pub line_answered : (P : Instance) (goal : Option ℕ) (bytes body : List ℕ) (result : Result Line (Fail LineRefusal)) → KeepsLimits P → bytes ≡ body ++ 10 ∷ [] → Answers P (raw_at P goal (words_of body)) result → MatchAnswer result (Spells P goal bytes) (IsLineRefused P goal bytes)
-line_answered P goal bytes body result k e a =
-    answer_by P goal bytes body (read_line (line_kinds P goal) (words_of body)) result (is_writable P k) e refl (subst (λ o. Answers P o result) (raw_is P goal (words_of body)) a)
+pub line_answered : (P : Instance) (goal : Option ℕ) (counts : Bool) (bytes body : List ℕ) (result : Result Line (Fail LineRefusal)) → KeepsLimits P → bytes ≡ body ++ 10 ∷ [] → Answers P (raw_at P goal counts (words_of body)) result → MatchAnswer result (Spells P goal counts bytes) (IsLineRefused P goal counts bytes)
+line_answered P goal counts bytes body result k e a =
+    answer_by P goal counts bytes body (read_line (line_kinds P goal counts) (words_of body)) result (is_writable P k) e refl (subst (λ o. Answers P o result) (raw_is P goal counts (words_of body)) a)
 
-pub no_feed_no_line : (P : Instance) (goal : Option ℕ) (bytes : List ℕ) → ((body : List ℕ) → bytes ≢ body ++ 10 ∷ []) → IsLineRefused P goal bytes Form
-no_feed_no_line P goal bytes none = λ raw h. none (join_with_byte 32 (raw_fields P raw)) h.spelled
+pub no_feed_no_line : (P : Instance) (goal : Option ℕ) (counts : Bool) (bytes : List ℕ) → ((body : List ℕ) → bytes ≢ body ++ 10 ∷ []) → IsLineRefused P goal counts bytes Form
+no_feed_no_line P goal counts bytes none = λ raw h. none (join_with_byte 32 (raw_fields P raw)) h.spelled
 
 pub small_from : (P : Instance) → KeepsLimits P → IsWritable P
 small_from P limits = is_writable P limits

@@ -1,5 +1,5 @@
 -- Reading the lines of a log one after another, and why a text is refused by reading.
-use Rattle.std.proofs.Common.{◌≡◌, ◌≢◌, ℕ, zero, suc, ◌+◌, ◌-◌, ◌<◌, ◌≤◌, List, [], ◌∷◌, ◌++◌, length, take, refl, ap, sym, ◌∙◌, subst, arith, Option, Some, None, inl, inr, ⊎_elim, append_assoc, length-append}
+use Rattle.std.proofs.Common.{◌≡◌, ◌≢◌, ℕ, zero, suc, ◌+◌, ◌-◌, ◌<◌, ◌≤◌, List, [], ◌∷◌, ◌++◌, length, take, refl, ap, sym, ◌∙◌, subst, arith, Bool, Option, Some, None, inl, inr, ⊎_elim, append_assoc, length-append}
 use Rattle.std.specs.Prelude.{slice_get, Err}
 use Rattle.std.proofs.lemmas.List.{append-nil, take-append-le, take_all}
 use Rattle.std.proofs.lemmas.List.Concat.{flat_map-append}
@@ -31,14 +31,14 @@ lines_text_push P goal lines line =
     sym (joined_lines P goal (lines ++ line ∷ [])) ∙ flat_map-append (line_piece P goal) lines (line ∷ [])
     ∙ ap (λ t. t ++ (line_piece P goal line ++ [])) (joined_lines P goal lines) ∙ ap (λ t. lines_text P goal lines ++ t) (append-nil (line_piece P goal line))
 
-fits_push : (P : Instance) (goal : Option ℕ) (lines : List Line) (line : Line) → EachFits P goal lines → LineFits P goal line → EachFits P goal (lines ++ line ∷ [])
-fits_push P goal [] line h f = (f, tt)
-fits_push P goal (l ∷ lines) line h f = (h.0, fits_push P goal lines line h.1 f)
+fits_push : (P : Instance) (goal : Option ℕ) (counts : Bool) (lines : List Line) (line : Line) → EachFits P goal counts lines → LineFits P goal counts line → EachFits P goal counts (lines ++ line ∷ [])
+fits_push P goal counts [] line h f = (f, tt)
+fits_push P goal counts (l ∷ lines) line h f = (h.0, fits_push P goal counts lines line h.1 f)
 
-pub fits_at : (P : Instance) (goal : Option ℕ) (lines : List Line) → EachFits P goal lines → (k : ℕ) (line : Line) → slice_get lines k ≡ Some line → LineFits P goal line
-fits_at P goal [] h k line e = absurd (cc)
-fits_at P goal (l ∷ lines) h zero line e = let s : l ≡ line = cc in subst (LineFits P goal) s h.0
-fits_at P goal (l ∷ lines) h (suc k) line e = fits_at P goal lines h.1 k line e
+pub fits_at : (P : Instance) (goal : Option ℕ) (counts : Bool) (lines : List Line) → EachFits P goal counts lines → (k : ℕ) (line : Line) → slice_get lines k ≡ Some line → LineFits P goal counts line
+fits_at P goal counts [] h k line e = absurd (cc)
+fits_at P goal counts (l ∷ lines) h zero line e = let s : l ≡ line = cc in subst (LineFits P goal counts) s h.0
+fits_at P goal counts (l ∷ lines) h (suc k) line e = fits_at P goal counts lines h.1 k line e
 
 -- one line more of a walk
 walk_by : (n : ℕ) (line : Line) (more : List Line) → after_trees (suc n) (line ∷ more) ≡ after_trees (open_after (suc n) line) more
@@ -67,9 +67,9 @@ not_whole lines count walk some tree =
     let none : after_trees 1 lines ≡ None = ap (after_trees 1) (sym (append-nil lines)) ∙ walk [] ∙ nothing count some in
     cc
 
-pub record LinesSoFar (P : Instance) (goal : Option ℕ) (old left : List ℕ) (lines : List Line) (count : ℕ) : Type 0 where
+pub record LinesSoFar (P : Instance) (goal : Option ℕ) (counts : Bool) (old left : List ℕ) (lines : List Line) (count : ℕ) : Type 0 where
   pub text : old ≡ lines_text P goal lines ++ left
-  pub fits : EachFits P goal lines
+  pub fits : EachFits P goal counts lines
   pub walk : Walks lines count
   pub parts : (k : ℕ) → k < length lines → IsTree (take k lines) → ⊥
   pub few : count ≤ length lines + 1
@@ -88,21 +88,21 @@ pub some_bytes : (bytes : List ℕ) → bytes ≢ [] → 0 < length bytes
 some_bytes [] h = absurd (h refl)
 some_bytes (b ∷ bytes) h = omega arith
 
-pub lines_more : (P : Instance) (goal : Option ℕ) (old left bytes rest : List ℕ) (lines more : List Line) (line : Line) (count next : ℕ) → LinesSoFar P goal old left lines count → 0 < count → bytes ≢ [] → left ≡ bytes ++ rest → Spells P goal bytes line → more ≡ lines ++ line ∷ [] → next ≡ open_after count line → LinesSoFar P goal old rest more next
-lines_more P goal old left bytes rest lines more line count next so some full e spells f g =
-    let s = spelled_lines_fit P goal bytes line spells in
+pub lines_more : (P : Instance) (goal : Option ℕ) (counts : Bool) (old left bytes rest : List ℕ) (lines more : List Line) (line : Line) (count next : ℕ) → LinesSoFar P goal counts old left lines count → 0 < count → bytes ≢ [] → left ≡ bytes ++ rest → Spells P goal counts bytes line → more ≡ lines ++ line ∷ [] → next ≡ open_after count line → LinesSoFar P goal counts old rest more next
+lines_more P goal counts old left bytes rest lines more line count next so some full e spells f g =
+    let s = spelled_lines_fit P goal counts bytes line spells in
     let long = length-append lines (line ∷ []) in
     let size : length left ≡ length bytes + length rest = ap length e ∙ length-append bytes rest in
     let some' = some_bytes bytes full in
     let few' = open_few count line in
-    subst (λ n. LinesSoFar P goal old rest more n) (sym g)
-    (subst (λ ls. LinesSoFar P goal old rest ls (open_after count line)) (sym f)
+    subst (λ n. LinesSoFar P goal counts old rest more n) (sym g)
+    (subst (λ ls. LinesSoFar P goal counts old rest ls (open_after count line)) (sym f)
     (record {
       text =
           so.text ∙ ap (λ t. lines_text P goal lines ++ t) (e ∙ ap (λ b. b ++ rest) s.1)
           ∙ sym (append_assoc (lines_text P goal lines) (line_text P (raw P goal line)) rest)
           ∙ ap (λ t. t ++ rest) (sym (lines_text_push P goal lines line));
-      fits = fits_push P goal lines line so.fits s.0;
+      fits = fits_push P goal counts lines line so.fits s.0;
       walk = λ ls. ap (after_trees 1) (append_assoc lines (line ∷ []) ls) ∙ so.walk (line ∷ ls) ∙ walk_one count line ls some;
       parts = λ k. parts_more lines line k so.parts (not_whole lines count so.walk some);
       few = omega (arith, so.few, few', long);
@@ -115,9 +115,9 @@ pub record HeaderFits (P : Instance) (named : List ℕ) (o : Opening) (goal : Op
   pub opening : OpeningFits P o
   pub goal_fits : GoalFits P o goal
 
-pub is_read : (P : Instance) (named : List ℕ) (o : Opening) (goal : Option ℕ) (old left : List ℕ) (lines : List Line) (count : ℕ) → HeaderFits P named o goal → LinesSoFar P goal old left lines count → IsReadSoFar P (log_with named o goal lines)
-is_read P named o goal old left lines count h so = record {
-  fits = record { named = h.rules; opening = h.opening; goal = h.goal_fits; lines = fits_at P goal lines so.fits };
+pub is_read : (P : Instance) (named : List ℕ) (o : Opening) (goal : Option ℕ) (counts : Bool) (old left : List ℕ) (lines : List Line) (count : ℕ) → HeaderFits P named o goal → LinesSoFar P goal counts old left lines count → IsReadSoFar P (log_with named o goal counts lines)
+is_read P named o goal counts old left lines count h so = record {
+  fits = record { named = h.rules; opening = h.opening; goal = h.goal_fits; lines = fits_at P goal counts lines so.fits };
   in_tree = so.parts;
 }
 
@@ -129,24 +129,24 @@ tree_read lines count walk e =
 headed : (h t left old : List ℕ) → old ≡ t ++ left → h ++ old ≡ (h ++ t) ++ left
 headed h t left old e = ap (λ z. h ++ z) e ∙ sym (append_assoc h t left)
 
-pub lines_end : (P : Instance) (named : List ℕ) (o : Opening) (goal : Option ℕ) (old left : List ℕ) (lines : List Line) (count : ℕ) → HeaderFits P named o goal → LinesSoFar P goal old left lines count → 0 < count → left ≡ [] → IsUnread P (kind_by goal) (header_text P named o goal ++ old) Refusals.Ends
-lines_end P named o goal old left lines count h so some e = record {
-  front = Reading (log_with named o goal lines);
-  no_cause = (refl, is_read P named o goal old left lines count h so);
+pub lines_end : (P : Instance) (named : List ℕ) (o : Opening) (goal : Option ℕ) (counts : Bool) (old left : List ℕ) (lines : List Line) (count : ℕ) → HeaderFits P named o goal → LinesSoFar P goal counts old left lines count → 0 < count → left ≡ [] → IsUnread P (kind_by goal) (header_text P named o goal counts ++ old) Refusals.Ends
+lines_end P named o goal counts old left lines count h so some e = record {
+  front = Reading (log_with named o goal counts lines);
+  no_cause = (refl, is_read P named o goal counts old left lines count h so);
   whole =
-      headed (header_text P named o goal) (lines_text P goal lines) left old so.text
-      ∙ ap (λ t. (header_text P named o goal ++ lines_text P goal lines) ++ t) e
-      ∙ append-nil (header_text P named o goal ++ lines_text P goal lines);
+      headed (header_text P named o goal counts) (lines_text P goal lines) left old so.text
+      ∙ ap (λ t. (header_text P named o goal counts ++ lines_text P goal lines) ++ t) e
+      ∙ append-nil (header_text P named o goal counts ++ lines_text P goal lines);
   not_whole = not_whole lines count so.walk some;
 }
 
 -- the text of a log, and what is left behind it
 abbrev Continues : Instance → Log → List ℕ → List ℕ → List ℕ → Type 0
-Continues P g text old left = (text ≡ header_text P g.named g.opening g.goal ++ old) × (old ≡ lines_text P g.goal g.lines ++ left)
+Continues P g text old left = (text ≡ header_text P g.named g.opening g.goal g.counts ++ old) × (old ≡ lines_text P g.goal g.lines ++ left)
 
 behind : (P : Instance) (g : Log) (text old left : List ℕ) → Continues P g text old left → text ≡ log_text P g ++ left
 behind P g text old left e =
-    e.0 ∙ headed (header_text P g.named g.opening g.goal) (lines_text P g.goal g.lines) left old e.1
+    e.0 ∙ headed (header_text P g.named g.opening g.goal g.counts) (lines_text P g.goal g.lines) left old e.1
 
 line_cut : (P : Instance) (kind : LogKind) (g : Log) (text old left bytes rest : List ℕ) (why : LogRefusal) → kind_by g.goal ≡ kind → Continues P g text old left → IsReadSoFar P g → left ≡ bytes ++ rest → IsNextLine bytes rest → ReadCause P kind (Reading g) bytes why → IsRefusedBehindFront P (IsRead P kind) (ReadCause P kind) text why
 line_cut P kind g text old left bytes rest why of e read f next cause = record {
@@ -159,23 +159,24 @@ line_cut P kind g text old left bytes rest why of e read f next cause = record {
   cause = cause;
 }
 
-pub line_unread : (P : Instance) (named : List ℕ) (o : Opening) (goal : Option ℕ) (old left bytes rest : List ℕ) (lines : List Line) (count n : ℕ) (why : LogRefusal) → HeaderFits P named o goal → LinesSoFar P goal old left lines count → 0 < count → left ≡ bytes ++ rest → IsNextLine bytes rest → n ≡ header_lines o goal + length lines + 1 → IsTreeLineRefused P goal bytes n why → IsUnread P (kind_by goal) (header_text P named o goal ++ old) why
-line_unread P named o goal old left bytes rest lines count n (Refusals.Form i) h so some e next num c =
-    line_cut P (kind_by goal) (log_with named o goal lines) (header_text P named o goal ++ old) old left bytes rest (Refusals.Form i) refl (refl, so.text) (is_read P named o goal old left lines count h so) e next (inr (not_whole lines count so.walk some, (c.0 ∙ num, c.1)), tt)
-line_unread P named o goal old left bytes rest lines count n (Refusals.Name i) h so some e next num c =
-    line_cut P (kind_by goal) (log_with named o goal lines) (header_text P named o goal ++ old) old left bytes rest (Refusals.Name i) refl (refl, so.text) (is_read P named o goal old left lines count h so) e next (inr (not_whole lines count so.walk some, (c.0 ∙ num, c.1)), tt)
-line_unread P named o goal old left bytes rest lines count n why h so some e next num c = absurd c
+pub line_unread : (P : Instance) (named : List ℕ) (o : Opening) (goal : Option ℕ) (counts : Bool) (old left bytes rest : List ℕ) (lines : List Line) (count n : ℕ) (why : LogRefusal) → HeaderFits P named o goal → LinesSoFar P goal counts old left lines count → 0 < count → left ≡ bytes ++ rest → IsNextLine bytes rest → n ≡ header_lines o goal counts + length lines + 1 → IsTreeLineRefused P goal counts bytes n why → IsUnread P (kind_by goal) (header_text P named o goal counts ++ old) why
+line_unread P named o goal counts old left bytes rest lines count n (Refusals.Form i) h so some e next num c =
+    line_cut P (kind_by goal) (log_with named o goal counts lines) (header_text P named o goal counts ++ old) old left bytes rest (Refusals.Form i) refl (refl, so.text) (is_read P named o goal counts old left lines count h so) e next (inr (not_whole lines count so.walk some, (c.0 ∙ num, c.1)), tt)
+line_unread P named o goal counts old left bytes rest lines count n (Refusals.Name i) h so some e next num c =
+    line_cut P (kind_by goal) (log_with named o goal counts lines) (header_text P named o goal counts ++ old) old left bytes rest (Refusals.Name i) refl (refl, so.text) (is_read P named o goal counts old left lines count h so) e next (inr (not_whole lines count so.walk some, (c.0 ∙ num, c.1)), tt)
+line_unread P named o goal counts old left bytes rest lines count n why h so some e next num c = absurd c
 
-pub line_extra : (P : Instance) (kind : LogKind) (g : Log) (text old left bytes rest : List ℕ) (n : ℕ) → kind_by g.goal ≡ kind → text ≡ header_text P g.named g.opening g.goal ++ old → AreReadLines P g old left → left ≡ bytes ++ rest → IsNextLine bytes rest → n ≡ header_lines g.opening g.goal + length g.lines + 1 → IsUnread P kind text (Refusals.Extra n)
+pub line_extra : (P : Instance) (kind : LogKind) (g : Log) (text old left bytes rest : List ℕ) (n : ℕ) → kind_by g.goal ≡ kind → text ≡ header_text P g.named g.opening g.goal g.counts ++ old → AreReadLines P g old left → left ≡ bytes ++ rest → IsNextLine bytes rest → n ≡ header_lines g.opening g.goal g.counts + length g.lines + 1 → IsUnread P kind text (Refusals.Extra n)
 line_extra P kind g text old left bytes rest n of t read f next num =
     line_cut P kind g text old left bytes rest (Refusals.Extra n) of (t, read.whole) read.read f next (inl (read.tree, num), tt)
 
 -- a whole log, from its parts
-pub read_whole : (P : Instance) (kind : LogKind) (g h : Log) (text old left : List ℕ) → kind_by g.goal ≡ kind → text ≡ header_text P g.named g.opening g.goal ++ old → AreReadLines P g old left → left ≡ [] → h.named ≡ g.named → h.opening ≡ g.opening → h.goal ≡ g.goal → h.lines ≡ g.lines → IsReadAs P kind text h
-read_whole P kind g h text old left of t read e by_name by_opening by_goal by_lines =
+pub read_whole : (P : Instance) (kind : LogKind) (g h : Log) (text old left : List ℕ) → kind_by g.goal ≡ kind → text ≡ header_text P g.named g.opening g.goal g.counts ++ old → AreReadLines P g old left → left ≡ [] → h.named ≡ g.named → h.opening ≡ g.opening → h.goal ≡ g.goal → h.counts ≡ g.counts → h.lines ≡ g.lines → IsReadAs P kind text h
+read_whole P kind g h text old left of t read e by_name by_opening by_goal by_counts by_lines =
     let is : h ≡ g =
-    ap (λ n. log_with n h.opening h.goal h.lines) by_name ∙ ap (λ o. log_with g.named o h.goal h.lines) by_opening
-    ∙ ap (λ o. log_with g.named g.opening o h.lines) by_goal ∙ ap (log_with g.named g.opening g.goal) by_lines in
+    ap (λ n. log_with n h.opening h.goal h.counts h.lines) by_name ∙ ap (λ o. log_with g.named o h.goal h.counts h.lines) by_opening
+    ∙ ap (λ o. log_with g.named g.opening o h.counts h.lines) by_goal ∙ ap (λ c. log_with g.named g.opening g.goal c h.lines) by_counts
+    ∙ ap (log_with g.named g.opening g.goal g.counts) by_lines in
     subst (IsReadAs P kind text) (sym is)
     (record { of_kind = of; is_text = behind P g text old left (t, read.whole) ∙ ap (λ z. log_text P g ++ z) e ∙ append-nil (log_text P g); fits = read.read.fits; tree = read.tree })
 

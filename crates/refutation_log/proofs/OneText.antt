@@ -1,5 +1,5 @@
 -- Symbols have names, and no two lists of lines have one text.
-use Rattle.std.proofs.Common.{◌≡◌, ◌≢◌, ℕ, ◌≤◌, List, [], ◌∷◌, ◌++◌, length, refl, ap, sym, ◌∙◌, subst, append-nil, Option, false}
+use Rattle.std.proofs.Common.{◌≡◌, ◌≢◌, ℕ, ◌≤◌, List, [], ◌∷◌, ◌++◌, length, refl, ap, sym, ◌∙◌, subst, append-nil, Option, Bool, false}
 use Rattle.std.specs.List.{join_with_byte}
 use Rattle.std.proofs.lemmas.List.Elements.{All-weaker}
 use Rattle.rwsp_text.specs.Fields.{Words, IsName}
@@ -46,15 +46,15 @@ body P goal line = join_with_byte 32 (raw_fields P (raw P goal line))
 pub feedless_words : (ws : Words) → AreBlankless ws → HasNoFeed (join_with_byte 32 ws)
 feedless_words ws h = join_no_feed ws h
 
-pub body_feedless : (P : Instance) (goal : Option ℕ) (line : Line) → KeepsLimits P → LineFits P goal line → HasNoFeed (body P goal line)
-body_feedless P goal line limits f = join_no_feed (raw_fields P (raw P goal line)) (line_words P goal line (is_writable P limits) (has_names P limits) f).1
+pub body_feedless : (P : Instance) (goal : Option ℕ) (counts : Bool) (line : Line) → KeepsLimits P → LineFits P goal counts line → HasNoFeed (body P goal line)
+body_feedless P goal counts line limits f = join_no_feed (raw_fields P (raw P goal line)) (line_words P goal counts line (is_writable P limits) (has_names P limits) f).1
 
-pub one_list : (P : Instance) (goal : Option ℕ) (ls ms : List Line) → KeepsLimits P → EachFits P goal ls → EachFits P goal ms → lines_text P goal ls ≡ lines_text P goal ms → ls ≡ ms
-one_list P goal ls ms limits f g e =
+pub one_list : (P : Instance) (goal : Option ℕ) (counts : Bool) (ls ms : List Line) → KeepsLimits P → EachFits P goal counts ls → EachFits P goal counts ms → lines_text P goal ls ≡ lines_text P goal ms → ls ≡ ms
+one_list P goal counts ls ms limits f g e =
     let w = is_writable P limits in
     let n = has_names P limits in
-    let words = same_lines (lines_fields P goal ls) (lines_fields P goal ms) (lines_words P goal ls w n f) (lines_words P goal ms w n g) (sym (lines_written P goal ls) ∙ e ∙ lines_written P goal ms) in
-    let longer = lines_longer P goal ms ls [] w n g f (words ∙ sym (append-nil (lines_fields P goal ms))) in
+    let words = same_lines (lines_fields P goal ls) (lines_fields P goal ms) (lines_words P goal counts ls w n f) (lines_words P goal counts ms w n g) (sym (lines_written P goal ls) ∙ e ∙ lines_written P goal ms) in
+    let longer = lines_longer P goal counts ms ls [] w n g f (words ∙ sym (append-nil (lines_fields P goal ms))) in
     longer.1 ∙ ap (λ z. ms ++ z) (nothing longer.0 longer.2) ∙ append-nil ms
   where
     nothing : (more : List Line) → [] ≡ lines_fields P goal more → more ≡ []

@@ -1,5 +1,5 @@
 -- The texts of lines, piece by piece.
-use Rattle.std.proofs.Common.{◌≡◌, ℕ, ◌+◌, ◌<◌, ◌≤◌, List, [], ◌∷◌, ◌++◌, length, take, get_or, Bool, refl, Option, Some, None, ap, sym, ◌∙◌, append_assoc}
+use Rattle.std.proofs.Common.{◌≡◌, ℕ, ◌+◌, ◌<◌, ◌≤◌, List, [], ◌∷◌, ◌++◌, length, take, get_or, Bool, true, false, refl, Option, Some, None, ap, sym, ◌∙◌, append_assoc}
 use Rattle.std.specs.Prelude.{codes}
 use Rattle.std.specs.List.{join_with_byte, flat_map}
 use Rattle.std.specs.Fmt.{decimal}
@@ -8,7 +8,7 @@ use Rattle.std.proofs.lemmas.List.Concat.{flat_map-append}
 use Rattle.rwsp_terms.specs.declared.data.Weight.{Weight}
 use Rattle.rwsp_terms.specs.Instance.{Instance}
 use Rattle.refutation_terms.specs.declared.lines.Line.{Line}
-use Rattle.refutation_terms.specs.LogText.{RawSplit, RawWindow, RawDay, RawDead, raw, raw_light, raw_fields, line_text, lines_text, place_words, way, named_weight, rules_text, goal_text, turn_text}
+use Rattle.refutation_terms.specs.LogText.{RawSplit, RawWindow, RawDay, RawDead, RawBlocks, raw, raw_light, raw_fields, line_text, lines_text, place_words, way, named_weight, rules_text, goal_text, turn_text}
 use Rattle.rwsp_text.specs.Fields.{numbers, weight_fields}
 use Rattle.rwsp_text.proofs.JoinedWords.{join_spaced}
 use Rattle.refutation_log.specs.Printing.{spaced, weight_words, light_head, weighed_words}
@@ -93,6 +93,11 @@ dead_text P p len R a b c d e f q r s t u =
     let vs : List (List ℕ) = ws ++ (codes "rules" ∷ []) in
     finish a w (vs ++ numbers R) f
     (more a w vs (numbers R) e f (word a w ws (codes "rules") d e (word a w (place_words P p) (decimal len) c d (more a w [] (place_words P p) b c (begin a w b q) r) s) t) u)
+
+pub blocks_text : (P : Instance) (name a b c : List ℕ) → b ≡ a ++ codes "blocks" → c ≡ b ++ 32 ∷ name → c ≡ a ++ join_with_byte 32 (raw_fields P (RawBlocks name))
+blocks_text P name a b c q r =
+    let w = codes "blocks" in
+    finish a w (name ∷ []) c (word a w [] name b c (begin a w b q) r)
 
 pub bound_head_text : (P : Instance) (p turns reward : ℕ) (a b c d : List ℕ) → b ≡ a ++ codes "bound" → c ≡ b ++ spaced (place_words P p) → d ≡ c ++ 32 ∷ decimal turns → d ≡ a ++ join_with_byte 32 (light_head P None p turns reward)
 bound_head_text P p turns reward a b c d q r s =

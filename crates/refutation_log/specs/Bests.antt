@@ -1,5 +1,5 @@
 -- What a search for the most free weekends gives.
-use Rattle.std.specs.Prelude.{◌≡◌, ℕ, ◌+◌, ◌≤◌, Option, Some, None}
+use Rattle.std.specs.Prelude.{◌≡◌, ℕ, ◌+◌, ◌≤◌, Bool, Option, Some, None}
 use Rattle.std.specs.Option.{IfSome}
 use Rattle.rwsp_terms.specs.Instance.{Instance}
 use Rattle.rwsp_terms.specs.Roster.{MeetsAll}
@@ -9,6 +9,7 @@ use Rattle.refutation_terms.specs.Log.{Log, Passes, IsSpent, size}
 use Rattle.refutation_log.specs.declared.found.Found.{Found}
 use Rattle.refutation_log.specs.declared.found.Found.TheVariants.{Roster, NoRoster as NoRosterFound, Undecided as UndecidedFound}
 use Rattle.refutation_log.specs.FreeSharp.{IsFreeSharp}
+use Rattle.refutation_log.specs.Planned.{IsCountedLog}
 use Rattle.refutation_log.specs.declared.best_found.BestFound.{BestFound}
 use Rattle.refutation_log.specs.declared.best_found.BestFound.TheVariants.{Best, NoRoster, Undecided}
 
@@ -58,3 +59,9 @@ IsFoundWith P budget goal (UndecidedFound g) = IsFreeSpent P budget goal g
 abbrev pub IsUndecided : BestFound → Type 0
 IsUndecided (Undecided s g) = Unit {0}
 IsUndecided found = ⊥
+
+-- the logs of a search which counts or not are as a plan's
+abbrev pub IsBestCounted : Instance → Bool → BestFound → Type 0
+IsBestCounted P counts (Best s g) = IsCountedLog P counts g
+IsBestCounted P counts (NoRoster g) = IsCountedLog P counts g
+IsBestCounted P counts (Undecided s g) = IsCountedLog P counts g

@@ -3,7 +3,7 @@ use Rattle.std.specs.Prelude.{◌≡◌, ◌⊎◌, ◌↔◌, ℕ, ◌<◌, Lis
 use Rattle.rwsp_terms.specs.declared.data.Weight.{Weight}
 use Rattle.rwsp_terms.specs.declared.data.Rule.{Rule}
 use Rattle.rwsp_terms.specs.declared.data.Rule.TheVariants.{Day}
-use Rattle.rwsp_terms.specs.Instance.{Instance}
+use Rattle.rwsp_terms.specs.Instance.{Instance, IsDay}
 use Rattle.rwsp_terms.specs.Rules.{rule_of}
 use Rattle.refutation_terms.specs.declared.lines.WordClaim.{WordClaim}
 use Rattle.refutation_terms.specs.declared.lines.WordClaim.TheVariants.{Dead, Light}
@@ -24,6 +24,10 @@ IsCited P Cited k = (r : Rule) × (rule_of P k ≡ Some r) × Cited r
 -- the number of the rule of the day
 abbrev pub IsDayRule : Instance → ℕ → ℕ → Type 0
 IsDayRule P j k = rule_of P k ≡ Some (Day j)
+
+-- the rule of some day
+abbrev pub IsSomeDay : Instance → Rule → Type 0
+IsSomeDay P r = (j : ℕ) × IsDay P j × (r ≡ Day j)
 
 -- the number of the rule of a day on which something is listed
 abbrev pub IsWeighedDayRule : Instance → List Weight → ℕ → Type 0

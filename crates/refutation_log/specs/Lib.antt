@@ -11,3 +11,4 @@ pub mod Planned
 pub mod Bests
 pub mod FreeSharp
 pub mod Needs
+pub mod OneLeaf

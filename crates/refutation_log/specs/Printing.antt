@@ -1,5 +1,5 @@
 -- Parts of the text of a log.
-use Rattle.std.specs.Prelude.{ℕ, List, [], ◌∷◌, ◌++◌, map, Option, Some, None, codes}
+use Rattle.std.specs.Prelude.{ℕ, List, [], ◌∷◌, ◌++◌, map, Bool, Option, Some, None, codes}
 use Rattle.std.specs.List.{AllByRecursion, flat_map}
 use Rattle.std.specs.Fmt.{decimal}
 use Rattle.rwsp_terms.specs.declared.data.Weight.{Weight}
@@ -13,9 +13,9 @@ use Rattle.rwsp_text.specs.Fields.{numbers, weight_fields}
 abbrev pub spaced : List (List ℕ) → List ℕ
 spaced words = flat_map (λ word. 32 ∷ word) words
 
--- each line of a log with this goal or none fits the problem
-abbrev pub EachFits : Instance → Option ℕ → List Line → Type 0
-EachFits P goal lines = AllByRecursion (LineFits P goal) lines
+-- each line of a log with this goal or none, which may count or not, fits the problem
+abbrev pub EachFits : Instance → Option ℕ → Bool → List Line → Type 0
+EachFits P goal counts lines = AllByRecursion (LineFits P goal counts) lines
 
 -- the fields of weights
 abbrev pub weight_words : Instance → List Weight → List (List ℕ)

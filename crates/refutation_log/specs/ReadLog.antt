@@ -1,6 +1,6 @@
 -- Why a text is refused by reading alone: its lines are spelled, its names known, and it is one whole tree. What the
 -- lines say isn't looked at.
-use Rattle.std.specs.Prelude.{◌≡◌, ℕ, ◌+◌, ◌-◌, ◌<◌, ◌≤◌, List, ◌++◌, length, take, Option}
+use Rattle.std.specs.Prelude.{◌≡◌, ℕ, ◌+◌, ◌-◌, ◌<◌, ◌≤◌, List, ◌++◌, length, take, Bool, Option}
 use Rattle.rwsp_terms.specs.declared.limits.TheConstants.{LONGEST_LOG, DAYS_OF_WEEK}
 use Rattle.rwsp_terms.specs.Instance.{Instance}
 use Rattle.refutation_terms.specs.declared.lines.LogKind.{LogKind}
@@ -32,8 +32,8 @@ pub record IsReadSoFar (P : Instance) (g : Log) : Type 0 where
 
 -- no line of the front has such a cause
 abbrev pub IsReadFront : Instance → Front → Type 0
-IsReadFront P (BeforeTurn named) = AreRules P named
-IsReadFront P (BeforeGoal named) = AreRules P named
+IsReadFront P (BeforeTurn counts named) = AreRules P named
+IsReadFront P (BeforeGoal counts named) = AreRules P named
 IsReadFront P (Reading g) = IsReadSoFar P g
 IsReadFront P front = Unit {0}
 
@@ -62,9 +62,10 @@ abbrev pub HasLogsOf : Instance → LogKind → Type 0
 HasLogsOf P WithoutGoal = Unit {0}
 HasLogsOf P WithGoal = P.days ≡ DAYS_OF_WEEK
 
--- the log of these rules, this opening, this goal or none, and these lines
-abbrev pub log_with : List ℕ → Opening → Option ℕ → List Line → Log
-log_with named opening goal lines = record { named = named; opening = opening; goal = goal; lines = lines }
+-- the log of these rules, this opening, this goal or none, and these lines, which may count or not
+abbrev pub log_with : List ℕ → Opening → Option ℕ → Bool → List Line → Log
+log_with named opening goal counts lines =
+    record { named = named; opening = opening; goal = goal; counts = counts; lines = lines }
 
 -- what is left behind the header of a log begins with its lines, which are one whole tree, and the rest follows them
 pub record AreReadLines (P : Instance) (g : Log) (left rest : List ℕ) : Type 0 where
@@ -73,11 +74,11 @@ pub record AreReadLines (P : Instance) (g : Log) (left rest : List ℕ) : Type 0
   pub whole : left ≡ lines_text P g.goal g.lines ++ rest
   pub few : length g.lines ≤ LONGEST_LOG
 
--- why a line of the tree of a log with this goal or none isn't read, as text line n
-abbrev pub IsTreeLineRefused : Instance → Option ℕ → List ℕ → ℕ → LogRefusal → Type 0
-IsTreeLineRefused P goal bytes n (Refusals.Form i) = (i ≡ n) × IsLineRefused P goal bytes Lines.Form
-IsTreeLineRefused P goal bytes n (Refusals.Name i) = (i ≡ n) × IsLineRefused P goal bytes Lines.Name
-IsTreeLineRefused P goal bytes n why = ⊥
+-- why a line of the tree of a log with this goal or none, which may count or not, isn't read, as text line n
+abbrev pub IsTreeLineRefused : Instance → Option ℕ → Bool → List ℕ → ℕ → LogRefusal → Type 0
+IsTreeLineRefused P goal counts bytes n (Refusals.Form i) = (i ≡ n) × IsLineRefused P goal counts bytes Lines.Form
+IsTreeLineRefused P goal counts bytes n (Refusals.Name i) = (i ≡ n) × IsLineRefused P goal counts bytes Lines.Name
+IsTreeLineRefused P goal counts bytes n why = ⊥
 
 -- how many trees are open behind a line, before which n are
 abbrev pub open_after : ℕ → Line → ℕ

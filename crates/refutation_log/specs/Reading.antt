@@ -1,5 +1,5 @@
 -- Reading a line of a log from its words, and the answer to it.
-use Rattle.std.specs.Prelude.{◌≡◌, ℕ, ◌+◌, List, [], ◌∷◌, length, cond, Option, Some, None, AllPairs, codes, Result, Ok, Err}
+use Rattle.std.specs.Prelude.{◌≡◌, ℕ, ◌+◌, List, [], ◌∷◌, length, cond, Bool, true, false, Option, Some, None, AllPairs, codes, Result, Ok, Err}
 use Rattle.std.specs.Str.{bytes_eq}
 use Rattle.rwsp_text.specs.Fields.{Words, NamedWeight, ◌>>=◌, number_at, name_at, word_at, place_at, rules_at, weight_in, weights_at, done_at, read}
 use Rattle.rwsp_terms.specs.declared.limits.TheConstants.{GREATEST_WEIGHT, GREATEST_REWARD, LONGEST_WORD}
@@ -13,7 +13,7 @@ use Rattle.refutation_terms.specs.declared.lines.Line.{Line}
 use Rattle.refutation_terms.specs.declared.lines.Line.TheVariants.{Closing}
 use Rattle.refutation_terms.specs.declared.lines.Leaf.TheVariants.{Words as WordsLeaf}
 use Rattle.refutation_terms.specs.declared.lines.WordClaim.TheVariants.{Light}
-use Rattle.refutation_terms.specs.LogText.{RawLine, RawDead, RawBound, RawFew, RawFree, RawUnfinished, weights_of, line_of, WeightsAscend, most_turns, split_kind, window_kind, day_kind}
+use Rattle.refutation_terms.specs.LogText.{RawLine, RawDead, RawBound, RawFew, RawFree, RawUnfinished, weights_of, line_of, WeightsAscend, most_turns, split_kind, window_kind, day_kind, blocks_kind}
 use Rattle.refutation_log.specs.declared.refusal.LineRefusal.{LineRefusal}
 use Rattle.refutation_log.specs.declared.refusal.LineRefusal.TheVariants.{Form, Name}
 
@@ -74,6 +74,9 @@ free_at P ws =
     weighed_at P head.1 >>= (λ v.
     Some (RawFree head.0.0 head.0.1 v.0 v.1)))
 
+unfoldable pub blocks_at : Words → Option RawLine
+blocks_at ws = read blocks_kind.fields blocks_kind.make ws
+
 -- the header's list of rules
 unfoldable pub named_at : Instance → Words → Option (List ℕ)
 named_at P ws = word_at (codes "rules") ws >>= (λ rest. done_at (rules_in P rest).0 (rules_in P rest).1)
@@ -90,32 +93,36 @@ unfoldable pub turn_at : Instance → Words → Option (List ℕ × ℕ)
 turn_at P ws = word_at (codes "turn") ws >>= (λ rest. name_at rest >>=
     (λ name. number_at 1 P.days name.1 >>= (λ day. done_at {X = List ℕ × ℕ} (name.0, day.0) day.1)))
 
--- a line by its first word, of a kind that only a log without a goal has, or an unfinished one
-unfoldable pub without_goal_at : Instance → List ℕ → Words → Option RawLine
-without_goal_at P w ws =
-    cond (bytes_eq w (codes "bound")) (bound_at P ws)
+-- a line by its first word, of a kind that only a log has that may count, or an unfinished one
+unfoldable pub last_at : Bool → List ℕ → Words → Option RawLine
+last_at false w ws = cond (bytes_eq w (codes "open")) (done_at RawUnfinished ws) None
+last_at true w ws =
+    cond (bytes_eq w (codes "blocks")) (blocks_at ws)
     (cond (bytes_eq w (codes "open")) (done_at RawUnfinished ws) None)
 
--- and of a kind that only a free log has
-unfoldable pub with_goal_at : Instance → List ℕ → Words → Option RawLine
-with_goal_at P w ws =
-    cond (bytes_eq w (codes "few")) (done_at RawFew ws)
-    (cond (bytes_eq w (codes "free")) (free_at P ws)
-    (cond (bytes_eq w (codes "open")) (done_at RawUnfinished ws) None))
+-- of a kind that only a log without a goal has, or of those
+unfoldable pub without_goal_at : Instance → Bool → List ℕ → Words → Option RawLine
+without_goal_at P counts w ws = cond (bytes_eq w (codes "bound")) (bound_at P ws) (last_at counts w ws)
 
--- by the goal of the log
-abbrev pub own_at : Instance → Option ℕ → List ℕ → Words → Option RawLine
-own_at P None w ws = without_goal_at P w ws
-own_at P (Some goal) w ws = with_goal_at P w ws
+-- and of a kind that only a free log has
+unfoldable pub with_goal_at : Instance → Bool → List ℕ → Words → Option RawLine
+with_goal_at P counts w ws =
+    cond (bytes_eq w (codes "few")) (done_at RawFew ws)
+    (cond (bytes_eq w (codes "free")) (free_at P ws) (last_at counts w ws))
+
+-- by the goal of the log, and by whether it may count
+abbrev pub own_at : Instance → Option ℕ → Bool → List ℕ → Words → Option RawLine
+own_at P None counts w ws = without_goal_at P counts w ws
+own_at P (Some goal) counts w ws = with_goal_at P counts w ws
 
 -- a line by its first word
-unfoldable pub raw_at : Instance → Option ℕ → Words → Option RawLine
-raw_at P goal [] = None
-raw_at P goal (w ∷ ws) =
+unfoldable pub raw_at : Instance → Option ℕ → Bool → Words → Option RawLine
+raw_at P goal counts [] = None
+raw_at P goal counts (w ∷ ws) =
     cond (bytes_eq w (codes "split")) (split_at P ws)
     (cond (bytes_eq w (codes "window")) (window_at P ws)
     (cond (bytes_eq w (codes "day")) (day_at P ws)
-    (cond (bytes_eq w (codes "dead")) (dead_at P ws) (own_at P goal w ws))))
+    (cond (bytes_eq w (codes "dead")) (dead_at P ws) (own_at P goal counts w ws))))
 
 -- the answer to rules and weights that were read in this way: they are of known symbols and ascend, or why they are
 -- refused

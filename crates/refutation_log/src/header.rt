@@ -4,31 +4,30 @@ ghost use Rattle.rwsp_terms.specs.Instance.{name_of};
 ghost use Rattle.rwsp_model.specs.Refusals.{MatchAnswer};
 ghost use Rattle.refutation_terms.specs.Ranges.{AreRules};
 ghost use Rattle.refutation_terms.specs.Log.{OpeningFits};
-ghost use Rattle.refutation_terms.specs.LogText.{version_text, rules_text, goal_text, turn_text};
+ghost use Rattle.refutation_terms.specs.LogText.{version_text, rules_text, goal_text};
 ghost use Rattle.refutation_terms.specs.Verdict.{kind_of, header_lines, TurnsTo, VersionCause, RulesCause, GoalCause};
 ghost use Rattle.rwsp_text.specs.Lines.{words_of};
-ghost use Rattle.refutation_log.specs.Refusals.{SpellsVersion, SpellsRules, SpellsGoal, IsTurnRefused};
+ghost use Rattle.refutation_log.specs.Refusals.{SpellsVersion, SpellsRules, SpellsGoal, IsTurnRefused, SpellsOpening, IsOpeningRefused};
 ghost use Rattle.refutation_log.specs.Reading.{named_at, goal_at, turn_at};
-ghost use Rattle.refutation_log.specs.Headers.{BeginsWithHeader, IsHeaderRefused, StopsFor, IsThird, StopsAtThird, TurnReadCause};
+ghost use Rattle.refutation_log.specs.Headers.{BeginsWithHeader, IsHeaderRefused, StopsFor, version_counts, HasOpening, IsThird, StopsAtThird, OpeningReadCause};
 
 use crate::LineRefusal;
 use crate::line::{body_of, rule_numbers};
-use refutation_terms::{LogKind, LogRefusal, Opening, Turn, Version};
+use refutation_terms::{LogKind, LogRefusal, Opening, Terms, Turn, Version};
 use rwsp_model::{Fail, Problem};
 use rwsp_terms::RuleList;
 use rwsp_text::{Fields, LineReader};
 use std::alloc::{AllocError, Global};
 
-/// The number of lines of the header of a log with this opening and this goal or none: three with a turn or a goal,
-/// else two.
-pub fn lines_of_header(opening: Opening, goal: Option<u32>) -> u32
-    ensures value { result ≡ header_lines opening goal }
+/// The number of lines of the header of a log with this opening and of these terms: three with a turn or a goal, or
+/// where it may count, else two.
+pub fn lines_of_header(opening: Opening, terms: Terms) -> u32
+    ensures value { result ≡ header_lines opening terms.goal terms.counts }
     ensures few { result ≤ 3 }
 {
-    match (opening, goal) {
-        (Opening::Full, None) => 2,
-        (Opening::Turned(_), None) => 3,
-        (_, Some(_)) => 3,
+    match (opening, terms.goal, terms.counts) {
+        (Opening::Full, None, false) => 2,
+        _ => 3,
     }
 }
 
@@ -38,7 +37,21 @@ pub struct Header<'a> {
     pub named: RuleList,
     pub opening: Opening,
     pub goal: Option<u32>,
+    pub counts: bool,
     pub body: &'a [u8],
+}
+
+impl<'a> Header<'a> {
+    /// What the lines behind it may be.
+    pub fn terms(&self) -> Terms
+        ensures goal { result.goal ≡ self.now.goal }
+        ensures counts { result.counts ≡ self.now.counts }
+    {
+        Terms {
+            goal: self.goal,
+            counts: self.counts,
+        }
+    }
 }
 
 /// The header of a text, as that of a log of this kind. Refused are a line that isn't spelled as it should be, a turn
@@ -50,7 +63,7 @@ pub fn read_header<'a>(
     bytes: &'a [u8],
 ) -> Result<Header<'a>, Fail<LogRefusal>>
     ensures { MatchAnswer result
-        (λ h. BeginsWithHeader problem.now kind bytes.now h.named h.opening h.goal h.body.now)
+        (λ h. BeginsWithHeader problem.now kind bytes.now h.named h.opening h.goal h.counts h.body.now)
         (IsHeaderRefused problem.now kind bytes.now) }
 {
     let mut reader = LineReader::new(bytes);
@@ -67,6 +80,7 @@ pub fn read_header<'a>(
             named,
             opening,
             goal,
+            counts: version_counts(version),
             body: reader.rest(),
         }),
         Err(why) => Err(Fail::Refused(why)),
@@ -88,7 +102,17 @@ fn version_line(reader: &mut LineReader, kind: LogKind) -> Result<Version, LogRe
     }
 }
 
-// The turn or the goal of the third line, or neither where the version has none.
+// Whether a log of this version may count.
+fn version_counts(version: Version) -> bool
+    ensures { result ≡ version_counts version }
+{
+    match version {
+        Version::Version3 | Version::Free2 => true,
+        Version::Version1 | Version::Version2 | Version::Free1 => false,
+    }
+}
+
+// The opening and the goal of the third line, or neither a turn nor a goal where the version has no third line.
 fn third_line(
     problem: &Problem,
     version: Version,
@@ -100,11 +124,13 @@ fn third_line(
 {
     match version {
         Version::Version1 => Ok((Opening::Full, None)),
-        Version::Version2 => match turn_line(problem, reader) {
-            Ok(turn) => Ok((Opening::Turned(turn), None)),
-            Err(why) => Err(why),
-        },
-        Version::Free1 => match goal_line(problem, reader) {
+        Version::Version2 | Version::Version3 => {
+            match opening_line(problem, version_counts(version), reader) {
+                Ok(opening) => Ok((opening, None)),
+                Err(why) => Err(why),
+            }
+        }
+        Version::Free1 | Version::Free2 => match goal_line(problem, reader) {
             Ok(goal) => Ok((Opening::Full, Some(goal))),
             Err(why) => Err(why),
         },
@@ -146,19 +172,21 @@ fn rules_line(
     }
 }
 
-// The turn of the third line.
-fn turn_line(problem: &Problem, reader: &mut LineReader) -> Result<Turn, LogRefusal>
+// The opening of the third line of a log which may count or not.
+fn opening_line(
+    problem: &Problem,
+    counts: bool,
+    reader: &mut LineReader,
+) -> Result<Opening, LogRefusal>
     ensures { MatchResult result
-        (λ t. OpeningFits problem.now (Opening.Turned t)
-        × (reader.old ≡ turn_text (name_of problem.now t.x) t.day ++ reader.new))
-        (StopsFor (TurnReadCause problem.now) reader.old) }
+        (λ o. HasOpening problem.now counts o reader.old reader.new)
+        (StopsFor (OpeningReadCause problem.now counts) reader.old) }
 {
-    problem.prove_limits();
     let Some(bytes) = reader.next() else {
         return Err(LogRefusal::Ends);
     };
-    match read_turn(problem, bytes) {
-        Ok(turn) => Ok(turn),
+    match read_opening(problem, counts, bytes) {
+        Ok(opening) => Ok(opening),
         Err(LineRefusal::Form) => Err(LogRefusal::Form(3)),
         Err(LineRefusal::Name) => Err(LogRefusal::Name(3)),
     }
@@ -181,6 +209,8 @@ fn read_log_version(bytes: &[u8]) -> Option<Version>
         Some(Version::Version1)
     } else if bytes == b"rwsp-log 2\n".as_slice() {
         Some(Version::Version2)
+    } else if bytes == b"rwsp-log 3\n".as_slice() {
+        Some(Version::Version3)
     } else {
         None
     }
@@ -191,6 +221,8 @@ fn read_free_version(bytes: &[u8]) -> Option<Version>
 {
     if bytes == b"rwsp-free 1\n".as_slice() {
         Some(Version::Free1)
+    } else if bytes == b"rwsp-free 2\n".as_slice() {
+        Some(Version::Free2)
     } else {
         None
     }
@@ -246,6 +278,20 @@ fn goal_of(problem: &Problem, body: &[u8]) -> Option<u32>
     fields.word(b"goal")?;
     let goal = fields.number(0, problem.weeks() + 1)?;
     if fields.is_done() { Some(goal) } else { None }
+}
+
+// The opening that the third line spells: a turn, or none in a log that may count.
+fn read_opening(problem: &Problem, counts: bool, bytes: &[u8]) -> Result<Opening, LineRefusal>
+    ensures { MatchResult result
+        (SpellsOpening problem.now counts bytes.now) (IsOpeningRefused problem.now counts bytes.now) }
+{
+    if counts && bytes == b"turn\n".as_slice() {
+        return Ok(Opening::Full);
+    }
+    match read_turn(problem, bytes) {
+        Ok(turn) => Ok(Opening::Turned(turn)),
+        Err(why) => Err(why),
+    }
 }
 
 // The turn that the third line spells.

@@ -3,12 +3,15 @@
 
 mod best_found;
 mod cited;
+mod fields;
 mod found;
 mod gather;
 mod header;
 mod laws;
+mod leaf;
 mod line;
 mod log;
+mod one_leaf;
 mod print;
 mod read;
 mod refusal;
@@ -23,9 +26,10 @@ pub use laws::{
 };
 pub use line::read_line;
 pub use log::{Log, copy_line};
+pub use one_leaf::one_leaf_log;
 pub use print::print_log;
 pub use read::read_log;
 pub use refusal::LineRefusal;
-pub use refutation_terms::{Leaf, Line, LogKind, LogRefusal, Opening, Turn, WordClaim};
+pub use refutation_terms::{Leaf, Line, LogKind, LogRefusal, Opening, Terms, Turn, WordClaim};
 pub use rwsp_text::LineReader;
 pub use turn::first_turn;

@@ -3,19 +3,19 @@ ghost use Rattle.std.specs.Prelude.{◌≡◌, ◌≢◌, ◌<◌, ◌≤◌, �
 ghost use Rattle.std.specs.List.Sorted.{IsStrictlyIncreasing};
 ghost use Rattle.rwsp_terms.specs.Rules.{rules};
 ghost use Rattle.rwsp_model.specs.Refusals.{MatchAnswer};
-ghost use Rattle.refutation_terms.specs.LogText.{RawSplit, RawWindow, RawDay, most_turns};
+ghost use Rattle.refutation_terms.specs.LogText.{RawSplit, RawWindow, RawDay, RawBlocks, most_turns};
 ghost use Rattle.refutation_terms.specs.Verdict.{Spells};
 ghost use Rattle.rwsp_text.specs.Lines.{words_of};
 ghost use Rattle.refutation_log.specs.Refusals.{IsLineRefused};
 ghost use Rattle.rwsp_text.specs.Fields.{IsValue};
 ghost use Rattle.rwsp_text.specs.Reads.{Reads};
 ghost use Rattle.rwsp_terms.specs.declared.limits.TheConstants.{GREATEST_WEIGHT};
-ghost use Rattle.refutation_log.specs.Reading.{split_at, window_at, day_at, head_at, rules_in, dead_at, named_weight_at, all_weights_at, weighed_at, bound_at, free_head_at, free_at, without_goal_at, with_goal_at, raw_at, Answers, AnswersWeighed, light_line};
+ghost use Rattle.refutation_log.specs.Reading.{split_at, window_at, day_at, head_at, rules_in, dead_at, named_weight_at, all_weights_at, weighed_at, bound_at, free_head_at, free_at, blocks_at, last_at, without_goal_at, with_goal_at, raw_at, Answers, AnswersWeighed, light_line};
 ghost use Rattle.refutation_log.specs.Gathering.{GivesAll, IsWeighed};
 
 use crate::LineRefusal;
 use crate::gather::{Gathered, add};
-use refutation_terms::{Leaf, Line, WordClaim};
+use refutation_terms::{Leaf, Line, Terms, WordClaim};
 use rwsp_model::{Fail, Problem, rule_count};
 use rwsp_terms::limits::{GREATEST_REWARD, GREATEST_WEIGHT, LONGEST_WORD};
 use rwsp_terms::{RuleList, Weights};
@@ -26,19 +26,21 @@ const FORM: Fail<LineRefusal> = Fail::Refused(LineRefusal::Form);
 
 const NAME: Fail<LineRefusal> = Fail::Refused(LineRefusal::Name);
 
-/// The line of a log with this goal, or without one, that a line of text spells. It needs its LF.
+/// The line of a log of these terms that a line of text spells. It needs its LF.
 pub fn read_line(
     alloc: Global,
     problem: &Problem,
-    goal: Option<u32>,
+    terms: Terms,
     bytes: &[u8],
 ) -> Result<Line, Fail<LineRefusal>>
-    ensures { MatchAnswer result (Spells problem.now goal bytes.now) (IsLineRefused problem.now goal bytes.now) }
+    ensures { MatchAnswer result
+        (Spells problem.now terms.goal terms.counts bytes.now)
+        (IsLineRefused problem.now terms.goal terms.counts bytes.now) }
 {
     problem.prove_limits();
     match body_of(bytes) {
         None => Err(FORM),
-        Some(body) => read_body(alloc, problem, goal, body),
+        Some(body) => read_body(alloc, problem, terms, body),
     }
 }
 
@@ -55,10 +57,10 @@ pub fn body_of(bytes: &[u8]) -> Option<&[u8]>
 fn read_body(
     alloc: Global,
     problem: &Problem,
-    goal: Option<u32>,
+    terms: Terms,
     body: &[u8],
 ) -> Result<Line, Fail<LineRefusal>>
-    ensures { Answers problem.now (raw_at problem.now goal (words_of body.now)) result }
+    ensures { Answers problem.now (raw_at problem.now terms.goal terms.counts (words_of body.now)) result }
 {
     let mut fields = Fields::of(body);
     let Some(word) = fields.next() else {
@@ -73,41 +75,41 @@ fn read_body(
     } else if word == b"dead".as_slice() {
         read_dead(alloc, problem, &mut fields)
     } else {
-        match goal {
-            None => read_without_goal(alloc, problem, word, &mut fields),
-            Some(_) => read_with_goal(alloc, problem, word, &mut fields),
+        match terms.goal {
+            None => read_without_goal(alloc, problem, terms.counts, word, &mut fields),
+            Some(_) => read_with_goal(alloc, problem, terms.counts, word, &mut fields),
         }
     }
 }
 
-// A line of a kind that only a log without a goal has, or an unfinished one.
+// A line of a kind that only a log without a goal has, or of the last kinds.
 #[tactic(auto, unfolding(crate::specs::Reading::without_goal_at))]
 fn read_without_goal(
     alloc: Global,
     problem: &Problem,
+    counts: bool,
     word: &[u8],
     fields: &mut Fields,
 ) -> Result<Line, Fail<LineRefusal>>
-    ensures { Answers problem.now (without_goal_at problem.now word.now fields.old) result }
+    ensures { Answers problem.now (without_goal_at problem.now counts word.now fields.old) result }
 {
     if word == b"bound".as_slice() {
         read_bound(alloc, problem, fields)
-    } else if word == b"open".as_slice() && fields.is_done() {
-        Ok(Line::Unfinished)
     } else {
-        Err(FORM)
+        read_last(problem, counts, word, fields)
     }
 }
 
-// A line of a kind that only a free log has, or an unfinished one.
+// A line of a kind that only a free log has, or of the last kinds.
 #[tactic(auto, unfolding(crate::specs::Reading::with_goal_at))]
 fn read_with_goal(
     alloc: Global,
     problem: &Problem,
+    counts: bool,
     word: &[u8],
     fields: &mut Fields,
 ) -> Result<Line, Fail<LineRefusal>>
-    ensures { Answers problem.now (with_goal_at problem.now word.now fields.old) result }
+    ensures { Answers problem.now (with_goal_at problem.now counts word.now fields.old) result }
 {
     if word == b"few".as_slice() {
         if fields.is_done() {
@@ -117,6 +119,23 @@ fn read_with_goal(
         }
     } else if word == b"free".as_slice() {
         read_free(alloc, problem, fields)
+    } else {
+        read_last(problem, counts, word, fields)
+    }
+}
+
+// A line of a kind that only a log has that may count, or an unfinished one.
+#[tactic(auto, unfolding(crate::specs::Reading::last_at))]
+fn read_last(
+    problem: &Problem,
+    counts: bool,
+    word: &[u8],
+    fields: &mut Fields,
+) -> Result<Line, Fail<LineRefusal>>
+    ensures { Answers problem.now (last_at counts word.now fields.old) result }
+{
+    if counts && word == b"blocks".as_slice() {
+        read_blocks(problem, fields)
     } else if word == b"open".as_slice() && fields.is_done() {
         Ok(Line::Unfinished)
     } else {
@@ -390,6 +409,26 @@ fn read_free(
         return Err(FORM);
     };
     light_line(0, turns, reward, weighed(alloc, problem, fields))
+}
+
+#[tactic(auto, unfolding(crate::specs::Reading::blocks_at))]
+fn blocks_name<'a>(fields: &mut Fields<'a>) -> Option<&'a [u8]>
+    ensures { MatchOption result (blocks_at fields.old ≡ None) (λ name. blocks_at fields.old ≡ Some (RawBlocks name.now)) }
+{
+    let name = fields.name()?;
+    if fields.is_done() { Some(name) } else { None }
+}
+
+fn read_blocks(problem: &Problem, fields: &mut Fields) -> Result<Line, Fail<LineRefusal>>
+    ensures { Answers problem.now (blocks_at fields.old) result }
+{
+    let Some(name) = blocks_name(fields) else {
+        return Err(FORM);
+    };
+    match problem.symbol(name) {
+        None => Err(NAME),
+        Some(x) => Ok(Line::Closing(Leaf::Blocks { x })),
+    }
 }
 
 // The most turns that a leaf may speak of.

@@ -3,18 +3,21 @@ ghost use Rattle.std.specs.Prelude.{◌≡◌, ◌≤◌, length, IfOk};
 ghost use Rattle.rwsp_terms.specs.declared.limits.TheConstants.{MOST_LINES};
 ghost use Rattle.refutation_terms.specs.Tree.{IsTree};
 
-use refutation_terms::{Leaf, Line, Opening, WordClaim};
+use crate::leaf::copy_leaf;
+use refutation_terms::{Line, Opening, Terms};
 use rwsp_terms::RuleList;
 use std::alloc::{AllocError, Global};
 use std::marker::Model;
 
-/// The rules that a refutation names, what is known before its first line, its goal if it has one, and its lines, which
-/// are one whole tree. A log with a goal says that no roster has as many free weekends as the goal.
+/// The rules that a refutation names, what is known before its first line, its goal if it has one, whether its lines may
+/// count blocks, and its lines, which are one whole tree. A log with a goal says that no roster has as many free weekends
+/// as the goal.
 #[derive(Drop)]
 pub struct Log {
     named: RuleList,
     opening: Opening,
     goal: Option<u32>,
+    counts: bool,
     lines: Vec<Line>,
 }
 
@@ -26,7 +29,11 @@ impl Model for Log {
 
     ghost Value = { LogValue };
 
-    ghost view = { λ g. record { named = g.named; opening = g.opening; goal = g.goal; lines = g.lines.items } };
+    ghost view = {
+        λ g. record {
+            named = g.named; opening = g.opening; goal = g.goal; counts = g.counts; lines = g.lines.items
+        }
+    };
 
     ghost invariant = { λ g. (after_trees 1 g.lines.items ≡ Some []) × (length g.lines.items ≤ MOST_LINES) };
 }
@@ -34,19 +41,27 @@ impl Model for Log {
 impl Log {
     ghost use Rattle.refutation_terms.specs.Log.{Log as LogValue};
 
-    /// The log of these rules, this opening, this goal if there is one, and these lines.
-    pub fn new(named: RuleList, opening: Opening, goal: Option<u32>, lines: Vec<Line>) -> Log
+    /// The log of these rules, this opening, this goal if there is one, and these lines, which may count blocks or not.
+    pub fn new(
+        named: RuleList,
+        opening: Opening,
+        goal: Option<u32>,
+        counts: bool,
+        lines: Vec<Line>,
+    ) -> Log
         requires tree { IsTree lines.items }
         requires few { length lines.items ≤ MOST_LINES }
         ensures named { result.named ≡ named }
         ensures opening { result.opening ≡ opening }
         ensures goal { result.goal ≡ goal }
+        ensures counts { result.counts ≡ counts }
         ensures lines { result.lines ≡ lines.items }
     {
         Log {
             named,
             opening,
             goal,
+            counts,
             lines,
         }
     }
@@ -72,6 +87,24 @@ impl Log {
         self.goal
     }
 
+    /// Whether its lines may count blocks.
+    pub fn counts(&self) -> bool
+        ensures { result ≡ self.now.counts }
+    {
+        self.counts
+    }
+
+    /// What its lines may be, by its goal and by whether they may count blocks.
+    pub fn terms(&self) -> Terms
+        ensures goal { result.goal ≡ self.now.goal }
+        ensures counts { result.counts ≡ self.now.counts }
+    {
+        Terms {
+            goal: self.goal,
+            counts: self.counts,
+        }
+    }
+
     /// The lines, which are one whole tree: a split before its sides.
     pub fn lines(&self) -> &[Line]
         ensures value { result.now ≡ self.now.lines }
@@ -81,15 +114,22 @@ impl Log {
         &self.lines
     }
 
-    /// Its rules, its opening, its goal and its lines, by themselves.
-    pub fn into_parts(self) -> (RuleList, Opening, Option<u32>, Vec<Line>)
+    /// Its rules, its opening, its goal, whether its lines may count blocks, and its lines, by themselves.
+    pub fn into_parts(self) -> (RuleList, Opening, Option<u32>, bool, Vec<Line>)
         ensures named { result.0 ≡ self.named }
         ensures opening { result.1 ≡ self.opening }
         ensures goal { result.2 ≡ self.goal }
-        ensures lines { result.3.items ≡ self.lines }
-        ensures few { length result.3.items ≤ MOST_LINES }
+        ensures counts { result.3 ≡ self.counts }
+        ensures lines { result.4.items ≡ self.lines }
+        ensures few { length result.4.items ≤ MOST_LINES }
     {
-        (self.named, self.opening, self.goal, self.lines)
+        (
+            self.named,
+            self.opening,
+            self.goal,
+            self.counts,
+            self.lines,
+        )
     }
 
     /// A copy of the log.
@@ -102,6 +142,7 @@ impl Log {
             named,
             opening: self.opening,
             goal: self.goal,
+            counts: self.counts,
             lines,
         })
     }
@@ -118,53 +159,6 @@ pub fn copy_line(line: &Line) -> Result<Line, AllocError>
             Ok(Line::Closing(leaf))
         }
         Line::Unfinished => Ok(Line::Unfinished),
-    }
-}
-
-fn copy_leaf(leaf: &Leaf) -> Result<Leaf, AllocError>
-    ensures { IfOk result (λ same. same ≡ leaf.now) }
-{
-    match leaf {
-        Leaf::Window { rule, p, len } => Ok(Leaf::Window {
-            rule: *rule,
-            p: *p,
-            len: *len,
-        }),
-        Leaf::Day { day, x, over } => Ok(Leaf::Day {
-            day: *day,
-            x: *x,
-            over: *over,
-        }),
-        Leaf::Words { p, rules, claim } => {
-            let rules = rules.copy()?;
-            let claim = copy_claim(claim)?;
-            Ok(Leaf::Words {
-                p: *p,
-                rules,
-                claim,
-            })
-        }
-        Leaf::Few => Ok(Leaf::Few),
-    }
-}
-
-fn copy_claim(claim: &WordClaim) -> Result<WordClaim, AllocError>
-    ensures { IfOk result (λ same. same ≡ claim.now) }
-{
-    match claim {
-        WordClaim::Dead { len } => Ok(WordClaim::Dead { len: *len }),
-        WordClaim::Light {
-            turns,
-            reward,
-            weights,
-        } => {
-            let weights = weights.copy()?;
-            Ok(WordClaim::Light {
-                turns: *turns,
-                reward: *reward,
-                weights,
-            })
-        }
     }
 }
 

@@ -11,7 +11,7 @@ ghost use Rattle.refutation_log.specs.ReadLog.{HasLogsOf, IsReadAs, IsUnread, lo
 use crate::header::{Header, lines_of_header, read_header};
 use crate::line::read_line;
 use crate::{LineRefusal, Log};
-use refutation_terms::{Line, LogKind, LogRefusal};
+use refutation_terms::{Line, LogKind, LogRefusal, Terms};
 use rwsp_model::{Fail, Problem};
 use rwsp_text::LineReader;
 use std::alloc::{AllocError, Global};
@@ -38,9 +38,15 @@ pub fn read_log(
         Err(fail) => return Err(fail),
     };
     match reader.next() {
-        None => Ok(Log::new(header.named, header.opening, header.goal, lines)),
+        None => Ok(Log::new(
+            header.named,
+            header.opening,
+            header.goal,
+            header.counts,
+            lines,
+        )),
         Some(_) => Err(Fail::Refused(LogRefusal::Extra(
-            lines_of_header(header.opening, header.goal) + lines.len() as u32 + 1,
+            lines_of_header(header.opening, header.terms()) + lines.len() as u32 + 1,
         ))),
     }
 }
@@ -57,12 +63,15 @@ fn read_lines(
     requires few { length reader.old ≤ LONGEST_LOG }
     ensures { MatchAnswer result
         (λ v. AreReadLines problem.now
-        (log_with header.now.named header.now.opening header.now.goal v.items) reader.old reader.new)
+        (log_with header.now.named header.now.opening header.now.goal header.now.counts v.items)
+        reader.old reader.new)
         (IsUnread problem.now (kind_by header.now.goal)
-        (header_text problem.now header.now.named header.now.opening header.now.goal ++ reader.old)) }
+        (header_text problem.now header.now.named header.now.opening header.now.goal header.now.counts
+        ++ reader.old)) }
 {
     problem.prove_limits();
-    let first = lines_of_header(header.opening, header.goal) + 1;
+    let terms = header.terms();
+    let first = lines_of_header(header.opening, terms) + 1;
     let mut lines = Vec::new(alloc);
     let mut count: u64 = 1;
     while count > 0 {
@@ -70,7 +79,7 @@ fn read_lines(
             return Err(Fail::Refused(LogRefusal::Ends));
         };
         let n = first + lines.len() as u32;
-        let line = match tree_line(alloc, problem, header.goal, bytes, n) {
+        let line = match tree_line(alloc, problem, terms, bytes, n) {
             Ok(line) => line,
             Err(fail) => return Err(fail),
         };
@@ -89,19 +98,19 @@ fn push_line(lines: &mut Vec<Line>, line: Line) -> Result<(), AllocError>
     Ok(())
 }
 
-// A line of the tree of a log with this goal or none, which is line n of the text.
+// A line of the tree of a log of these terms, which is line n of the text.
 fn tree_line(
     alloc: Global,
     problem: &Problem,
-    goal: Option<u32>,
+    terms: Terms,
     bytes: &[u8],
     n: u32,
 ) -> Result<Line, Fail<LogRefusal>>
     ensures { MatchAnswer result
-        (Spells problem.now goal bytes.now)
-        (IsTreeLineRefused problem.now goal bytes.now n) }
+        (Spells problem.now terms.goal terms.counts bytes.now)
+        (IsTreeLineRefused problem.now terms.goal terms.counts bytes.now n) }
 {
-    match read_line(alloc, problem, goal, bytes) {
+    match read_line(alloc, problem, terms, bytes) {
         Ok(line) => Ok(line),
         Err(Fail::Memory) => Err(Fail::Memory),
         Err(Fail::Refused(LineRefusal::Form)) => Err(Fail::Refused(LogRefusal::Form(n))),

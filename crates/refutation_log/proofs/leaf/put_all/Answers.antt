@@ -1,6 +1,6 @@
 use Rattle.std.proofs.Common.{refl, arith}
 use Rattle.refutation_log.proofs.Adding.{StandsAt, adds_more, number_step, all_numbers, some_numbers, err_from}
-use Rattle.refutation_log.proofs.cited.put_all.Goals as goal
+use Rattle.refutation_log.proofs.leaf.put_all.Goals as goal
 
 pub loop-number-preserved : goal.loop-number-preserved
 loop-number-preserved c =

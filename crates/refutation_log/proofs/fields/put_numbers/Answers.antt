@@ -1,6 +1,6 @@
 use Rattle.std.proofs.Common.{ap, ◌∙◌, ◌++◌, arith}
 use Rattle.refutation_log.proofs.PrintedTexts.{pieces_all, pieces_put, number_piece, spaced_numbers}
-use Rattle.refutation_log.proofs.print.put_numbers.Goals as goal
+use Rattle.refutation_log.proofs.fields.put_numbers.Goals as goal
 
 pub returns : goal.returns
 returns c =

@@ -2,7 +2,7 @@ use Rattle.std.proofs.Common.{◌≡◌, ap, ◌∙◌}
 use Rattle.rwsp_terms.specs.Rules.{rule_of}
 use Rattle.rwsp_model.proofs.Numbering.{one_number}
 use Rattle.refutation_log.proofs.Adding.{on_ok, adds_same}
-use Rattle.refutation_log.proofs.cited.put_day_rule.Goals as goal
+use Rattle.refutation_log.proofs.leaf.put_day_rule.Goals as goal
 
 pub returns-clause-ok : goal.returns-clause-ok
 returns-clause-ok c =

@@ -1,6 +1,6 @@
 use Rattle.std.proofs.Common.{ap, ◌∙◌, ◌++◌, arith}
 use Rattle.refutation_log.proofs.PrintedTexts.{pieces_all, pieces_put, weight_piece, spaced_weights}
-use Rattle.refutation_log.proofs.print.put_weights.Goals as goal
+use Rattle.refutation_log.proofs.fields.put_weights.Goals as goal
 
 pub returns : goal.returns
 returns c =

@@ -1,6 +1,6 @@
 use Rattle.refutation_log.proofs.Adding.{on_ok}
 use Rattle.refutation_log.proofs.PrintedTexts.{light_text}
-use Rattle.refutation_log.proofs.print.put_words.Goals as goal
+use Rattle.refutation_log.proofs.leaf.put_words.Goals as goal
 
 pub returns-in_ok-put_light_head-in-Light : goal.returns-in_ok-put_light_head-in-Light
 returns-in_ok-put_light_head-in-Light c =

@@ -1,5 +1,5 @@
 use Rattle.refutation_log.proofs.CitedRules.{adds_cited, adds_some_cited, listed_cited, weighed_cited}
-use Rattle.refutation_log.proofs.cited.put_words_cited.Goals as goal
+use Rattle.refutation_log.proofs.leaf.put_words_cited.Goals as goal
 
 pub returns-in-Dead-clause-ok : goal.returns-in-Dead-clause-ok
 returns-in-Dead-clause-ok c =

@@ -1,5 +1,5 @@
 use Rattle.refutation_log.proofs.CitedRules.{adds_cited, window_cited, day_cited, list_and_claim_fit}
-use Rattle.refutation_log.proofs.cited.put_leaf_cited.Goals as goal
+use Rattle.refutation_log.proofs.leaf.put_leaf_cited.Goals as goal
 
 pub returns-in-Window-clause-ok : goal.returns-in-Window-clause-ok
 returns-in-Window-clause-ok c =

@@ -1,5 +1,5 @@
 use Rattle.refutation_log.proofs.Adding.{on_ok, on_err, err_from, adds_both, some_first, some_then}
-use Rattle.refutation_log.proofs.cited.put_listed_and_days.Goals as goal
+use Rattle.refutation_log.proofs.leaf.put_listed_and_days.Goals as goal
 
 pub returns-in_err-put_all-clause-err : goal.returns-in_err-put_all-clause-err
 returns-in_err-put_all-clause-err c = err_from c.from_residual.result _ (some_first _ _ _ _ c.in_err-put_all.ensures.err)

@@ -1,7 +1,7 @@
 use Rattle.std.proofs.Common.{arith}
 use Rattle.std.proofs.lemmas.Option.{slice_get-get_or}
 use Rattle.refutation_log.proofs.Adding.{StandsOn, adds_more, weight_step, all_days, some_days, err_from}
-use Rattle.refutation_log.proofs.cited.put_days.Goals as goal
+use Rattle.refutation_log.proofs.leaf.put_days.Goals as goal
 
 pub loop-entry-preserved : goal.loop-entry-preserved
 loop-entry-preserved c =
