@@ -15,11 +15,11 @@ use Rattle.refutation_terms.specs.declared.lines.Opening.{Opening}
 use Rattle.refutation_terms.specs.declared.lines.Opening.TheVariants.{Full, Turned}
 use Rattle.refutation_terms.specs.LogText.{raw, line_text}
 use Rattle.refutation_terms.proofs.LineTables.{rules_fields, version_fields}
-use Rattle.refutation_terms.proofs.Texts.{lines_fields, log_fields, log_written, log_words, version_of, third_fields}
+use Rattle.refutation_terms.proofs.Texts.{lines_fields, log_fields, log_written, log_words, version_of, opening_fields, third_fields}
 use Rattle.refutation_log.proofs.OneText.{is_writable, has_names}
-use Rattle.refutation_terms.specs.declared.lines.Leaf.TheVariants.{Window, Day, Words as OfWords, Few}
+use Rattle.refutation_terms.specs.declared.lines.Leaf.TheVariants.{Window, Day, Words as OfWords, Few, Blocks}
 use Rattle.refutation_terms.specs.declared.lines.WordClaim.TheVariants.{Dead, Light}
-use Rattle.refutation_terms.specs.declared.lines.Version.TheVariants.{Version1, Version2, Free1}
+use Rattle.refutation_terms.specs.declared.lines.Version.TheVariants.{Version1, Version2, Version3, Free1, Free2}
 use Rattle.refutation_terms.specs.declared.lines.Version.{Version}
 use Rattle.refutation_terms.specs.Log.{Log}
 use Rattle.crew_size.specs.Sections.{AreWholeLines, BeginsAsHeading, HasHeadingAt, AreUpToHeading}
@@ -123,27 +123,34 @@ line_other P goal (Closing (OfWords p R (Dead len))) t = refl
 line_other P None (Closing (OfWords p R (Light turns reward y))) t = refl
 line_other P (Some goal) (Closing (OfWords p R (Light turns reward y))) t = refl
 line_other P goal (Closing Few) t = refl
+line_other P goal (Closing (Blocks x)) t = refl
 line_other P goal Unfinished t = refl
 
 lines_other : (P : Instance) (goal : Option ℕ) (lines : List Line) → AreLines (lines_fields P goal lines) → AreOther (lines_fields P goal lines)
 lines_other P goal [] are = tt
 lines_other P goal (line ∷ lines) are = (record { words = are.0; other = line_other P goal line }, lines_other P goal lines are.1)
 
-third_other : (P : Instance) (o : Opening) (goal : Option ℕ) (lines : List Line) → AreLines (third_fields P o goal ++ lines_fields P goal lines) → AreOther (third_fields P o goal ++ lines_fields P goal lines)
-third_other P Full None lines are = lines_other P None lines are
-third_other P (Turned turn) None lines are = (record { words = are.0; other = λ t. refl }, lines_other P None lines are.1)
-third_other P Full (Some goal) lines are = (record { words = are.0; other = λ t. refl }, lines_other P (Some goal) lines are.1)
-third_other P (Turned turn) (Some goal) lines are = (record { words = are.0; other = λ t. refl }, lines_other P (Some goal) lines are.1)
+opening_other : (P : Instance) (o : Opening) (t : List ℕ) → opens (text_of (opening_fields P o) ++ t) ≡ false
+opening_other P Full t = refl
+opening_other P (Turned turn) t = refl
+
+third_other : (P : Instance) (o : Opening) (goal : Option ℕ) (counts : Bool) (lines : List Line) → AreLines (third_fields P o goal counts ++ lines_fields P goal lines) → AreOther (third_fields P o goal counts ++ lines_fields P goal lines)
+third_other P Full None false lines are = lines_other P None lines are
+third_other P (Turned turn) None false lines are = (record { words = are.0; other = λ t. refl }, lines_other P None lines are.1)
+third_other P o None true lines are = (record { words = are.0; other = opening_other P o }, lines_other P None lines are.1)
+third_other P o (Some goal) counts lines are = (record { words = are.0; other = λ t. refl }, lines_other P (Some goal) lines are.1)
 
 version_other : (v : Version) (t : List ℕ) → opens (text_of (version_fields v) ++ t) ≡ false
 version_other Version1 t = refl
 version_other Version2 t = refl
+version_other Version3 t = refl
 version_other Free1 t = refl
+version_other Free2 t = refl
 
 log_other : (P : Instance) (g : Log) → AreLines (log_fields P g) → AreOther (log_fields P g)
 log_other P g are = (
-  record { words = are.0; other = version_other (version_of g.opening g.goal) },
-  (record { words = are.1.0; other = rules_other g.named }, third_other P g.opening g.goal g.lines are.1.1),
+  record { words = are.0; other = version_other (version_of g.opening g.goal g.counts) },
+  (record { words = are.1.0; other = rules_other g.named }, third_other P g.opening g.goal g.counts g.lines are.1.1),
 )
 
 pub logs_are_cut_whole : LogsAreCutWhole

@@ -1,11 +1,16 @@
 -- Lists to which numbers are added one after another.
-use Rattle.std.proofs.Common.{◌≡◌, ◌≢◌, ℕ, ◌+◌, ◌<◌, ◌≤◌, List, length, get_or, sym, ◌∙◌, subst, arith, ◌⊎◌, inl, inr, ⊎_elim, Some}
+use Rattle.std.proofs.Common.{◌≡◌, ◌≢◌, ℕ, ◌+◌, ◌-◌, ◌<◌, ◌≤◌, List, length, get_or, refl, ap, sym, ◌∙◌, subst, arith, ◌⊎◌, inl, inr, ⊎_elim, Some}
 use Rattle.std.specs.Prelude.{Contains, ◌↔◌, slice_get, Result, Ok, Err, OnOk, OnErr}
 use Rattle.std.proofs.lemmas.Bool.{cases_eq}
 use Rattle.std.proofs.lemmas.List.{get_or_default}
+use Rattle.std.proofs.lemmas.Option.{slice_get-get_or, get_or_from_slice_get, same_Some}
 use Rattle.rwsp_terms.specs.declared.data.Weight.{Weight}
+use Rattle.rwsp_terms.specs.declared.data.Rule.{Rule}
+use Rattle.rwsp_terms.specs.declared.data.Rule.TheVariants.{Day}
 use Rattle.rwsp_terms.specs.Instance.{Instance}
-use Rattle.refutation_log.specs.Cited.{Adds, AddsSome, IsDayRule, IsWeighedDayRule}
+use Rattle.rwsp_terms.specs.Rules.{rule_of}
+use Rattle.rwsp_model.proofs.Numbering.{one_number}
+use Rattle.refutation_log.specs.Cited.{Adds, AddsSome, IsCited, IsDayRule, IsSomeDay, IsWeighedDayRule}
 
 -- the list holds what it held, and what the first i steps add
 abbrev pub AddsTo : List ℕ → List ℕ → (ℕ → ℕ → Type 0) → ℕ → Type 0
@@ -125,3 +130,51 @@ err_from (Err e) A h = h
 
 pub some_same : (old new : List ℕ) (A B : ℕ → Type 0) → AddsSome old new A → ((k : ℕ) → A k ↔ B k) → AddsSome old new B
 some_same old new A B h same k = (λ o. (h k).0 o, λ c. ⊎_elim (λ (o : Contains old k). inl o) (λ (a : A k). inr ((same k).0 a)) ((h k).1 c))
+
+-- the steps of a list of rules
+abbrev pub StandsFor : Instance → List Rule → ℕ → ℕ → Type 0
+StandsFor P listed m k = (r : Rule) × (slice_get listed m ≡ Some r) × (rule_of P k ≡ Some r)
+
+listed_steps : (P : Instance) (listed : List Rule) (k : ℕ) → IsCited P (Contains listed) k ↔ ((m : ℕ) × (m < length listed) × StandsFor P listed m k)
+listed_steps P listed k = (
+  λ q. (q.2.0, q.2.1, (q.0, slice_get-get_or listed q.2.0 q.0 q.2.1 ∙ ap (λ (r : Rule). Some r) q.2.2, q.1)),
+  λ q. (q.2.0, q.2.2, (q.0, q.1, get_or_from_slice_get listed q.0 q.2.0 q.2.0 q.2.1)),
+)
+
+pub rule_step : (P : Instance) (mid new : List ℕ) (listed : List Rule) (i n : ℕ) (r : Rule) → slice_get listed i ≡ Some r → rule_of P n ≡ Some r → ((k : ℕ) → Contains new k ↔ (Contains mid k ⊎ (k ≡ n))) → Adds mid new (StandsFor P listed i)
+rule_step P mid new listed i n r is number h =
+    adds_same mid new (λ k. k ≡ n) (StandsFor P listed i) h
+    (λ k. (
+      λ e. (r, is, ap (rule_of P) e ∙ number),
+      λ q. one_number P k n r (q.2 ∙ ap (λ (z : Rule). Some z) (same_Some q.0 r (sym q.1 ∙ is))) number,
+    ))
+
+pub all_listed : (P : Instance) (old new : List ℕ) (items listed : List Rule) (i : ℕ) → items ≡ listed → i ≡ length items → AddsTo old new (StandsFor P items) i → Adds old new (IsCited P (Contains listed))
+all_listed P old new items listed i e all h =
+    subst (λ z. Adds old new (IsCited P (Contains z))) e
+    (adds_all old new (StandsFor P items) (length items) (IsCited P (Contains items)) (subst (AddsTo old new (StandsFor P items)) all h) (listed_steps P items))
+
+pub some_listed : (P : Instance) (old mid new : List ℕ) (items listed : List Rule) (i : ℕ) → items ≡ listed → i ≤ length items → AddsTo old mid (StandsFor P items) i → new ≡ mid → AddsSome old new (IsCited P (Contains listed))
+some_listed P old mid new items listed i e within h same =
+    subst (λ z. AddsSome old new (IsCited P (Contains z))) e
+    (adds_some old mid new (StandsFor P items) i (IsCited P (Contains items)) h (λ k m less q. (listed_steps P items k).1 (m, omega (arith, less, within), q)) same)
+
+-- the steps of the days, where the first is day 1
+abbrev pub StandsOnDay : Instance → ℕ → ℕ → Type 0
+StandsOnDay P m k = IsDayRule P (m + 1) k
+
+day_steps : (P : Instance) (k : ℕ) → IsCited P (IsSomeDay P) k ↔ ((m : ℕ) × (m < P.days) × StandsOnDay P m k)
+day_steps P k = (
+  λ q.
+      let back : q.2.0 ≡ q.2.0 - 1 + 1 = omega (arith, q.2.1.0) in
+      (q.2.0 - 1, omega (arith, q.2.1.0, q.2.1.1), q.1 ∙ ap (λ (r : Rule). Some r) q.2.2 ∙ ap (λ j. Some (Day j)) back),
+  λ q. (Day (q.0 + 1), q.2, (q.0 + 1, (omega arith, omega (arith, q.1)), refl)),
+)
+
+pub each_day : (P : Instance) (old new : List ℕ) (i : ℕ) → i ≡ P.days → AddsTo old new (StandsOnDay P) i → Adds old new (IsCited P (IsSomeDay P))
+each_day P old new i all h =
+    adds_all old new (StandsOnDay P) P.days (IsCited P (IsSomeDay P)) (subst (AddsTo old new (StandsOnDay P)) all h) (day_steps P)
+
+pub first_days : (P : Instance) (old mid new : List ℕ) (i : ℕ) → i ≤ P.days → AddsTo old mid (StandsOnDay P) i → new ≡ mid → AddsSome old new (IsCited P (IsSomeDay P))
+first_days P old mid new i within h same =
+    adds_some old mid new (StandsOnDay P) i (IsCited P (IsSomeDay P)) h (λ k m less q. (day_steps P k).1 (m, omega (arith, less, within), q)) same

@@ -6,11 +6,11 @@ use Rattle.std.proofs.lemmas.List.Elements.{All-contains}
 use Rattle.std.proofs.lemmas.Bool.{false_from_ne_true}
 use Rattle.rwsp_terms.specs.declared.data.Weight.{Weight}
 use Rattle.rwsp_terms.specs.declared.data.Rule.{Rule}
-use Rattle.rwsp_terms.specs.declared.data.Rule.TheVariants.{Day, MaxOff}
+use Rattle.rwsp_terms.specs.declared.data.Rule.TheVariants.{Day, MaxOff, MinOff, MaxWork, MinWork, MaxShift, MinShift}
 use Rattle.rwsp_terms.specs.declared.data.Symbol.{Symbol}
-use Rattle.rwsp_terms.specs.Instance.{Instance, shift_count, IsSymbol, IsDay}
+use Rattle.rwsp_terms.specs.Instance.{Instance, shift_count, IsSymbol, IsDay, symbol_numbered}
 use Rattle.rwsp_terms.specs.Roster.{IsRule}
-use Rattle.rwsp_terms.specs.Rules.{rule_of, rules, Names}
+use Rattle.rwsp_terms.specs.Rules.{rule_of, rules, shift_rules, Names}
 use Rattle.rwsp_terms.specs.Weights.{ComesBefore, weight_at, AreWeights, IsWeight}
 use Rattle.rwsp_terms.specs.Places.{is_at}
 use Rattle.rwsp_terms.proofs.Ascending.{Contains-cons, Contains-first, weight_past, weight_first, test_from_here, here_from_test}
@@ -29,7 +29,7 @@ use Rattle.refutation_terms.specs.WordsLeaf.{WordsFit, WordsCite}
 use Rattle.refutation_terms.specs.BlocksLeaf.{BlocksCite, IsBlockRule}
 use Rattle.refutation_terms.specs.Log.{LineFits, Cites, OpeningFits, OpeningCites}
 use Rattle.refutation_log.specs.Cited.{Adds, AddsSome, IsCited, IsDayRule, IsWeighedDayRule, ListAndClaimFit}
-use Rattle.refutation_log.proofs.Adding.{on_ok, on_err, adds_same, some_same}
+use Rattle.refutation_log.proofs.Adding.{on_ok, on_err, adds_same, adds_both, some_first, some_then, some_same}
 
 pub rule_there : (P : Instance) (k : ℕ) → 0 < k → k ≤ length (rules P) → (r : Rule) × (rule_of P k ≡ Some r)
 rule_there P zero some within = absurd (omega (arith, some))
@@ -147,6 +147,78 @@ adds_none P Cited old new none e k = (
   λ c. inl (subst (λ R. Contains R k) e c),
   λ h. ⊎_elim (λ (c : Contains old k). subst (λ R. Contains R k) (sym e) c) (λ (q : IsCited P Cited k). absurd (none q.0 q.2)) h,
 )
+
+-- two kinds of rules that are cited
+either_cited : (P : Instance) (A B : Rule → Type 0) (k : ℕ) → (IsCited P A k ⊎ IsCited P B k) ↔ IsCited P (λ r. A r ⊎ B r) k
+either_cited P A B k = (
+  λ h. ⊎_elim (λ (q : IsCited P A k). (q.0, q.1, inl q.2)) (λ (q : IsCited P B k). (q.0, q.1, inr q.2)) h,
+  λ q. ⊎_elim (λ (a : A q.0). inl (q.0, q.1, a)) (λ (b : B q.0). inr (q.0, q.1, b)) q.2,
+)
+
+pub adds_either : (P : Instance) (old mid new : List ℕ) (A B : Rule → Type 0) → Adds old mid (IsCited P A) → Adds mid new (IsCited P B) → Adds old new (IsCited P (λ r. A r ⊎ B r))
+adds_either P old mid new A B f g =
+    adds_same old new (λ k. IsCited P A k ⊎ IsCited P B k) (IsCited P (λ r. A r ⊎ B r)) (adds_both old mid new (IsCited P A) (IsCited P B) f g) (either_cited P A B)
+
+pub some_of_first : (P : Instance) (old new : List ℕ) (A B : Rule → Type 0) → AddsSome old new (IsCited P A) → AddsSome old new (IsCited P (λ r. A r ⊎ B r))
+some_of_first P old new A B f =
+    some_same old new (λ k. IsCited P A k ⊎ IsCited P B k) (IsCited P (λ r. A r ⊎ B r)) (some_first old new (IsCited P A) (IsCited P B) f) (either_cited P A B)
+
+pub some_of_both : (P : Instance) (old mid new : List ℕ) (A B : Rule → Type 0) → Adds old mid (IsCited P A) → AddsSome mid new (IsCited P B) → AddsSome old new (IsCited P (λ r. A r ⊎ B r))
+some_of_both P old mid new A B f g =
+    some_same old new (λ k. IsCited P A k ⊎ IsCited P B k) (IsCited P (λ r. A r ⊎ B r)) (some_then old mid new (IsCited P A) (IsCited P B) f g) (either_cited P A B)
+
+-- the rules on blocks, as lists
+abbrev pub off_rules : List Rule
+off_rules = MaxOff ∷ MinOff ∷ MaxWork ∷ MinWork ∷ []
+
+off_listed : (r : Rule) → Contains off_rules r ↔ IsBlockRule 0 r
+off_listed r = (
+  λ c. first c,
+  λ b. elim b [
+    | inl e ↦ (0, omega arith, sym e)
+    | inr b ↦ elim b [
+      | inl e ↦ (1, omega arith, sym e)
+      | inr b ↦ elim b [
+        | inl e ↦ (2, omega arith, sym e)
+        | inr e ↦ (3, omega arith, sym e)
+      ]
+    ]
+  ],
+)
+  where
+    fourth : Contains (MinWork ∷ []) r → r ≡ MinWork
+    fourth c = elim (Contains-cons MinWork [] r c) [ inl none ↦ absurd (omega (arith, none.1)) | inr e ↦ e ]
+
+    third : Contains (MaxWork ∷ MinWork ∷ []) r → (r ≡ MaxWork) ⊎ (r ≡ MinWork)
+    third c = elim (Contains-cons MaxWork (MinWork ∷ []) r c) [ inl c ↦ inr (fourth c) | inr e ↦ inl e ]
+
+    second : Contains (MinOff ∷ MaxWork ∷ MinWork ∷ []) r → (r ≡ MinOff) ⊎ (r ≡ MaxWork) ⊎ (r ≡ MinWork)
+    second c = elim (Contains-cons MinOff (MaxWork ∷ MinWork ∷ []) r c) [ inl c ↦ inr (third c) | inr e ↦ inl e ]
+
+    first : Contains off_rules r → IsBlockRule 0 r
+    first c = elim (Contains-cons MaxOff (MinOff ∷ MaxWork ∷ MinWork ∷ []) r c) [ inl c ↦ inr (second c) | inr e ↦ inl e ]
+
+shift_listed : (n : ℕ) (r : Rule) → 0 < n → Contains (shift_rules n) r ↔ IsBlockRule n r
+shift_listed zero r some = absurd (omega (arith, some))
+shift_listed (suc n) r some = (
+  λ c. first c,
+  λ b. elim b [ inl e ↦ (0, omega arith, sym e) | inr e ↦ (1, omega arith, sym e) ],
+)
+  where
+    last : Contains (MinShift (symbol_numbered (suc n)) ∷ []) r → r ≡ MinShift (symbol_numbered (suc n))
+    last c = elim (Contains-cons (MinShift (symbol_numbered (suc n))) [] r c) [ inl none ↦ absurd (omega (arith, none.1)) | inr e ↦ e ]
+
+    first : Contains (shift_rules (suc n)) r → IsBlockRule (suc n) r
+    first c = elim (Contains-cons (MaxShift (symbol_numbered (suc n))) (MinShift (symbol_numbered (suc n)) ∷ []) r c) [ inl c ↦ inr (last c) | inr e ↦ inl e ]
+
+same_cited : (P : Instance) (A B : Rule → Type 0) → ((r : Rule) → A r ↔ B r) → (k : ℕ) → IsCited P A k ↔ IsCited P B k
+same_cited P A B same k = (λ q. (q.0, q.1, (same q.0).0 q.2), λ q. (q.0, q.1, (same q.0).1 q.2))
+
+pub off_cited : (P : Instance) (n : ℕ) → n ≡ 0 → TellsCited P (IsBlockRule n) (IsCited P (Contains off_rules))
+off_cited P n e = subst (λ z. TellsCited P (IsBlockRule z) (IsCited P (Contains off_rules))) (sym e) (same_cited P (Contains off_rules) (IsBlockRule 0) off_listed)
+
+pub shift_cited : (P : Instance) (x : Symbol) → x.number ≢ 0 → TellsCited P (IsBlockRule x.number) (IsCited P (Contains (MaxShift x ∷ MinShift x ∷ [])))
+shift_cited P x some = same_cited P (Contains (shift_rules x.number)) (IsBlockRule x.number) (λ r. shift_listed x.number r (omega (arith, some)))
 
 -- names
 

@@ -12,3 +12,4 @@ pub mod HeaderLines
 pub mod OneText
 pub mod OneCause
 pub mod NotRefused
+pub mod OneLine

@@ -61,7 +61,11 @@ pub fn put_numbers(out: &mut Vec<u8>, all: &[u32]) -> Result<(), AllocError>
 }
 
 /// The day, the name and the value of each weight, each behind a blank.
-pub fn put_weights(out: &mut Vec<u8>, problem: &Problem, entries: &[Weight]) -> Result<(), AllocError>
+pub fn put_weights(
+    out: &mut Vec<u8>,
+    problem: &Problem,
+    entries: &[Weight],
+) -> Result<(), AllocError>
     requires { WeightsFit problem.now entries.now }
     ensures { OnOk result (out.new.items ≡ out.old.items ++ spaced (weight_words problem.now entries.now)) }
 {

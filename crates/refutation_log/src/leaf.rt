@@ -233,7 +233,11 @@ fn put_blocks(out: &mut Vec<u8>, problem: &Problem, x: Symbol) -> Result<(), All
 }
 
 /// Puts the rules that the leaf cites into the list.
-pub fn put_leaf_cited(rules: &mut RuleList, problem: &Problem, leaf: &Leaf) -> Result<(), AllocError>
+pub fn put_leaf_cited(
+    rules: &mut RuleList,
+    problem: &Problem,
+    leaf: &Leaf,
+) -> Result<(), AllocError>
     requires { (goal : Option ℕ) × (counts : Bool) × LeafFits problem.now goal counts leaf.now }
     ensures ok { OnOk result (Adds rules.old rules.new (IsCited problem.now (LeafCites problem.now leaf.now))) }
     ensures err { OnErr result (AddsSome rules.old rules.new (IsCited problem.now (LeafCites problem.now leaf.now))) }

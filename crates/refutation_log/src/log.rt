@@ -29,11 +29,13 @@ impl Model for Log {
 
     ghost Value = { LogValue };
 
-    ghost view = {
-        λ g. record {
-            named = g.named; opening = g.opening; goal = g.goal; counts = g.counts; lines = g.lines.items
-        }
-    };
+    ghost view = { λ g. record {
+      named = g.named;
+      opening = g.opening;
+      goal = g.goal;
+      counts = g.counts;
+      lines = g.lines.items;
+    } };
 
     ghost invariant = { λ g. (after_trees 1 g.lines.items ≡ Some []) × (length g.lines.items ≤ MOST_LINES) };
 }
@@ -123,13 +125,7 @@ impl Log {
         ensures lines { result.4.items ≡ self.lines }
         ensures few { length result.4.items ≤ MOST_LINES }
     {
-        (
-            self.named,
-            self.opening,
-            self.goal,
-            self.counts,
-            self.lines,
-        )
+        (self.named, self.opening, self.goal, self.counts, self.lines)
     }
 
     /// A copy of the log.

@@ -4,13 +4,12 @@ ghost use Rattle.rwsp_terms.specs.declared.data.Rule.{Rule};
 ghost use Rattle.rwsp_terms.specs.Rules.{Names};
 ghost use Rattle.refutation_terms.specs.declared.lines.Line.{Line};
 ghost use Rattle.refutation_terms.specs.Ranges.{AreRules};
-ghost use Rattle.refutation_terms.specs.Leaves.{LeafFits, LeafCites};
-ghost use Rattle.refutation_terms.specs.Log.{OpeningFits, OpeningCites, NamesOnlyCited, Passes};
+ghost use Rattle.refutation_terms.specs.Leaves.{LeafFits};
+ghost use Rattle.refutation_terms.specs.Log.{LineFits, Cites, OpeningFits, OpeningCites, NamesOnlyCited, Passes};
 ghost use Rattle.refutation_log.specs.OneLeaf.{ClosesAll};
 
 use crate::Log;
-use crate::cited::put_opening_cited;
-use crate::leaf::put_leaf_cited;
+use crate::cited::{put_cited, put_opening_cited};
 use refutation_terms::{Leaf, Line, Opening, Terms};
 use rwsp_model::Problem;
 use rwsp_terms::RuleList;
@@ -34,34 +33,36 @@ pub fn one_leaf_log(
     ensures cited { IfOk result (NamesOnlyCited problem.now) }
     ensures passes { ClosesAll problem.now opening terms.goal leaf → IfOk result (Passes problem.now) }
 {
-    let named = cited_rules(alloc, problem, opening, &leaf)?;
-    let lines = one_line(alloc, leaf)?;
+    let line = Line::Closing(leaf);
+    let named = cited_rules(alloc, problem, opening, &line)?;
+    let lines = one_line(alloc, line)?;
     Ok(Log::new(named, opening, terms.goal, terms.counts, lines))
 }
 
-// The rules that the opening and the leaf cite.
+// The rules that the opening and the line cite.
 fn cited_rules(
     alloc: Global,
     problem: &Problem,
     opening: Opening,
-    leaf: &Leaf,
+    line: &Line,
 ) -> Result<RuleList, AllocError>
     requires opening { OpeningFits problem.now opening }
-    requires leaf { (goal : Option ℕ) × (counts : Bool) × LeafFits problem.now goal counts leaf.now }
+    requires line { (goal : Option ℕ) × (counts : Bool) × LineFits problem.now goal counts line.now }
     ensures rules { IfOk result (AreRules problem.now) }
     ensures names { IfOk result (λ R. (r : Rule) → Names problem.now R r
-        ↔ (OpeningCites opening r ⊎ LeafCites problem.now leaf.now r)) }
+        ↔ (OpeningCites opening r ⊎ Cites problem.now line.now r)) }
 {
     let mut rules = RuleList::new(alloc);
     put_opening_cited(&mut rules, problem, opening)?;
-    put_leaf_cited(&mut rules, problem, leaf)?;
+    put_cited(&mut rules, problem, line)?;
+    rules.numbers();
     Ok(rules)
 }
 
-fn one_line(alloc: Global, leaf: Leaf) -> Result<Vec<Line>, AllocError>
-    ensures { IfOk result (λ lines. lines.items ≡ Line.Closing leaf ∷ []) }
+fn one_line(alloc: Global, line: Line) -> Result<Vec<Line>, AllocError>
+    ensures { IfOk result (λ lines. lines.items ≡ line ∷ []) }
 {
     let mut lines = Vec::new(alloc);
-    lines.push(Line::Closing(leaf))?;
+    lines.push(line)?;
     Ok(lines)
 }

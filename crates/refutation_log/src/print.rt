@@ -1,5 +1,5 @@
 // The text of a log.
-ghost use Rattle.std.specs.Prelude.{◌≡◌, ℕ, ◌++◌, ◌<◌, OnOk, IfOk, Some, None, slice_get};
+ghost use Rattle.std.specs.Prelude.{◌≡◌, ℕ, ◌++◌, ◌<◌, OnOk, IfOk, true, false, Some, None, slice_get};
 ghost use Rattle.std.specs.List.{join_with_byte};
 ghost use Rattle.rwsp_terms.specs.Instance.{cells, IsSymbol, name_of};
 ghost use Rattle.refutation_terms.specs.declared.lines.Line.{Line};
@@ -144,11 +144,7 @@ fn put_counting_header(
     put_opening(out, problem, opening)
 }
 
-fn put_opening(
-    out: &mut Vec<u8>,
-    problem: &Problem,
-    opening: Opening,
-) -> Result<(), AllocError>
+fn put_opening(out: &mut Vec<u8>, problem: &Problem, opening: Opening) -> Result<(), AllocError>
     requires { OpeningFits problem.now opening }
     ensures { OnOk result (out.new.items ≡ out.old.items ++ opening_text problem.now opening) }
 {

@@ -6,4 +6,4 @@ use Rattle.refutation_log.proofs.cited.put_cited.Goals as goal
 pub returns-clause-names : goal.returns-clause-names
 returns-clause-names c =
     let P = c.args.problem.now in
-    on_ok c.put_line_cited.result _ _ (names_added P _ _ (Cites P c.args.line.now) (line_numbered P c.requires.0 c.args.line.now c.requires.1)) c.put_line_cited.ensures.ok
+    on_ok c.put_line_cited.result _ _ (names_added P _ _ (Cites P c.args.line.now) (line_numbered P c.requires.0 c.requires.1 c.args.line.now c.requires.2)) c.put_line_cited.ensures.ok

@@ -23,5 +23,6 @@ returns-in-Err-third_line c =
 
 pub returns-in-Ok-third_line : goal.returns-in-Ok-third_line
 returns-in-Ok-third_line c =
-    header_read c.args.problem.now c.args.kind c.in-Ok.version c.in-Ok-rules_line.named c.in-Ok-third_line.opening c.in-Ok-third_line.goal _ c.version_line.new.reader c.rules_line.new.reader c.third_line.new.reader c.rest.result.now
-    c.in-Ok.ensures.0 (sym c.new-reader.ensures ∙ c.in-Ok.ensures.1) c.in-Ok-rules_line.ensures.0 c.in-Ok-rules_line.ensures.1 c.in-Ok-third_line.ensures c.rest.ensures
+    rw c.version_counts.ensures
+    (header_read c.args.problem.now c.args.kind c.in-Ok.version c.in-Ok-rules_line.named c.in-Ok-third_line.opening c.in-Ok-third_line.goal _ c.version_line.new.reader c.rules_line.new.reader c.third_line.new.reader c.rest.result.now
+    c.in-Ok.ensures.0 (sym c.new-reader.ensures ∙ c.in-Ok.ensures.1) c.in-Ok-rules_line.ensures.0 c.in-Ok-rules_line.ensures.1 c.in-Ok-third_line.ensures c.rest.ensures)

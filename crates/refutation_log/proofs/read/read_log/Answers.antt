@@ -14,13 +14,14 @@ pub returns-in-Some : goal.returns-in-Some
 returns-in-Some c =
     let P = c.args.problem.now in
     let h = c.in-Ok.header in
-    line_extra P c.args.kind (log_with h.named h.opening h.goal c.in-Ok-read_lines.lines.items) c.args.bytes.now c.new-reader.result c.read_lines.new.reader c.in-Some.field-0.now c.next.new.self _
-    c.in-Ok.ensures.of_kind (c.in-Ok.ensures.whole ∙ ap (λ t. header_text P h.named h.opening h.goal ++ t) (sym c.new-reader.ensures)) c.in-Ok-read_lines.ensures c.in-Some.ensures.line.1 c.in-Some.ensures.end (omega arith)
+    let first = rw (c.terms.ensures.goal, c.terms.ensures.counts) at c.lines_of_header.ensures.value in
+    line_extra P c.args.kind (log_with h.named h.opening h.goal h.counts c.in-Ok-read_lines.lines.items) c.args.bytes.now c.new-reader.result c.read_lines.new.reader c.in-Some.field-0.now c.next.new.self _
+    c.in-Ok.ensures.of_kind (c.in-Ok.ensures.whole ∙ ap (λ t. header_text P h.named h.opening h.goal h.counts ++ t) (sym c.new-reader.ensures)) c.in-Ok-read_lines.ensures c.in-Some.ensures.line.1 c.in-Some.ensures.end (omega (arith, first))
 
 pub returns-in-None : goal.returns-in-None
 returns-in-None c =
     let P = c.args.problem.now in
     let h = c.in-Ok.header in
-    read_whole P c.args.kind (log_with h.named h.opening h.goal c.in-Ok-read_lines.lines.items) c.new.result c.args.bytes.now c.new-reader.result c.read_lines.new.reader
-    c.in-Ok.ensures.of_kind (c.in-Ok.ensures.whole ∙ ap (λ t. header_text P h.named h.opening h.goal ++ t) (sym c.new-reader.ensures)) c.in-Ok-read_lines.ensures c.in-None.ensures.line
-    c.new.ensures.named c.new.ensures.opening c.new.ensures.goal c.new.ensures.lines
+    read_whole P c.args.kind (log_with h.named h.opening h.goal h.counts c.in-Ok-read_lines.lines.items) c.new.result c.args.bytes.now c.new-reader.result c.read_lines.new.reader
+    c.in-Ok.ensures.of_kind (c.in-Ok.ensures.whole ∙ ap (λ t. header_text P h.named h.opening h.goal h.counts ++ t) (sym c.new-reader.ensures)) c.in-Ok-read_lines.ensures c.in-None.ensures.line
+    c.new.ensures.named c.new.ensures.opening c.new.ensures.goal c.new.ensures.counts c.new.ensures.lines
