@@ -103,7 +103,7 @@ impl Automaton {
         Automaton::of(alloc, problem, &rules, told)
     }
 
-    /// The same automaton.
+    /// A copy, whose states aren't looked for again.
     pub fn copy(&self) -> Result<Automaton, AllocError>
         ensures { IfOk result (λ a. a ≡ self.now) }
     {

@@ -43,7 +43,7 @@ pub fn kept_rows<G: Gain>(
     Ok(KeptRows { kept, first })
 }
 
-// Keeps the row that has so many days behind it, if it is one to be kept.
+// Keeps the row with `left` days behind it, if `STRIDE` divides these.
 fn keep(kept: &mut Vec<Row>, row: Row, left: u32) -> Result<(), AllocError>
     requires { left < LONGEST_WORD }
     ensures { OnOk result ((T : Trellis) → IsRow T (T.days - left) row → AreKept T left kept.old.items

@@ -19,6 +19,7 @@ pub(crate) struct Lengths {
 }
 
 impl Lengths {
+    /// The lengths of a class on whose blocks the list has no rule.
     pub const NONE: Lengths = Lengths {
         least: None,
         greatest: None,

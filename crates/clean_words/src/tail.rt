@@ -5,7 +5,8 @@ ghost use Rattle.clean_words.specs.Tails.{capped};
 use rwsp_terms::Symbol;
 use rwsp_terms::limits::LONGEST_RUN;
 
-/// Six facts of a word: its tail.
+/// Six facts of a word, its tail. They decide by which symbols a clean word may go on, however long it is: so they are
+/// the states of the automaton before it is made small.
 #[derive(Clone, Copy, PartialEq, Eq, PartialOrd, Ord)]
 pub struct Tail {
     /// The last symbol. The empty word has none.

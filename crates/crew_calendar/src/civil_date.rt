@@ -54,7 +54,7 @@ pub fn from_jiff(date: Date) -> CivilDate
     }
 }
 
-/// The same date for `jiff`.
+/// The date as one of `jiff`'s own type.
 pub fn to_jiff(date: CivilDate) -> Date
     ensures { result ≡ date }
 {

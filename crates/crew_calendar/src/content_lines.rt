@@ -51,7 +51,7 @@ fn width(b: u8) -> usize
     }
 }
 
-// Appends a byte of a line to a row with so many bytes, or to a new row; gives how many the row has then.
+// Appends a byte of a line to a row that has `column` bytes, or to a new row; gives how many the row has then.
 fn put_in_row(out: &mut Vec<u8>, b: u8, column: usize) -> Result<usize, AllocError>
     requires { column ≤ LONGEST_ROW }
     ensures row { IfOk result (λ next. next ≤ LONGEST_ROW) }

@@ -8,7 +8,8 @@ use crate::MOST_DAYS_APART;
 use rwsp_model::Problem;
 use rwsp_terms::Symbol;
 
-/// The position of an employee, from 1 on, on a day, from 0 on. Takes no memory.
+/// The position of an employee, from 1 on, on a day, from 0 on: employee 1 begins with week 1, employee 2 with week 2,
+/// and so on, and all go round the cycle. Takes no memory.
 pub fn place(problem: &Problem, employee: u32, t: u32) -> u32
     requires employee { IsEmployee problem.now employee }
     requires day { t ≤ MOST_DAYS_APART }

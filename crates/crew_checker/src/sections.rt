@@ -25,7 +25,7 @@ use std::alloc::Global;
 use std::marker::Model;
 use std::thread::Threads;
 
-// Who judges logs: so many workers at most, who pass the gate.
+// Who judges logs: this number of workers at most, who pass the gate.
 #[derive(Drop)]
 struct Workers<'a, R, G> {
     rt: &'a R,

@@ -16,7 +16,7 @@ use std::marker::Model;
 use std::mem;
 
 /// The symbols that each position may still have, with a trail of the changes (the trail of D. Warren's abstract
-/// machine, 1983).
+/// machine, 1983): so going back costs as much as what was changed since, and no copy of all domains.
 ///
 /// Positions count from 0, week after week. Each change takes a symbol or more from one domain, and leaves one at
 /// least.
@@ -76,8 +76,8 @@ impl Domains {
         })
     }
 
-    /// The same domains with the same trail, and room for all changes that can still be made: a mark of the one is a
-    /// mark of the other.
+    /// A copy of the domains and their trail, with room for all changes that can still be made. A mark of these domains
+    /// is one of the copy.
     pub fn copy(&self) -> Result<Domains, AllocError>
         ensures { IfOk result (λ D. D ≡ self.now) }
     {

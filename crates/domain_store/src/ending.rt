@@ -10,7 +10,7 @@ use crate::Domains;
 use crate::open_split::OpenSplit;
 
 /// Ends a tree that has just been read: each open split whose second side ends with it is closed, and the innermost one
-/// that is in its first side goes over to its second. Whether none is left, so that a whole tree has been read.
+/// that is in its first side goes over to its second. True where no split is left: then a whole tree has been read.
 pub fn end_tree(domains: &mut Domains, splits: &mut Vec<OpenSplit>) -> bool
     requires { IsBehindTree domains.old splits.old.items }
     ensures same { HasSameShape domains.old domains.new }

@@ -6,8 +6,8 @@ use crate::{Domains, SymbolSet};
 use std::alloc::{AllocError, Global};
 use std::marker::Model;
 
-/// For each position a set of symbols: the domains of some earlier time, which whoever follows a store compares with
-/// the present ones.
+/// For each position a set of symbols: the domains of some earlier time. Who follows a store compares them with the
+/// present ones, since an undoing doesn't say what it gave back.
 #[derive(Drop)]
 pub struct KeptSets {
     sets: Vec<SymbolSet>,

@@ -31,7 +31,7 @@ pub trait Propagator {
     fn prove_spent(&self)
         ensures { AreSpentBesideAnother (serves self.now) (spent self.now) };
 
-    /// Whether a leaf closes the domains, and else a spent symbol where there is one. It tracks what it tracked.
+    /// A leaf that closes the domains, or else a spent symbol, or neither where there is none. What it tracks stays.
     fn look(&mut self, alloc: Global, doms: &Domains) -> Result<Look, AllocError>
         requires problem { (P : Instance) × serves self.old P × BelongsTo P doms.now }
         requires tracked { tracks self.old doms.now }

@@ -60,7 +60,7 @@ impl Walk {
         })
     }
 
-    /// The same walk, which goes its own way.
+    /// An independent copy, as a worker needs that judges the lines behind this place by itself.
     pub fn copy(&self) -> Result<Walk, AllocError>
         ensures { IfOk result (λ w. w ≡ self.now) }
     {

@@ -1,4 +1,4 @@
-// Vectors of whole numbers, and the pair of them between which a part of a mix is best moved.
+// Vectors of whole numbers, and the two of them between which a part of a mix (a convex combination) is best moved.
 ghost use Rattle.std.specs.Prelude.{◌≡◌, ◌<◌, ◌≤◌, length, slice_index, IfSome};
 
 use std::marker::Model;
@@ -18,12 +18,14 @@ impl Model for Vector {
 }
 
 impl Vector {
+    // The vector of these numbers.
     pub fn new(entries: Vec<i64>) -> Vector
         ensures { result ≡ entries.items }
     {
         Vector { entries }
     }
 
+    // Its numbers.
     pub fn entries(&self) -> &[i64]
         ensures { result.now ≡ self.now }
     {

@@ -6,17 +6,18 @@ use crate::corner::{Move, Vector, best_move, product};
 use std::alloc::{AllocError, Global};
 use std::marker::Model;
 
-/// The parts of a mix sum to this.
+/// The parts of a mix sum to this: so a part is a whole number of about millionths.
 pub const SCALE: u32 = 1 << 20;
 
-/// Vectors of whole numbers and a mix of them, which comes nearer to a box step by step.
+/// Vectors of whole numbers and a mix of them (a convex combination), which comes nearer to a box step by step.
 ///
 /// The mix is the sum of the vectors, each times its part; so it is `SCALE` times a point of their hull, as long as
 /// the parts sum to `SCALE`. The box has a least and a greatest number for each coordinate.
 ///
-/// Each step moves a part to the vector that lies furthest toward the box from the one that lies least so, of those that
-/// have a part (B. Mitchell, V. Dem'yanov, V. Malozemov, 1974). With the furthest of all vectors pushed in turn, whose hull need not be written
-/// out, this finds the nearest point of that hull, or a plane between it and the box.
+/// Each step moves a part to the vector that lies furthest toward the box from the one that lies least so, of those
+/// that have a part (B. Mitchell, V. Dem'yanov, V. Malozemov, 1974). Where the hull has too many corners to write out,
+/// its furthest corner is pushed before each descent; this finds the nearest point of that hull, or a plane between it
+/// and the box (column generation).
 #[derive(Drop)]
 pub struct Hull {
     // The ends of the box, times `SCALE`.
@@ -139,7 +140,7 @@ impl Hull {
         }
     }
 
-    // One step; whether there was one.
+    // Takes one step. False where none brings the mix nearer.
     fn step(&mut self) -> bool
         ensures vectors { self.new.vectors ≡ self.old.vectors }
         ensures count { length self.new.parts ≡ length self.old.parts }
@@ -223,7 +224,7 @@ fn take_out(mix: &mut [i64], vector: &[i64], part: u32) {
     }
 }
 
-// Moves the part from the one vector to the other.
+// Moves the part from the vector that loses it to the one that gains it.
 fn move_part(parts: &mut [u32], best: Move)
     requires losing { best.losing < length parts.old }
     requires gaining { best.gaining < length parts.old }
@@ -234,7 +235,7 @@ fn move_part(parts: &mut [u32], best: Move)
     parts[best.gaining] = parts[best.gaining].saturating_add(best.amount);
 }
 
-// Moves as much of the mix.
+// Moves the mix as the part of it was moved.
 fn move_mix(mix: &mut [i64], vectors: &[Vector], best: Move)
     requires losing { best.losing < length vectors.now }
     requires gaining { best.gaining < length vectors.now }

@@ -12,6 +12,7 @@ pub struct Shape {
 }
 
 impl Shape {
+    // The shape of the problem.
     pub fn of(problem: &Problem) -> Shape {
         Shape {
             days: problem.days(),
@@ -45,7 +46,7 @@ pub struct Demand {
 }
 
 impl Demand {
-    // That of the problem, and with a goal a least number of free weekends.
+    // The demand of the problem, and with a goal a least number of free weekends.
     pub fn of(alloc: Global, problem: &Problem, goal: Option<u32>) -> Result<Demand, AllocError> {
         let mut low = Vec::new(alloc);
         let mut high = Vec::new(alloc);

@@ -4,8 +4,8 @@ use crate::sweep::{Place, Sweep};
 use clean_words::Automaton;
 use domain_store::Domains;
 
-// The words of an automaton over domains, where they lie, and what they are weighed against: the demand, and with a goal
-// of free weekends this too.
+// The words of an automaton over domains, where they lie, and what they are weighed against: the demand, and the goal
+// of free weekends where there is one.
 #[derive(Clone, Copy)]
 pub struct Field<'a> {
     pub automaton: &'a Automaton,

@@ -21,25 +21,28 @@ use rwsp_terms::limits::LONGEST_WORD;
 use std::alloc::{AllocError, Global};
 use std::marker::Model;
 
-// Words at the top have about this many days: the longer a word, the less its free ends weigh in.
+// Words at the top have about this many days. A word's ends owe no rule to what lies beside them, so a heaviest word
+// gains by them; the longer it is, the less they count.
 const DAYS_AT_TOP: u32 = 1500;
 
+// How many words are tried at the top, where one search is made, and how many steps follow each.
 const ROUNDS_AT_TOP: u32 = 200;
 
 const STEPS_AT_TOP: u32 = 300;
 
-// Words within a tree have one turn.
+// How many words are tried within a tree, and how many steps follow each: fewer, since a search is made for each case.
 const ROUNDS_WITHIN: u32 = 24;
 
 const STEPS_WITHIN: u32 = 60;
 
-// The same where the log has a goal. There the nearest point has one coordinate more, and a leaf that is missed costs
-// more lines.
+// How many within a tree where the log has a goal: more, since the nearest point has one coordinate more there, and a
+// leaf that is missed costs more lines.
 const ROUNDS_WITHIN_WITH_GOAL: u32 = 80;
 
 const STEPS_WITHIN_WITH_GOAL: u32 = 240;
 
-// Within a tree no leaf is looked for where a roster has more cells.
+// Within a tree no leaf is looked for where a roster has more cells: a search is made for each case, and costs more the
+// more cells there are.
 const MOST_CELLS_WITHIN: u32 = 700;
 
 // Within a tree words begin in the middle of the first decided positions; at most this many of them count.
@@ -49,9 +52,9 @@ const MOST_DECIDED: u32 = 28;
 ///
 /// A bound leaf of some weights says that no clean word has the demanded numbers of weeks, not even on average. Such
 /// weights are a plane between the demand and the hull of what clean words have. The search for it goes to the nearest
-/// point of that hull, which it learns word by word: the heaviest word by the present weights is one more corner, and
-/// the next weights lead from the nearest mix of the corners to the demand. For a free leaf the number of free weekends
-/// is one count more, and the goal its demand.
+/// point of that hull, which it learns word by word (column generation): the heaviest word by the present weights is
+/// one more corner, and the next weights lead from the nearest mix of the corners to the demand. For a free leaf the
+/// number of free weekends is one count more, and the goal its demand.
 #[derive(Drop)]
 pub struct NearestWeights<'a> {
     automaton: &'a Automaton,

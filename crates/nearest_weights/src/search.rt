@@ -21,7 +21,7 @@ pub struct Effort {
 // After this many rounds, more turns are tried with the present weights.
 const ROUNDS_PER_TRY: u32 = 16;
 
-// In one search no more steps of the automaton are looked at than this.
+// In one search no more steps of the automaton are looked at than this, so that no problem waits for it long.
 const MOST_LOOKS: u64 = 100_000_000;
 
 // Looks for weights whose bound holds for `first_turns` turns or more, beginning with these weights. Answers how many
@@ -64,8 +64,8 @@ pub fn search(
     Ok(None)
 }
 
-// Puts the counts of one more word into the hull, and turns the weights to the direction that leads from there to the
-// demand. False where the word is there already, or the hull reaches the demand nearly.
+// Puts the counts of one more word into the hull, and makes the weights those of the direction from its nearest point
+// to the demand. False where nothing is left to gain: the word is there already, or the hull nearly reaches the demand.
 fn turn(
     alloc: Global,
     hull: &mut Hull,
@@ -127,7 +127,7 @@ fn direction(alloc: Global, off: &[i64]) -> Result<Option<Vec<i64>>, AllocError>
     Ok(Some(weights))
 }
 
-// The greatest without its sign.
+// The greatest of the numbers without their signs.
 pub fn greatest(numbers: &[i64]) -> i64 {
     let mut most = 0i64;
     for x in numbers {

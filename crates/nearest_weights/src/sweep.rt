@@ -25,6 +25,7 @@ pub struct Place {
 }
 
 impl Place {
+    // From the position on, over these domains.
     pub fn of(
         alloc: Global,
         shape: Shape,

@@ -95,7 +95,7 @@ enum Start {
     Clean(u32),
 }
 
-// The first window of the pattern that begins at a position from the one number on and before the other.
+// The first window of the pattern that begins at the position `from` or later, and before `end`.
 fn first_window<V: View>(view: &V, pattern: Pattern, from: u32, end: u32) -> Option<BadWindow>
     requires view { V.has_days view.now }
     requires pattern { HasOneLength pattern × (pattern.most ≤ GREATEST_BOUND) }
@@ -159,7 +159,7 @@ fn keeps<V: View>(view: &V, side: Side, p: u32) -> bool
     }
 }
 
-// The same of the last day, where there is one.
+// Whether each possible symbol of the last day is on its side; true where the pattern has no last day.
 fn keeps_last<V: View>(view: &V, last: Option<Side>, p: u32) -> bool
     requires { V.has_days view.now }
     ensures { IsTrue result ↔ KeepsLast (V.allows view.now) last p }

@@ -74,7 +74,7 @@ pub fn position_of(problem: &Problem, doms: &Domains, week: u32, day: u32) -> u3
 }
 
 /// Whether more weeks certainly hold the symbol on the day than may hold it, where `over` is set, and otherwise
-/// whether fewer can hold it than must. Days count from 1. Takes no memory.
+/// whether fewer can hold it than must. Days count from 1. Costs a step for each week, and takes no memory.
 pub fn day_holds(problem: &Problem, doms: &Domains, day: u32, x: Symbol, over: bool) -> bool
     requires domains { BelongsTo problem.now doms.now }
     requires day { IsDay problem.now day }

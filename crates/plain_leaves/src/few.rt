@@ -39,7 +39,8 @@ fn count_free(problem: &Problem, doms: &Domains) -> u32
     count
 }
 
-/// Whether fewer weeks than the goal can still have both days of the weekend off. Takes no memory.
+/// Whether fewer weeks than the goal can still have both days of the weekend off. Costs a step for each week, and takes
+/// no memory.
 pub fn few_holds(problem: &Problem, doms: &Domains, goal: u32) -> bool
     requires domains { BelongsTo problem.now doms.now }
     requires days { problem.now.days ≡ DAYS_OF_WEEK }

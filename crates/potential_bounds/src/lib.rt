@@ -1,4 +1,5 @@
-//! Bounds by weights: what rosters weigh at least, the heaviest clean words, and the search for a bound that holds.
+//! Bounds by weights, which relax the demand (Lagrangian bounds): what rosters weigh at least, the heaviest clean
+//! words, and the search for a bound that holds.
 #![tactic(auto)]
 
 mod escapes;

@@ -83,7 +83,7 @@ fn push_day(
     Ok(())
 }
 
-// One weight more, which comes after all before.
+// Appends a weight, whose day and symbol come behind those of all others.
 fn push_weight(weights: &mut Weights, day: u32, x: Symbol, value: i32) -> Result<(), AllocError>
     requires last { All (λ e. ComesBefore e (weight_of day x.number value)) weights.old }
     requires low { neg_ℤ (pos GREATEST_WEIGHT) ≤ℤ value }

@@ -11,7 +11,7 @@ use rwsp_model::Problem;
 use rwsp_terms::{Symbol, Weights};
 
 /// The least that a roster can weigh which meets the demand and has as many free weekends as the goal, with the reward
-/// for each.
+/// for each. Costs a step for each day and symbol, with a look-up among the weights.
 pub fn total(problem: &Problem, weights: &Weights, reward: u32, goal: u32) -> i64
     requires reward { reward ≤ GREATEST_REWARD }
     requires goal { goal ≤ MOST_WEEKS + 1 }

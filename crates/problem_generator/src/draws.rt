@@ -1,4 +1,4 @@
-// Numbers drawn one after the other, the same ones each time.
+// Numbers drawn one after the other. They look random, and are the same on each machine.
 ghost use Rattle.std.specs.Prelude.{◌≡◌, ◌<◌, ◌≤◌, ◌^◌};
 ghost use Rattle.problem_generator.specs.Draws.{next_state, drawn, drawn_between};
 

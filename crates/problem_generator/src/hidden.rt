@@ -8,11 +8,13 @@ use crate::stint::{Pattern, Stint, draw_stint};
 use rwsp_terms::Symbol;
 use std::alloc::{AllocError, Global};
 
-/// The shifts in the order of a stint's work.
+/// The first of the shifts in the order of a stint's work.
 pub const DAY: Symbol = Symbol { number: 1 };
 
+/// The second of them.
 pub const AFTERNOON: Symbol = Symbol { number: 2 };
 
+/// The third of them.
 pub const NIGHT: Symbol = Symbol { number: 3 };
 
 // Days of the shifts that come before a stint's last shift.

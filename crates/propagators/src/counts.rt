@@ -141,7 +141,7 @@ impl Counts {
         })
     }
 
-    // Gives the position the domain that it has among these. Where it has it already, no counter changes.
+    // Gives the position its present domain. Where that is the one that is counted, no counter changes.
     fn take_over(&mut self, doms: &Domains, p: u32)
         requires kept { p < length self.old.sets }
         requires position { p < length doms.now.sets }

@@ -15,7 +15,8 @@ use std::alloc::{AllocError, Global};
 use std::marker::Model;
 
 /// Closes where no word of two turns round the cycle is clean for the short rules, and takes away the symbols that no
-/// such word has at their position. It keeps which states of the rules' automaton the domains leave.
+/// such word has at their position (the regular constraint, kept domain consistent). There are two turns so that the
+/// seam of the cycle lies within the words. It keeps which states of the rules' automaton the domains leave.
 #[derive(Drop)]
 pub struct CycleProp<'a> {
     cycle: Cycle<'a>,

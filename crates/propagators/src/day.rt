@@ -20,8 +20,8 @@ use std::alloc::{AllocError, Global};
 use std::marker::Model;
 
 /// Closes where more weeks certainly hold a symbol on a day than may hold it, or fewer can hold it than must, and
-/// takes away what would lead there at once. It keeps counts of the domains that it tracks: a look takes a step for
-/// each day and symbol, and one for each week where a symbol is taken away.
+/// takes away what would lead there at once: a cardinality constraint for each day. It keeps counts of the domains that
+/// it tracks: a look takes a step for each day and symbol, and one for each week where a symbol is taken away.
 #[derive(Drop)]
 pub struct DayProp<'a> {
     problem: &'a Problem,

@@ -30,7 +30,7 @@ impl Model for DayMarks {
 }
 
 impl DayMarks {
-    // No state is marked on any of `days` days. Each row has so many words.
+    // No state is marked on any of `days` days, whose rows have `words` words each.
     #[tactic(auto, using(std::proofs::lemmas::List::replicate_more))]
     pub fn none(alloc: Global, days: usize, words: usize) -> Result<DayMarks, AllocError>
         ensures { IfOk result (λ rows. rows ≡ replicate days (replicate words 0)) }
@@ -60,8 +60,8 @@ impl DayMarks {
         self.rows[day] = row;
     }
 
-    // Marks in one row what leads there this way from another, by the symbols of the set. Whether that has changed the
-    // marks there.
+    // Marks in the row `there` the states to which steps lead this way from those of the row `here`, by the symbols of
+    // the set. False where they were marked so before.
     fn renew(
         &mut self,
         steps: &[Step],

@@ -55,7 +55,7 @@ impl Model for Marks {
 }
 
 impl Marks {
-    // No state of those that so many words are for.
+    // No state marked, in this number of words.
     pub fn none(alloc: Global, words: usize) -> Result<Marks, AllocError>
         ensures { IfOk result (λ m. m ≡ replicate words 0) }
     {
@@ -63,7 +63,7 @@ impl Marks {
         Ok(Marks { words })
     }
 
-    // All states that so many words are for.
+    // Each state marked that this number of words has a bit for.
     pub fn all(alloc: Global, words: usize) -> Result<Marks, AllocError>
         ensures { IfOk result (λ m. m ≡ replicate words (2 ^ WORD_BITS - 1)) }
     {

@@ -191,7 +191,7 @@ impl<'a> Cycle<'a> {
         let _ = &self.sets;
     }
 
-    // Gives the position the domain that it has among these. Where it has it already, no mark changes.
+    // Gives the position its present domain. Where that is the one that was taken in, no mark changes.
     fn take_over(&mut self, doms: &Domains, p: u32)
         requires belongs { BelongsTo self.old.problem doms.now }
         requires kept { p < length self.old.sets }
@@ -230,7 +230,7 @@ impl<'a> Cycle<'a> {
     }
 }
 
-// The front marks state 0 before the first day, and none behind. Each row has so many words.
+// What is reached from the front where no position has a symbol: state 0 before the first day, and nothing behind it.
 fn first_front(alloc: Global, days: usize, words: usize) -> Result<DayMarks, AllocError>
     requires days { days ≤ LONGEST_WORD }
     requires words { 0 < words }
@@ -243,7 +243,7 @@ fn first_front(alloc: Global, days: usize, words: usize) -> Result<DayMarks, All
     Ok(front)
 }
 
-// The back marks each state behind the last day, and none before.
+// From where words lead to the end where no position has a symbol: each state behind the last day, and none before it.
 fn first_back(alloc: Global, days: usize, words: usize) -> Result<DayMarks, AllocError>
     requires { days ≤ LONGEST_WORD }
     ensures { IfOk result (IsFirstBack days words) }

@@ -21,8 +21,8 @@ use std::marker::Model;
 
 /// Closes where every word over the domains of a window is bad for a rule. It takes no symbol away.
 ///
-/// It keeps the domains that it tracks, and which positions it must yet look at: those that lost a symbol since a
-/// look found nothing there. A look goes over the windows of these positions alone, at a cost of a few steps for each
+/// It keeps the domains that it tracks, and which positions are pending: those that lost a symbol since a look found
+/// nothing there. A look goes over the windows of these positions alone, at a cost of a few steps for each
 /// rule and each day of its bound, and of one for each position between two of them; what an undoing gives back costs
 /// nothing at the next look.
 #[derive(Drop)]
@@ -87,14 +87,14 @@ impl<'a> WindowProp<'a> {
         let _ = &self.sets;
     }
 
-    // Where the positions are that must yet be looked at: from the first number on, and before the second.
+    // A span with all pending positions: its first position, and its end.
     fn span(&self) -> (u32, u32)
         ensures { IsSpan self.now.pending result.0 result.1 }
     {
         (self.first, self.end)
     }
 
-    // Takes in that no position has to be looked at.
+    // Clears the span, where no position is pending.
     fn empty_span(&mut self)
         requires { (q : ℕ) → slice_index_or self.old.pending q false ≡ false }
         ensures { self.new ≡ self.old }
@@ -102,7 +102,7 @@ impl<'a> WindowProp<'a> {
         self.first = self.end;
     }
 
-    // A window leaf that holds, if one of these positions must yet be looked at; otherwise they needn't be any longer.
+    // A window leaf that holds over a pending position of these; where there is none, they are pending no longer.
     fn look_within(&mut self, doms: &Domains, first: u32, end: u32) -> Option<WindowLeaf>
         requires domains { BelongsTo self.old.problem doms.now }
         requires tracked { self.old.sets ≡ doms.now.sets }
@@ -121,7 +121,7 @@ impl<'a> WindowProp<'a> {
         None
     }
 
-    // A window leaf that holds, if the position must yet be looked at; otherwise it needn't be any longer.
+    // A window leaf that holds over the position, if it is pending; where there is none, it is pending no longer.
     fn look_at(&mut self, doms: &Domains, p: u32) -> Option<WindowLeaf>
         requires domains { BelongsTo self.old.problem doms.now }
         requires tracked { self.old.sets ≡ doms.now.sets }
@@ -143,7 +143,7 @@ impl<'a> WindowProp<'a> {
         Some(leaf)
     }
 
-    // Gives the position the domain that it has among these. Where it has it already, nothing changes.
+    // Gives the position its present domain. Where that is the one that is tracked, nothing changes.
     fn take_over(&mut self, doms: &Domains, p: u32)
         requires kept { p < length self.old.sets }
         requires position { p < length doms.now.sets }
@@ -156,7 +156,7 @@ impl<'a> WindowProp<'a> {
         }
     }
 
-    // Gives the position another domain. Where that lacks a symbol, the position has to be looked at.
+    // Gives the position another domain. Where that lacks a symbol, the position is pending.
     fn put(&mut self, p: u32, set: SymbolSet)
         requires position { p < length self.old.sets }
         requires few { p < MOST_CELLS }

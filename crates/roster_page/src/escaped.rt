@@ -117,7 +117,7 @@ fn put_plain(out: &mut Vec<u8>, b: u8) -> Result<(), AllocError>
     Ok(())
 }
 
-// Appends the first byte of a character that has so many bytes.
+// Appends the first byte of a character of `bytes` bytes, or where these are 0 a byte that is in none.
 #[tactic(auto, unfolding(crate::specs::Escaped::first_text))]
 fn put_first(out: &mut Vec<u8>, b: u8, bytes: usize) -> Result<(), AllocError>
     ensures { OnOk result (out.new.items ≡ out.old.items ++ first_text b bytes) }

@@ -59,7 +59,7 @@ fn rest_after(problem: &Problem, cells: &[Symbol], place: usize) -> u32
     minutes_between(problem, days, cell(cells, place), cell(cells, place + days))
 }
 
-// The lesser of what is least so far, where there is anything, and one more.
+// The lesser of the least so far, if there is one, and these minutes.
 fn lesser(least: Option<u32>, minutes: u32) -> Option<u32>
     ensures { result ≡ lesser least minutes }
 {

@@ -76,7 +76,7 @@ fn words_of(alloc: Global, text: &[u8]) -> Result<Vec<Token>, AllocError>
     tokens(alloc, text)
 }
 
-// Appends the symbols of a line. Whether it has words, and so is a week.
+// Appends the symbols of a line. True where it is a week, false where it has no words.
 fn read_line(
     alloc: Global,
     problem: &Problem,

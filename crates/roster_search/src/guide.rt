@@ -11,8 +11,9 @@ use refutation_terms::Line;
 use rwsp_model::Roster;
 use std::alloc::{AllocError, Global};
 
-/// What only makes a search good. A search keeps its promises whatever its guide gives and whatever it leaves out:
-/// what it gives is true, and costs a line of the log at most.
+/// Advice for a search: better leaves, a roster by other means, where to split (a branching heuristic). It can't make
+/// the search unsound, which keeps its promises whatever its guide gives and whatever it leaves out: what it gives is
+/// true, and costs a line of the log at most.
 pub trait Guide {
     // it was made for this problem, and for logs with this goal or without one
     ghost serves: { Self → Instance → Option ℕ → Type 0 };

@@ -9,7 +9,8 @@ use rwsp_model::Problem;
 use rwsp_terms::Symbol;
 use rwsp_terms::limits::{MOST_CELLS, MOST_DAYS};
 
-/// The symbol of the domain that is needed most on the day of the position, of several the first.
+/// The symbol of the domain that is needed most on the day of the position, of several the first: the value that a
+/// search tries first. Costs a step for each symbol and week.
 pub fn most_needed(problem: &Problem, domains: &Domains, p: u32) -> Option<Symbol>
     requires belongs { BelongsTo problem.now domains.now }
     requires position { p < length domains.now.sets }

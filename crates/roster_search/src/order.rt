@@ -15,7 +15,8 @@ pub struct NextSplit {
     pub x: Symbol,
 }
 
-/// A position with two symbols or more, and one of them; None where each position has one symbol.
+/// A position with two symbols or more, and one of them; None where each position has one symbol. So a search splits
+/// where its guide has no better place (the orders of variables and of values).
 ///
 /// It is the first such position, counted from `first` round the cycle, so that the decided positions grow to one
 /// word. There it is the symbol of the greatest need: the weeks that its day still demands, over those that may give

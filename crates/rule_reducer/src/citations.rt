@@ -22,7 +22,7 @@ pub struct Citations {
     pub in_lists: RuleList,
 }
 
-// Whether it is a window or a day leaf.
+// Whether the line is a window or a day leaf.
 fn is_plain(line: &Line) -> bool
     ensures { result ≡ is_plain line.now }
 {

@@ -44,7 +44,7 @@ fn put_weight_elsewhere(kept: &mut Weights, entry: Weight, day: u32) -> Result<(
     kept.put(entry.day, entry.symbol, entry.value)
 }
 
-// The weights on the other days.
+// The weights except those on the day.
 fn weights_elsewhere(alloc: Global, weights: &Weights, day: u32) -> Result<Weights, AllocError>
     ensures { IfOk result (λ kept. kept ≡ without_day (Some (Day day)) weights.now) }
 {

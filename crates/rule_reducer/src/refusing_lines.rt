@@ -102,7 +102,7 @@ pub fn refuses_at(
     refuses_behind(alloc, problem, log, number, rule, place)
 }
 
-// The same of a line that there is, whether or not it lists the rule.
+// Whether the line at the place, which is there, doesn't hold without the rule.
 fn refuses_behind(
     alloc: Global,
     problem: &Problem,
@@ -148,7 +148,7 @@ pub fn refusing_line(
     found
 }
 
-// The same by a walk that has read no line yet.
+// The first line that refuses the strip, by a walk that has read no line yet.
 fn first_refusing(
     alloc: Global,
     problem: &Problem,

@@ -74,7 +74,7 @@ fn parts_of(alloc: Global, bytes: &[u8]) -> Result<Parts, Fail<FileRefusal>>
     read_parts(alloc, &mut cursor)
 }
 
-/// The problem that the bytes spell, or the first failure in them.
+/// The problem that the bytes spell, or the first failure in them. The cost grows with the bytes.
 pub fn read_problem(alloc: Global, bytes: &[u8]) -> Result<Problem, Fail<FileRefusal>>
     requires { length bytes.now ≤ LONGEST_FILE }
     ensures ok { IfOk result (λ P. SpellsProblem bytes.now P) }

@@ -97,7 +97,7 @@ fn read_triples(
     Ok(triples)
 }
 
-// That nothing is left.
+// Refuses a word that is left.
 fn read_end(cursor: &mut Cursor) -> Result<(), FileRefusal>
     ensures { result ≡ nothing_of cursor.old.lexemes }
 {

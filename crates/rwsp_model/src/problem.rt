@@ -68,7 +68,7 @@ impl Problem {
         Problem { parts }
     }
 
-    /// An equal problem.
+    /// An equal problem, for who has to own one.
     pub fn copy(&self) -> Result<Problem, AllocError>
         ensures { IfOk result (λ P. P ≡ self.now) }
     {

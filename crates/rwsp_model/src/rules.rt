@@ -23,7 +23,7 @@ pub fn rule_count(problem: &Problem) -> u32
     2 * shifts + 4 + sequences + problem.days()
 }
 
-// The rule of a place in front, where the rules of the shifts are.
+// The rule of a place among the first ones, which are those of the shifts.
 fn shift_rule(place: u32) -> Rule
     requires { place < 2 * MOST_SHIFTS }
     ensures { (P : Instance) → place < 2 * shift_count P → IsRule P result × (place_of P result ≡ place) }

@@ -91,7 +91,7 @@ fn is_between(low: usize, high: usize, n: usize) -> bool
     low <= n && n <= high
 }
 
-// Counted from 0.
+// The first limit that the parts break, counted from 0.
 fn first_broken_limit(parts: &Parts) -> Option<usize>
     ensures { result ≡ position not (limits_kept (instance_of parts.now)) }
 {
@@ -156,7 +156,7 @@ fn is_named_well(earlier: &[ShiftRow], row: &ShiftRow) -> bool
     good && !taken
 }
 
-// Counted from 1.
+// The first shift whose name is bad, or that of an earlier shift, counted from 1.
 #[tactic(auto, using(crate::proofs::Limits::bad_here, crate::proofs::Limits::bad_later))]
 fn first_bad_name(rows: &[ShiftRow]) -> Option<u32>
     requires { length rows.now ≤ MOST_SHIFTS }

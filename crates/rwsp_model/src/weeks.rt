@@ -36,7 +36,7 @@ fn count_weeks(cells: &[Symbol], days: u32, weeks: u32, x: Symbol, day: u32) -> 
     count
 }
 
-/// How many weeks of the cells hold the symbol on the day. Days count from 1.
+/// How many weeks of the cells hold the symbol on the day. Days count from 1. Costs a step for each week.
 pub fn weeks_with(problem: &Problem, cells: &[Symbol], x: Symbol, day: u32) -> u32
     requires cells { length cells.now ≡ problem.now.weeks * problem.now.days }
     requires day { IsDay problem.now day }

@@ -12,6 +12,7 @@ pub struct Symbol {
 }
 
 impl Symbol {
+    /// The day off.
     pub const OFF: Symbol = Symbol { number: 0 };
 }
 

@@ -38,17 +38,19 @@ pub const MOST_RULES: u32 = 2 * (MOST_SHIFTS + 2) + 2 * MOST_SEQUENCES + MOST_DA
 /// The most bytes of a shift's name.
 pub const LONGEST_NAME: u32 = 32;
 
-/// The greatest bound, in days, of a block rule that a `dead` or a `bound` line may cite.
+/// The greatest bound, in days, of a block rule that a `dead` or a `bound` line may cite. The automaton that reads
+/// words for such rules has a state for each day of a block, so this keeps it small.
 pub const GREATEST_SHORT_BOUND: u32 = 30;
 
 /// The most days of a block that a tail counts: one more than the greatest short bound, so that a block that is too
 /// long is told apart from one that isn't.
 pub const LONGEST_RUN: u32 = GREATEST_SHORT_BOUND + 1;
 
-/// The most days of a window or a word that a refutation speaks of.
+/// The most days of a window or a word that a refutation speaks of: four rounds of the largest roster. It bounds what
+/// the judgement of one line costs.
 pub const LONGEST_WORD: u32 = 16_800;
 
-/// The greatest weight of a symbol on a day, and, negated, the least.
+/// The greatest weight of a symbol on a day, and, negated, the least. So what the longest word weighs fits 32 bits.
 pub const GREATEST_WEIGHT: u32 = 1_000;
 
 /// The most that a free weekend may weigh.

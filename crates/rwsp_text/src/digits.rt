@@ -47,7 +47,8 @@ pub fn put_number(out: &mut Vec<u8>, value: u64) -> Result<(), AllocError>
     out.extend_from_slice(digits.format(value).as_bytes())
 }
 
-/// The same of a number that may be negative, with its sign in front.
+/// Appends the decimal digits of a number that may be negative, behind a `-` where it is. Where there is no memory
+/// nothing is appended.
 pub fn put_signed(out: &mut Vec<u8>, value: i32) -> Result<(), AllocError>
     ensures ok { OnOk result (out.new.items ≡ out.old.items ++ signed_decimal value) }
     ensures err { OnErr result (out.new.items ≡ out.old.items) }

@@ -107,7 +107,7 @@ impl<'a> Fields<'a> {
         value_in(greatest, word)
     }
 
-    /// That the next field is the word.
+    /// Takes the next field; None where it isn't the word.
     #[tactic(auto, unfolding(crate::specs::Fields::word_at))]
     pub fn word(&mut self, word: &[u8]) -> Option<()>
         ensures { ReadsRest (word_at word.now self.old) result self.new }
@@ -116,7 +116,7 @@ impl<'a> Fields<'a> {
         if field == word { Some(()) } else { None }
     }
 
-    /// Whether the next field is the one word; it may be the other too.
+    /// True where the next field is the word `one`, false where it is `other`; None where it is neither.
     #[tactic(auto, unfolding(crate::specs::Fields::choice_at))]
     pub fn choice(&mut self, one: &[u8], other: &[u8]) -> Option<bool>
         ensures { Reads (choice_at one.now other.now self.old) result self.new }

@@ -101,7 +101,7 @@ fn note(all: &mut Vec<Token>, token: Option<Token>) -> Result<(), AllocError>
     Ok(())
 }
 
-/// The lexemes of a text, in order.
+/// The lexemes of a text, in order. The cost grows with its bytes.
 #[tactic(auto, using(crate::proofs::TokenSteps::lexemes_go_on, crate::proofs::TokenSteps::within_more, crate::proofs::TokenSteps::lexemes_done))]
 pub fn tokens(alloc: Global, bytes: &[u8]) -> Result<Vec<Token>, AllocError>
     requires { length bytes.now < 2 ^ 32 - 1 }
