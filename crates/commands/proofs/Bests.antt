@@ -1,5 +1,5 @@
 -- What is said of the most free weekends.
-use Rattle.std.proofs.Common.{◌≡◌, ℕ, ◌+◌, ◌<◌, ◌≤◌, List, Option, Some, None, arith, subst, refl, sym}
+use Rattle.std.proofs.Common.{◌≡◌, ℕ, ◌+◌, ◌<◌, ◌≤◌, Bool, List, Option, Some, None, arith, subst, refl, sym}
 use Rattle.rwsp_terms.specs.Instance.{Instance}
 use Rattle.rwsp_terms.specs.Roster.{MeetsAll}
 use Rattle.rwsp_terms.specs.declared.data.Symbol.{Symbol}
@@ -23,25 +23,25 @@ below_goal P goal g t passes is meets =
 
 -- which rosters such a search has meets every rule
 
-pub best_meets : (P : Instance) (budget : ℕ) (a : BestFound) (t : Roster) → IsBestAnswer P budget a → best_roster a ≡ Some t → MeetsAll P t.cells
-best_meets P budget (Best s g) t h e = let same : s ≡ t = cc in subst (λ (u : Roster). MeetsAll P u.cells) same h.0.0.1
-best_meets P budget (NoRoster g) t h e = absurd (cc)
-best_meets P budget (Undecided None g) t h e = absurd (cc)
-best_meets P budget (Undecided (Some s) g) t h e = let same : s ≡ t = cc in subst (λ (u : Roster). MeetsAll P u.cells) same h.0.0.1
+pub best_meets : (P : Instance) (budget : ℕ) (counts : Bool) (a : BestFound) (t : Roster) → IsBestAnswer P budget counts a → best_roster a ≡ Some t → MeetsAll P t.cells
+best_meets P budget counts (Best s g) t h e = let same : s ≡ t = cc in subst (λ (u : Roster). MeetsAll P u.cells) same h.0.0.1
+best_meets P budget counts (NoRoster g) t h e = absurd (cc)
+best_meets P budget counts (Undecided None g) t h e = absurd (cc)
+best_meets P budget counts (Undecided (Some s) g) t h e = let same : s ≡ t = cc in subst (λ (u : Roster). MeetsAll P u.cells) same h.0.0.1
 
 stays_below : (P : Instance) (goal : ℕ) (g : Log) (found : Option Roster) → Passes P g → g.goal ≡ Some goal → ((t : Roster) → found ≡ Some t → MeetsAll P t.cells) → StaysBelow found goal
 stays_below P goal g None passes is meets = tt
 stays_below P goal g (Some s) passes is meets = below_goal P goal g s.cells passes is (meets s refl)
 
-bounds : (P : Instance) (budget : ℕ) (a b : BestFound) → IsBestAnswer P budget a → IsBestAnswer P budget b → Bounds a b
-bounds P budget (Best s g) b h k = stays_below P (free_weekends s.cells + 1) g (best_roster b) h.0.1.0 h.0.1.1 (λ t e. best_meets P budget b t k e)
-bounds P budget (NoRoster g) b h k = stays_below P 0 g (best_roster b) h.0.0 h.0.1 (λ t e. best_meets P budget b t k e)
-bounds P budget (Undecided s g) b h k = tt
+bounds : (P : Instance) (budget : ℕ) (counts : Bool) (a b : BestFound) → IsBestAnswer P budget counts a → IsBestAnswer P budget counts b → Bounds a b
+bounds P budget counts (Best s g) b h k = stays_below P (free_weekends s.cells + 1) g (best_roster b) h.0.1.0 h.0.1.1 (λ t e. best_meets P budget counts b t k e)
+bounds P budget counts (NoRoster g) b h k = stays_below P 0 g (best_roster b) h.0.0 h.0.1 (λ t e. best_meets P budget counts b t k e)
+bounds P budget counts (Undecided s g) b h k = tt
 
 same_count : (m n : ℕ) → m < n + 1 → n < m + 1 → m ≡ n
 same_count m n h k = omega (arith, h, k)
 
-pub bests_agree : (P : Instance) (budget : ℕ) (a b : BestFound) → IsBestAnswer P budget a → IsBestAnswer P budget b → BestsAgree a b
-bests_agree P budget (Best s g) (Best t h) x y =
-    same_count (free_weekends s.cells) (free_weekends t.cells) (bounds P budget (Best t h) (Best s g) y x) (bounds P budget (Best s g) (Best t h) x y)
-bests_agree P budget a b x y = (bounds P budget a b x y, bounds P budget b a y x)
+pub bests_agree : (P : Instance) (budget : ℕ) (counts : Bool) (a b : BestFound) → IsBestAnswer P budget counts a → IsBestAnswer P budget counts b → BestsAgree a b
+bests_agree P budget counts (Best s g) (Best t h) x y =
+    same_count (free_weekends s.cells) (free_weekends t.cells) (bounds P budget counts (Best t h) (Best s g) y x) (bounds P budget counts (Best s g) (Best t h) x y)
+bests_agree P budget counts a b x y = (bounds P budget counts a b x y, bounds P budget counts b a y x)

@@ -1,5 +1,5 @@
 -- What is said of the least crew.
-use Rattle.std.proofs.Common.{◌≡◌, ℕ, ◌<◌, ◌≤◌, List, ap, sym, ◌∙◌, arith}
+use Rattle.std.proofs.Common.{◌≡◌, ℕ, ◌<◌, ◌≤◌, Bool, List, ap, sym, ◌∙◌, arith}
 use Rattle.std.specs.Prelude.{Ok, Err}
 use Rattle.rwsp_terms.specs.Instance.{Instance}
 use Rattle.rwsp_model.specs.Validity.{KeepsLimits}
@@ -35,8 +35,8 @@ one_checked_staff P bytes (Refused x) (Refused y) limits h k =
 too_many : (most cells : ℕ) → most < cells → cells ≤ most → ⊥
 too_many most cells h k = omega (arith, h, k)
 
-pub staffs_agree : (P : Instance) (low high budget : ℕ) (a b : StaffAnswer) → IsStaffAnswer P low high budget a → IsStaffAnswer P low high budget b → StaffsAgree a b
-staffs_agree P low high budget (Range m) (Range n) h k = h.0 ∙ sym k.0
-staffs_agree P low high budget (Range m) (Run run) h k = too_many _ _ h.1 k.1
-staffs_agree P low high budget (Run run) (Range n) h k = too_many _ _ k.1 h.1
-staffs_agree P low high budget (Run run) (Run other) h k = λ x y e f. searches_agree P low high budget budget run other x y h.0 h.2 k.2 e f
+pub staffs_agree : (P : Instance) (low high budget : ℕ) (counts : Bool) (a b : StaffAnswer) → IsStaffAnswer P low high budget counts a → IsStaffAnswer P low high budget counts b → StaffsAgree a b
+staffs_agree P low high budget counts (Range m) (Range n) h k = h.0 ∙ sym k.0
+staffs_agree P low high budget counts (Range m) (Run run) h k = too_many _ _ h.1 k.1
+staffs_agree P low high budget counts (Run run) (Range n) h k = too_many _ _ k.1 h.1
+staffs_agree P low high budget counts (Run run) (Run other) h k = λ x y e f. searches_agree P low high budget budget run other x y h.0 h.2 k.2 e f

@@ -1,5 +1,5 @@
 -- What `best` answers.
-use Rattle.std.specs.Prelude.{◌≡◌, ℕ, ◌+◌, ◌*◌, ◌^◌, ◌<◌, List, [], ◌++◌, codes, Option, Some, None}
+use Rattle.std.specs.Prelude.{◌≡◌, ℕ, ◌+◌, ◌*◌, ◌^◌, ◌<◌, Bool, List, [], ◌++◌, codes, Option, Some, None}
 use Rattle.std.specs.Fmt.{decimal}
 use Rattle.rwsp_terms.specs.declared.limits.TheConstants.{DAYS_OF_WEEK}
 use Rattle.rwsp_terms.specs.Instance.{Instance, cells, shift_count}
@@ -9,16 +9,17 @@ use Rattle.refutation_terms.specs.Log.{Fits}
 use Rattle.refutation_terms.specs.LogText.{log_text}
 use Rattle.refutation_terms.specs.FreeWeekends.{free_weekends}
 use Rattle.roster_print.specs.RosterText.{roster_text}
-use Rattle.refutation_log.specs.Bests.{IsBestFound, IsUndecided}
+use Rattle.refutation_log.specs.Bests.{IsBestFound, IsBestCounted, IsUndecided}
 use Rattle.refutation_log.specs.declared.best_found.BestFound.{BestFound}
 use Rattle.refutation_log.specs.declared.best_found.BestFound.TheVariants.{Best, NoRoster, Undecided}
 use Rattle.commands.specs.Lines.{line}
 
 -- a roster with a proof that none has more free weekends; or a proof that there is no roster; or what is known where
--- the budget was spent, which a budget for all assignments can't be
-abbrev pub IsBestAnswer : Instance → ℕ → BestFound → Type 0
-IsBestAnswer P budget found =
+-- the budget was spent, which a budget for all assignments can't be. It counts blocks or not
+abbrev pub IsBestAnswer : Instance → ℕ → Bool → BestFound → Type 0
+IsBestAnswer P budget counts found =
     IsBestFound P budget found × (IsUndecided found → budget + 1 < 2 * (shift_count P + 1) ^ cells P)
+    × IsBestCounted P counts found
 
 -- how many free weekends a roster has, and the roster
 abbrev pub counted_text : Instance → Roster → List ℕ

@@ -1,12 +1,17 @@
--- What `plan` answers. What it says of a problem is `IsPlanned`.
-use Rattle.std.specs.Prelude.{◌≡◌, ℕ, List}
+-- What `plan` answers.
+use Rattle.std.specs.Prelude.{◌≡◌, ℕ, Bool, List}
 use Rattle.rwsp_terms.specs.Instance.{Instance}
 use Rattle.rwsp_terms.specs.Roster.{IsRoster}
 use Rattle.refutation_terms.specs.Log.{Fits}
 use Rattle.refutation_terms.specs.LogText.{log_text}
 use Rattle.roster_print.specs.RosterText.{roster_text}
+use Rattle.refutation_log.specs.Planned.{IsPlanned, IsCounted}
 use Rattle.refutation_log.specs.declared.found.Found.{Found}
 use Rattle.refutation_log.specs.declared.found.Found.TheVariants.{Roster, NoRoster, Undecided}
+
+-- what a plan finds within the budget, which counts blocks or not
+abbrev pub IsPlanAnswer : Instance → ℕ → Bool → Found → Type 0
+IsPlanAnswer P budget counts found = IsPlanned P budget found × IsCounted P counts found
 
 abbrev pub plan_text : Instance → Found → List ℕ
 plan_text P (Roster s) = roster_text P s.cells

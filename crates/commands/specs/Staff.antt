@@ -1,9 +1,9 @@
 -- What `staff` answers.
-use Rattle.std.specs.Prelude.{◌≡◌, ℕ, ◌*◌, ◌<◌, ◌≤◌, List, ◌++◌, codes, Some}
+use Rattle.std.specs.Prelude.{◌≡◌, ℕ, ◌*◌, ◌<◌, ◌≤◌, Bool, List, ◌++◌, codes, Some}
 use Rattle.std.specs.Fmt.{decimal}
 use Rattle.rwsp_terms.specs.declared.limits.TheConstants.{MOST_CELLS}
 use Rattle.rwsp_terms.specs.Instance.{Instance}
-use Rattle.crew_size.specs.Runs.{IsStaffed}
+use Rattle.crew_size.specs.Runs.{IsStaffed, IsStaffCounted}
 use Rattle.crew_size.specs.Texts.{staff_text}
 use Rattle.crew_size.specs.Fitting.{FitsSizes}
 use Rattle.crew_size.specs.Laws.{decision_of}
@@ -16,10 +16,10 @@ use Rattle.commands.specs.declared.staff.Answer.TheVariants.{Run, Range}
 
 -- what an answer says of the problem with each number of weeks from the first to the last; these are refused exactly
 -- where the last one gives too many cells
-abbrev pub IsStaffAnswer : Instance → (low high budget : ℕ) → Answer → Type 0
-IsStaffAnswer P low high budget (Range weeks) = (weeks ≡ high) × (MOST_CELLS < high * P.days)
-IsStaffAnswer P low high budget (Run run) =
-    (low ≤ high) × (high * P.days ≤ MOST_CELLS) × IsStaffed P low high budget run
+abbrev pub IsStaffAnswer : Instance → (low high budget : ℕ) → (counts : Bool) → Answer → Type 0
+IsStaffAnswer P low high budget counts (Range weeks) = (weeks ≡ high) × (MOST_CELLS < high * P.days)
+IsStaffAnswer P low high budget counts (Run run) =
+    (low ≤ high) × (high * P.days ≤ MOST_CELLS) × IsStaffed P low high budget run × IsStaffCounted P counts run
 
 abbrev pub staff_answer_text : Instance → Answer → List ℕ
 staff_answer_text P (Run run) = staff_text P run

@@ -6,20 +6,20 @@ ghost use Rattle.commands.specs.Best.{IsBestAnswer, IsBestOf, best_text, best_st
 mod texts;
 
 use refutation_log::{BestFound, print_log};
-use roster_planner::best;
+use roster_planner::{Effort, best};
 use rwsp_model::Problem;
 use rwsp_terms::limits::GREATEST_BUDGET;
 use std::alloc::{AllocError, Global};
 use texts::{best_text, undecided_text};
 
-/// What is found of the most free weekends of the problem, with the budget for each goal.
-pub fn job(alloc: Global, problem: &Problem, budget: u32) -> Result<BestFound, AllocError>
+/// What is found of the most free weekends of the problem, with the effort for each goal.
+pub fn job(alloc: Global, problem: &Problem, effort: Effort) -> Result<BestFound, AllocError>
     requires weekly { problem.now.days ≡ DAYS_OF_WEEK }
-    requires budget { (1 ≤ budget) × (budget ≤ GREATEST_BUDGET) }
-    ensures says { IfOk result (IsBestAnswer problem.now budget) }
+    requires budget { (1 ≤ effort.budget) × (effort.budget ≤ GREATEST_BUDGET) }
+    ensures says { IfOk result (IsBestAnswer problem.now effort.budget effort.counts) }
     ensures own { IfOk result (IsBestOf problem.now) }
 {
-    best(alloc, problem, budget)
+    best(alloc, problem, effort)
 }
 
 /// The text of what was found: a roster with the number of its free weekends, and a free log.

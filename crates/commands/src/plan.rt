@@ -1,10 +1,10 @@
 // A roster for a problem, or a refutation.
 ghost use Rattle.std.specs.Prelude.{◌≡◌, ◌≤◌, IfOk};
-ghost use Rattle.refutation_log.specs.Planned.{IsPlanned};
-ghost use Rattle.commands.specs.Plan.{plan_text, plan_status, IsPlanOf};
+ghost use Rattle.commands.specs.Plan.{IsPlanAnswer, plan_text, plan_status, IsPlanOf};
 
 use potential_bounds::Gate;
 use refutation_log::{Found, print_log};
+pub use roster_planner::Effort;
 use roster_planner::plan_roster;
 use roster_print::print_roster;
 use rwsp_model::Problem;
@@ -12,19 +12,19 @@ use rwsp_terms::limits::GREATEST_BUDGET;
 use std::alloc::{AllocError, Global};
 use std::thread::Threads;
 
-/// The plan of the problem within the budget.
+/// The plan of the problem with this effort.
 pub fn job<R: Threads + Sync, G: Gate>(
     rt: &R,
     alloc: Global,
     problem: &Problem,
-    budget: u32,
+    effort: Effort,
     gate: &G,
 ) -> Result<Found, AllocError>
-    requires { (1 ≤ budget) × (budget ≤ GREATEST_BUDGET) }
-    ensures found { IfOk result (IsPlanned problem.now budget) }
+    requires { (1 ≤ effort.budget) × (effort.budget ≤ GREATEST_BUDGET) }
+    ensures found { IfOk result (IsPlanAnswer problem.now effort.budget effort.counts) }
     ensures own { IfOk result (IsPlanOf problem.now) }
 {
-    plan_roster(rt, alloc, problem, budget, gate)
+    plan_roster(rt, alloc, problem, effort, gate)
 }
 
 /// The text of a plan: a roster, or a log.

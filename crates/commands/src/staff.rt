@@ -8,8 +8,8 @@ ghost use Rattle.commands.specs.Staff.{IsStaffAnswer, IsStaffAnswerOf, staff_ans
 use crate::put::put_labelled;
 use crew_size::{StaffEnd, StaffRun, print_staff};
 use potential_bounds::Gate;
-pub use roster_planner::Sizes;
 use roster_planner::least_crew;
+pub use roster_planner::{Effort, Sizes};
 use rwsp_model::Problem;
 use rwsp_terms::limits::MOST_CELLS;
 use std::alloc::{AllocError, Global};
@@ -24,26 +24,26 @@ pub enum Answer {
     Range(u32),
 }
 
-/// The answer to `staff`: each number of weeks is planned within the budget, from the first to the last, until one has
+/// The answer to `staff`: each number of weeks is planned with the whole effort, from the first to the last, until one has
 /// a roster.
 pub fn job<R: Threads + Sync, G: Gate>(
     rt: &R,
     alloc: Global,
     problem: &Problem,
     sizes: Sizes,
-    budget: u32,
+    effort: Effort,
     gate: &G,
 ) -> Result<Answer, AllocError>
     requires some { 1 ≤ sizes.low }
     requires sizes { (sizes.low ≤ sizes.high) × (sizes.high ≤ MOST_WEEKS) × (sizes.high < sizes.low + MOST_SIZES) }
-    requires budget { (1 ≤ budget) × (budget ≤ GREATEST_STAFF_BUDGET) }
-    ensures says { IfOk result (IsStaffAnswer problem.now sizes.low sizes.high budget) }
+    requires budget { (1 ≤ effort.budget) × (effort.budget ≤ GREATEST_STAFF_BUDGET) }
+    ensures says { IfOk result (IsStaffAnswer problem.now sizes.low sizes.high effort.budget effort.counts) }
     ensures own { IfOk result (IsStaffAnswerOf problem.now) }
 {
     if sizes.high * problem.days() > MOST_CELLS {
         return Ok(Answer::Range(sizes.high));
     }
-    let run = least_crew(rt, alloc, problem, sizes, budget, gate)?;
+    let run = least_crew(rt, alloc, problem, sizes, effort, gate)?;
     Ok(Answer::Run(run))
 }
 

@@ -8,7 +8,7 @@ mod texts;
 use potential_bounds::Gate;
 use problem_generator::{gen_problem, hidden_rosters_meet};
 use refutation_log::Found;
-use roster_planner::plan_roster;
+use roster_planner::{Effort, plan_roster};
 use rwsp_model::Problem;
 use rwsp_terms::limits::{MOST_WEEKS, TRIAL_BUDGET};
 use std::alloc::{AllocError, Global};
@@ -67,5 +67,9 @@ fn tried<R: Threads + Sync, G: Gate>(
     ensures { IfOk result (IsTried problem.now) }
 {
     hidden_rosters_meet();
-    plan_roster(rt, alloc, problem, TRIAL_BUDGET, gate)
+    let effort = Effort {
+        budget: TRIAL_BUDGET,
+        counts: false,
+    };
+    plan_roster(rt, alloc, problem, effort, gate)
 }

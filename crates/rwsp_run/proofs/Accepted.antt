@@ -1,5 +1,5 @@
 -- What one command writes, another accepts.
-use Rattle.std.proofs.Common.{◌≡◌, ℕ, ◌+◌, ◌<◌, ◌≤◌, List, sym, refl, ap, ◌∙◌, subst, inl, inr, arith}
+use Rattle.std.proofs.Common.{◌≡◌, ℕ, ◌+◌, ◌<◌, ◌≤◌, Bool, List, sym, refl, ap, ◌∙◌, subst, inl, inr, arith}
 use Rattle.std.specs.Prelude.{◌≢◌, ◌⊎◌, Option, Some, None}
 use Rattle.rwsp_io.specs.Told.{Silent, Bytes}
 use Rattle.rwsp_terms.specs.Instance.{Instance}
@@ -72,10 +72,10 @@ no_goal None is = refl
 no_goal (Some goal) is = absurd (cc)
 
 pub rosters_meet : RostersMeet
-rosters_meet file P budget s a spells planned h = meets P file s.cells a spells planned.2.1.1 h
+rosters_meet file P budget counts s a spells planned h = meets P file s.cells a spells planned.2.1.0.1 h
 
 pub refutations_accepted : RefutationsAreAccepted
-refutations_accepted file P budget workers g a spells planned short h = checks P file workers g a spells planned.2.1.0 planned.2.1.2.no_goal short h
+refutations_accepted file P budget workers counts g a spells planned short h = checks P file workers g a spells planned.2.1.0.0 planned.2.1.0.2.no_goal short h
 
 pub reductions_accepted : ReductionsAreAccepted
 reductions_accepted file P workers told g a spells reduced short h =
@@ -84,7 +84,7 @@ reductions_accepted file P workers told g a spells reduced short h =
     checks P file workers g a spells reduced.2.1.2.1.passes none short h
 
 pub staff_accepted : StaffTextsAreAccepted
-staff_accepted file P low high budget run staffed a spells sizes answer decides short h =
+staff_accepted file P low high budget counts run staffed a spells sizes answer decides short h =
     let limits = valid_keeps P spells.valid in
     let says = answer.2.1 in
     let fits : IsSize P high = record { some = omega (arith, sizes); few = sizes.2; few_cells = says.1 } in
@@ -92,27 +92,27 @@ staff_accepted file P low high budget run staffed a spells sizes answer decides 
     settled CheckStaff P (staff_text P run) (Jobs.CheckStaff (StaffChecks.Accepted staffed)) a limits tt short (λ y h. h) (right, accepted_decide P (staff_text P run) staffed right) h
 
 pub best_rosters_meet : BestRostersMeet
-best_rosters_meet file P budget found s a spells best is h = meets P file s.cells a spells (best_meets P budget found s best.2.1 is) h
+best_rosters_meet file P budget counts found s a spells best is h = meets P file s.cells a spells (best_meets P budget counts found s best.2.1 is) h
 
 at_most : (m n : ℕ) → m < n + 1 → m ≤ n
 at_most m n h = omega (arith, h)
 
 pub best_is_best : BestRostersAreBest
-best_is_best file P budget s g a spells best h =
-    (best_rosters_meet file P budget (Bests.Best s g) s a spells best refl h, λ t met. at_most (free_weekends t) (free_weekends s.cells) (below_goal P (free_weekends s.cells + 1) g t best.2.1.0.1.0 best.2.1.0.1.1 met))
+best_is_best file P budget counts s g a spells best h =
+    (best_rosters_meet file P budget counts (Bests.Best s g) s a spells best refl h, λ t met. at_most (free_weekends t) (free_weekends s.cells) (below_goal P (free_weekends s.cells + 1) g t best.2.1.0.1.0 best.2.1.0.1.1 met))
 
 -- the proof of a search for the most free weekends is accepted
 
-proof_passes : (P : Instance) (budget goal : ℕ) (found : BestFound) (g : Log) → IsBestAnswer P budget found → IsProofOf found goal g → Passes P g × (g.goal ≡ Some goal)
-proof_passes P budget goal (Bests.Best s g) h found proof =
+proof_passes : (P : Instance) (budget goal : ℕ) (counts : Bool) (found : BestFound) (g : Log) → IsBestAnswer P budget counts found → IsProofOf found goal g → Passes P g × (g.goal ≡ Some goal)
+proof_passes P budget goal counts (Bests.Best s g) h found proof =
     (subst (λ (k : Log). Passes P k) (sym proof.1) found.0.1.0, ap (λ (k : Log). k.goal) proof.1 ∙ found.0.1.1 ∙ ap Some (sym proof.0))
-proof_passes P budget goal (Bests.NoRoster g) h found proof =
+proof_passes P budget goal counts (Bests.NoRoster g) h found proof =
     (subst (λ (k : Log). Passes P k) (sym proof.1) found.0.0, ap (λ (k : Log). k.goal) proof.1 ∙ found.0.1 ∙ ap Some (sym proof.0))
-proof_passes P budget goal (Bests.Undecided s g) h found proof = absurd proof
+proof_passes P budget goal counts (Bests.Undecided s g) h found proof = absurd proof
 
 pub best_proofs_accepted : BestProofsAreAccepted
-best_proofs_accepted file P budget goal found g a spells best proof short h =
-    let passes = proof_passes P budget goal found g best.2.1 proof in
+best_proofs_accepted file P budget goal counts found g a spells best proof short h =
+    let passes = proof_passes P budget goal counts found g best.2.1 proof in
     settled CheckFree P (log_text P g) (Jobs.Check (Checks.Accepted (Some goal) g.named)) a (valid_keeps P spells.valid) best.2.0 short (λ y h. h) (text_accepted P g (Some goal) passes.0 passes.1) h
 
 pub same_for_workers : WorkersMakeNoDifference

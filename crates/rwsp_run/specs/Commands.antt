@@ -3,12 +3,11 @@ use Rattle.std.specs.Prelude.{ℕ, List}
 use Rattle.rwsp_terms.specs.Instance.{Instance}
 use Rattle.rwsp_file.specs.Text.{problem_text}
 use Rattle.refutation_terms.specs.declared.lines.LogKind.TheVariants.{WithoutGoal, WithGoal}
-use Rattle.refutation_log.specs.Planned.{IsPlanned}
 use Rattle.command_line.specs.declared.command.ProblemTask.{ProblemTask}
 use Rattle.command_line.specs.declared.command.ProblemTask.TheVariants as ProblemTasks
 use Rattle.command_line.specs.declared.command.FilesTask.{FilesTask}
 use Rattle.command_line.specs.declared.command.FilesTask.TheVariants as FilesTasks
-use Rattle.commands.specs.Plan.{plan_text, plan_status, IsPlanOf}
+use Rattle.commands.specs.Plan.{IsPlanAnswer, plan_text, plan_status, IsPlanOf}
 use Rattle.commands.specs.Best.{IsBestAnswer, best_text, best_status, IsBestOf}
 use Rattle.commands.specs.Staff.{IsStaffAnswer, staff_answer_text, staff_status, IsStaffAnswerOf}
 use Rattle.commands.specs.Verify.{IsVerified, verify_text, verify_status, IsVerifiedOf}
@@ -38,9 +37,9 @@ second_kind task = Kinds.Log
 -- what the answer to a task says of the problem
 abbrev pub IsProblemAnswer : ProblemTask → Instance → JobAnswer → Type 0
 IsProblemAnswer ProblemTasks.Show P Jobs.Show = Unit {0}
-IsProblemAnswer (ProblemTasks.Plan budget) P (Jobs.Plan found) = IsPlanned P budget found
-IsProblemAnswer (ProblemTasks.Best budget) P (Jobs.Best found) = IsBestAnswer P budget found
-IsProblemAnswer (ProblemTasks.Staff low high budget) P (Jobs.Staff a) = IsStaffAnswer P low high budget a
+IsProblemAnswer (ProblemTasks.Plan budget counts) P (Jobs.Plan found) = IsPlanAnswer P budget counts found
+IsProblemAnswer (ProblemTasks.Best budget counts) P (Jobs.Best found) = IsBestAnswer P budget counts found
+IsProblemAnswer (ProblemTasks.Staff low high budget counts) P (Jobs.Staff a) = IsStaffAnswer P low high budget counts a
 IsProblemAnswer (ProblemTasks.Rest minutes) P (Jobs.Rest a) = IsRestAnswer P minutes a
 IsProblemAnswer task P answer = ⊥
 

@@ -1,5 +1,5 @@
 -- What answers fit a command line over files whose bytes are known.
-use Rattle.std.specs.Prelude.{◌≡◌, ◌≢◌, ◌⊎◌, ℕ, ◌+◌, ◌≤◌, List, Some, None}
+use Rattle.std.specs.Prelude.{◌≡◌, ◌≢◌, ◌⊎◌, ℕ, ◌+◌, ◌≤◌, Bool, List, Some, None}
 use Rattle.rwsp_terms.specs.declared.limits.TheConstants.{MOST_WEEKS}
 use Rattle.rwsp_io.specs.Told.{Told, Silent, Bytes}
 use Rattle.rwsp_terms.specs.Instance.{Instance}
@@ -101,16 +101,16 @@ IsAnswerOnFiles task told P answer = (name second : List ℕ) × IsAnswerOn (OnF
 -- the text of a roster that `plan` writes for what a file spells meets every rule by `verify`
 abbrev pub RostersMeet : Type 0
 RostersMeet =
-    (file : List ℕ) (P : Instance) (budget : ℕ) (s : Roster) (a : Answer)
-    → SpellsProblem file P → IsAnswerOnProblem (Plan budget) P (Job (Jobs.Plan (Founds.Roster s)))
+    (file : List ℕ) (P : Instance) (budget : ℕ) (counts : Bool) (s : Roster) (a : Answer)
+    → SpellsProblem file P → IsAnswerOnProblem (Plan budget counts) P (Job (Jobs.Plan (Founds.Roster s)))
     → IsAnswerOnFiles Verify (Bytes (job_text P (Jobs.Plan (Founds.Roster s)))) P a
     → a ≡ Job (Jobs.Verify Verifies.Meets)
 
 -- the text of a refutation that `plan` writes is accepted by `check` over the same file, with the rules that it names
 abbrev pub RefutationsAreAccepted : Type 0
 RefutationsAreAccepted =
-    (file : List ℕ) (P : Instance) (budget workers : ℕ) (g : Log) (a : Answer)
-    → SpellsProblem file P → IsAnswerOnProblem (Plan budget) P (Job (Jobs.Plan (Founds.NoRoster g)))
+    (file : List ℕ) (P : Instance) (budget workers : ℕ) (counts : Bool) (g : Log) (a : Answer)
+    → SpellsProblem file P → IsAnswerOnProblem (Plan budget counts) P (Job (Jobs.Plan (Founds.NoRoster g)))
     → IsWithinLimit Kinds.Log (job_text P (Jobs.Plan (Founds.NoRoster g)))
     → IsAnswerOnFiles (Check workers) (Bytes (job_text P (Jobs.Plan (Founds.NoRoster g)))) P a
     → a ≡ Job (Jobs.Check (Checks.Accepted None g.named))
@@ -128,9 +128,9 @@ ReductionsAreAccepted =
 -- with what it decides
 abbrev pub StaffTextsAreAccepted : Type 0
 StaffTextsAreAccepted =
-    (file : List ℕ) (P : Instance) (low high budget : ℕ) (run : StaffRun) (staffed : Staffed) (a : Answer)
+    (file : List ℕ) (P : Instance) (low high budget : ℕ) (counts : Bool) (run : StaffRun) (staffed : Staffed) (a : Answer)
     → SpellsProblem file P → (1 ≤ low) × (low ≤ high) × (high ≤ MOST_WEEKS)
-    → IsAnswerOnProblem (Staff low high budget) P (Job (Jobs.Staff (Staffs.Run run)))
+    → IsAnswerOnProblem (Staff low high budget counts) P (Job (Jobs.Staff (Staffs.Run run)))
     → decision_of run ≡ Some staffed → IsWithinLimit Kinds.Log (staff_text P run)
     → IsAnswerOnFiles CheckStaff (Bytes (staff_text P run)) P a
     → a ≡ Job (Jobs.CheckStaff (StaffChecks.Accepted staffed))
@@ -138,8 +138,8 @@ StaffTextsAreAccepted =
 -- the roster that `best` finds meets every rule by `verify`, also where the budget was spent
 abbrev pub BestRostersMeet : Type 0
 BestRostersMeet =
-    (file : List ℕ) (P : Instance) (budget : ℕ) (found : BestFound) (s : Roster) (a : Answer)
-    → SpellsProblem file P → IsAnswerOnProblem (Best budget) P (Job (Jobs.Best found))
+    (file : List ℕ) (P : Instance) (budget : ℕ) (counts : Bool) (found : BestFound) (s : Roster) (a : Answer)
+    → SpellsProblem file P → IsAnswerOnProblem (Best budget counts) P (Job (Jobs.Best found))
     → best_roster found ≡ Some s → IsAnswerOnFiles Verify (Bytes (roster_text P s.cells)) P a
     → a ≡ Job (Jobs.Verify Verifies.Meets)
 
@@ -147,8 +147,8 @@ BestRostersMeet =
 -- weekends
 abbrev pub BestRostersAreBest : Type 0
 BestRostersAreBest =
-    (file : List ℕ) (P : Instance) (budget : ℕ) (s : Roster) (g : Log) (a : Answer)
-    → SpellsProblem file P → IsAnswerOnProblem (Best budget) P (Job (Jobs.Best (Bests.Best s g)))
+    (file : List ℕ) (P : Instance) (budget : ℕ) (counts : Bool) (s : Roster) (g : Log) (a : Answer)
+    → SpellsProblem file P → IsAnswerOnProblem (Best budget counts) P (Job (Jobs.Best (Bests.Best s g)))
     → IsAnswerOnFiles Verify (Bytes (roster_text P s.cells)) P a
     → (a ≡ Job (Jobs.Verify Verifies.Meets))
     × ((t : List Symbol) → MeetsAll P t → free_weekends t ≤ free_weekends s.cells)
@@ -162,8 +162,8 @@ IsProofOf (Bests.Undecided s g) goal h = ⊥
 -- the log that `best` writes as a proof is accepted by `check-free`, with its goal and the rules that it names
 abbrev pub BestProofsAreAccepted : Type 0
 BestProofsAreAccepted =
-    (file : List ℕ) (P : Instance) (budget goal : ℕ) (found : BestFound) (g : Log) (a : Answer)
-    → SpellsProblem file P → IsAnswerOnProblem (Best budget) P (Job (Jobs.Best found))
+    (file : List ℕ) (P : Instance) (budget goal : ℕ) (counts : Bool) (found : BestFound) (g : Log) (a : Answer)
+    → SpellsProblem file P → IsAnswerOnProblem (Best budget counts) P (Job (Jobs.Best found))
     → IsProofOf found goal g → IsWithinLimit Kinds.Log (log_text P g)
     → IsAnswerOnFiles CheckFree (Bytes (log_text P g)) P a
     → a ≡ Job (Jobs.Check (Checks.Accepted (Some goal) g.named))

@@ -5,6 +5,7 @@ ghost use Rattle.commands.specs.Files.{IsWithinLimit};
 ghost use Rattle.rwsp_run.specs.Commands.{IsProblemAnswer, IsFilesAnswer, IsPrintable, job_text, second_kind};
 
 use command_line::{FilesTask, ProblemTask};
+use commands::plan::Effort;
 use commands::staff::Sizes;
 use commands::{
     SecondKind, best, check, check_free, check_staff, crew, ics, on, page, plan, reduce, rest,
@@ -89,16 +90,22 @@ pub fn answer_on_problem<R: Threads + Sync, G: Gate>(
 {
     match task {
         ProblemTask::Show => Ok(JobAnswer::Show),
-        ProblemTask::Plan { budget } => {
-            let found = plan::job(rt, alloc, problem, budget, gate)?;
+        ProblemTask::Plan { budget, counts } => {
+            let found = plan::job(rt, alloc, problem, Effort { budget, counts }, gate)?;
             Ok(JobAnswer::Plan(found))
         }
-        ProblemTask::Best { budget } => {
-            let found = best::job(alloc, problem, budget)?;
+        ProblemTask::Best { budget, counts } => {
+            let found = best::job(alloc, problem, Effort { budget, counts })?;
             Ok(JobAnswer::Best(found))
         }
-        ProblemTask::Staff { low, high, budget } => {
-            let answer = staff::job(rt, alloc, problem, Sizes { low, high }, budget, gate)?;
+        ProblemTask::Staff {
+            low,
+            high,
+            budget,
+            counts,
+        } => {
+            let effort = Effort { budget, counts };
+            let answer = staff::job(rt, alloc, problem, Sizes { low, high }, effort, gate)?;
             Ok(JobAnswer::Staff(answer))
         }
         ProblemTask::Rest { minutes } => {

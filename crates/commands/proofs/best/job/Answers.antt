@@ -3,4 +3,4 @@ use Rattle.commands.proofs.Owned.{best_owned}
 use Rattle.commands.proofs.best.job.Goals as goal
 
 pub returns-clause-own : goal.returns-clause-own
-returns-clause-own c = IfOk-weaker c.best.result _ _ (λ found h. best_owned c.args.problem.now c.args.budget found c.requires.weekly h) c.best.ensures.found
+returns-clause-own c = IfOk-weaker c.best.result _ _ (λ found h. best_owned c.args.problem.now c.args.effort.budget found c.requires.weekly h) c.best.ensures.found
