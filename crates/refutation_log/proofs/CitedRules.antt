@@ -8,7 +8,7 @@ use Rattle.rwsp_terms.specs.declared.data.Weight.{Weight}
 use Rattle.rwsp_terms.specs.declared.data.Rule.{Rule}
 use Rattle.rwsp_terms.specs.declared.data.Rule.TheVariants.{Day, MaxOff, MinOff, MaxWork, MinWork, MaxShift, MinShift}
 use Rattle.rwsp_terms.specs.declared.data.Symbol.{Symbol}
-use Rattle.rwsp_terms.specs.Instance.{Instance, shift_count, IsSymbol, IsDay, symbol_numbered}
+use Rattle.rwsp_terms.specs.Instance.{Instance, symbol_numbered}
 use Rattle.rwsp_terms.specs.Roster.{IsRule}
 use Rattle.rwsp_terms.specs.Rules.{rule_of, rules, shift_rules, Names}
 use Rattle.rwsp_terms.specs.Weights.{ComesBefore, weight_at, AreWeights, IsWeight}
@@ -18,16 +18,16 @@ use Rattle.rwsp_model.proofs.Numbering.{one_number, number_at_place}
 use Rattle.rwsp_model.specs.RuleNumbers.{place_of}
 use Rattle.refutation_terms.specs.declared.lines.Line.{Line}
 use Rattle.refutation_terms.specs.declared.lines.Line.TheVariants.{Closing}
-use Rattle.refutation_terms.specs.declared.lines.Leaf.TheVariants.{Window, Day as DayLeaf, Words, Blocks}
 use Rattle.refutation_terms.specs.declared.lines.WordClaim.{WordClaim}
 use Rattle.refutation_terms.specs.declared.lines.WordClaim.TheVariants.{Dead, Light}
 use Rattle.refutation_terms.specs.declared.lines.Opening.{Opening}
 use Rattle.refutation_terms.specs.declared.lines.Opening.TheVariants.{Full, Turned}
-use Rattle.refutation_terms.specs.Ranges.{AreRules, WeightsFit, HasWeight}
+use Rattle.refutation_terms.specs.Ranges.{AreRules, HasWeight}
 use Rattle.refutation_terms.specs.WindowLeaf.{WindowFits, WindowCites}
-use Rattle.refutation_terms.specs.WordsLeaf.{WordsFit, WordsCite}
-use Rattle.refutation_terms.specs.BlocksLeaf.{BlocksCite, IsBlockRule}
+use Rattle.refutation_terms.specs.WordsLeaf.{WordsFit}
+use Rattle.refutation_terms.specs.BlocksLeaf.{IsBlockRule}
 use Rattle.refutation_terms.specs.Log.{LineFits, Cites, OpeningFits, OpeningCites}
+use Rattle.refutation_terms.proofs.LeafLaws.{leaf_cites_rules}
 use Rattle.refutation_log.specs.Cited.{Adds, AddsSome, IsCited, IsDayRule, IsWeighedDayRule, ListAndClaimFit}
 use Rattle.refutation_log.proofs.Adding.{on_ok, on_err, adds_same, adds_both, some_first, some_then, some_same}
 
@@ -234,51 +234,18 @@ names_added P old new Cited numbered adds r = (
       h,
 )
 
-day_numbered : (P : Instance) (j : ℕ) (r : Rule) → IsDay P j → r ≡ Day j → (k : ℕ) × (rule_of P k ≡ Some r)
-day_numbered P j r is e =
-    (place_of P (Day j) + 1, number_at_place P (Day j) (place_of P (Day j) + 1) is refl ∙ ap (λ (z : Rule). Some z) (sym e))
-
-weighed_numbered : (P : Instance) (R : List ℕ) (y : List Weight) → WeightsFit P y → (r : Rule) → ListsOrWeighs P R y r → (k : ℕ) × (rule_of P k ≡ Some r)
-weighed_numbered P R y fit r c =
-    ⊎_elim (λ (n : Names P R r). (n.0, n.2))
-    (λ (d : (j : ℕ) × HasWeight y j × (r ≡ Day j)).
-    let e = entry_of_weight y d.0 d.1.0 d.1.1 in
-    let at = read_at y e.0 e.1 e.3 in
-    let day : IsDay P e.1.day = subst (λ (w : Weight). IsDay P w.day) at.1 (fit e.0 e.1 at.0).0 in
-    day_numbered P d.0 r (subst (IsDay P) e.4 day) d.2)
-    c
+-- a rule of the problem has a number
+rule_numbered : (P : Instance) (r : Rule) → IsRule P r → (k : ℕ) × (rule_of P k ≡ Some r)
+rule_numbered P r is = (place_of P r + 1, number_at_place P r (place_of P r + 1) is refl)
 
 pub list_and_claim_fit : (P : Instance) (goal : Option ℕ) (p : ℕ) (R : List ℕ) (claim : WordClaim) → WordsFit P goal p R claim → ListAndClaimFit P R claim
 list_and_claim_fit P goal p R (Dead len) fits = fits.2
 list_and_claim_fit P goal p R (Light turns reward y) fits = (fits.2, fits.3)
 
-words_numbered : (P : Instance) (goal : Option ℕ) (p : ℕ) (R : List ℕ) (claim : WordClaim) → WordsFit P goal p R claim → (r : Rule) → WordsCite P R claim r → (k : ℕ) × (rule_of P k ≡ Some r)
-words_numbered P goal p R (Dead len) fits r c = (c.0, c.2)
-words_numbered P goal p R (Light turns reward y) fits r c = weighed_numbered P R y fits.3.1 r c
-
--- a rule of the problem has a number
-rule_numbered : (P : Instance) (r : Rule) → IsRule P r → (k : ℕ) × (rule_of P k ≡ Some r)
-rule_numbered P r is = (place_of P r + 1, number_at_place P r (place_of P r + 1) is refl)
-
-pub block_rule_is : (P : Instance) (x : ℕ) (r : Rule) → x ≤ shift_count P → IsBlockRule x r → IsRule P r
-block_rule_is P zero r is (inl e) = subst (IsRule P) (sym e) tt
-block_rule_is P zero r is (inr (inl e)) = subst (IsRule P) (sym e) tt
-block_rule_is P zero r is (inr (inr (inl e))) = subst (IsRule P) (sym e) tt
-block_rule_is P zero r is (inr (inr (inr e))) = subst (IsRule P) (sym e) tt
-block_rule_is P (suc x) r is (inl e) = subst (IsRule P) (sym e) (omega arith, is)
-block_rule_is P (suc x) r is (inr e) = subst (IsRule P) (sym e) (omega arith, is)
-
-blocks_numbered : (P : Instance) (x : Symbol) → IsSymbol P x → (r : Rule) → BlocksCite P x r → (k : ℕ) × (rule_of P k ≡ Some r)
-blocks_numbered P x is r (inl b) = rule_numbered P r (block_rule_is P x.number r is b)
-blocks_numbered P x is r (inr d) = day_numbered P d.0 r d.1 d.2
-
 pub line_numbered : (P : Instance) (goal : Option ℕ) (counts : Bool) (line : Line) → LineFits P goal counts line → (r : Rule) → Cites P line r → (k : ℕ) × (rule_of P k ≡ Some r)
-line_numbered P goal counts (Closing (Window number p len)) fits r c = (c.0, c.2)
-line_numbered P goal counts (Closing (DayLeaf j x over)) fits r c = day_numbered P j r fits.0 c
-line_numbered P goal counts (Closing (Words p R claim)) fits r c = words_numbered P goal p R claim fits r c
-line_numbered P goal counts (Closing (Blocks x)) fits r c = blocks_numbered P x fits.1 r c
+line_numbered P goal counts (Closing leaf) fits r c = rule_numbered P r (leaf_cites_rules P goal counts leaf r fits c)
 line_numbered P goal counts line fits r c = absurd c
 
 pub opening_numbered : (P : Instance) (o : Opening) → OpeningFits P o → (r : Rule) → OpeningCites o r → (k : ℕ) × (rule_of P k ≡ Some r)
 opening_numbered P Full fits r c = absurd c
-opening_numbered P (Turned t) fits r c = day_numbered P t.day r fits.0 c
+opening_numbered P (Turned t) fits r c = rule_numbered P r (subst (IsRule P) (sym c) fits.0)

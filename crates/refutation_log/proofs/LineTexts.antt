@@ -17,7 +17,7 @@ use Rattle.rwsp_model.specs.declared.fail.Fail.{Fail}
 use Rattle.rwsp_model.specs.declared.fail.Fail.TheVariants.{Refused, Memory}
 use Rattle.rwsp_model.proofs.Numbering.{rules_are_many}
 use Rattle.refutation_terms.specs.declared.lines.Line.{Line}
-use Rattle.refutation_terms.specs.LogText.{RawLine, RawDead, RawBound, RawFew, RawFree, RawUnfinished, IsWritten, raw_fields, line_of, WeightsAscend, line_kinds, own_kinds, last_kinds, most_turns, split_kind, window_kind, day_kind, dead_kind, bound_kind, free_kind}
+use Rattle.refutation_terms.specs.LogText.{RawLine, RawDead, RawBound, RawFew, RawFree, IsWritten, raw_fields, line_of, WeightsAscend, line_kinds, own_kinds, last_kinds, most_turns, split_kind, window_kind, day_kind, dead_kind, bound_kind, free_kind}
 use Rattle.refutation_terms.specs.Verdict.{Spells}
 use Rattle.refutation_terms.specs.TextLaws.{IsWritable}
 use Rattle.refutation_terms.proofs.LineTables.{lines_readable, raw_line, raw_found, raw_words}

@@ -60,7 +60,7 @@ abbrev pub IsUndecided : BestFound → Type 0
 IsUndecided (Undecided s g) = Unit {0}
 IsUndecided found = ⊥
 
--- the logs of a search which counts or not are as a plan's
+-- its log is one of a search that counts, or that doesn't
 abbrev pub IsBestCounted : Instance → Bool → BestFound → Type 0
 IsBestCounted P counts (Best s g) = IsCountedLog P counts g
 IsBestCounted P counts (NoRoster g) = IsCountedLog P counts g

@@ -1,12 +1,12 @@
 -- What is said of a plan.
-use Rattle.std.specs.Prelude.{◌≡◌, ◌↔◌, ◌⊎◌, ℕ, ◌+◌, ◌*◌, ◌^◌, ◌<◌, ◌≤◌, [], ◌∷◌, slice_get, Bool, true, false, IsTrue, None, Some}
+use Rattle.std.specs.Prelude.{◌≡◌, ◌↔◌, ℕ, ◌+◌, ◌*◌, ◌^◌, ◌<◌, ◌≤◌, [], ◌∷◌, slice_get, Bool, true, false, IsTrue, None, Some}
 use Rattle.rwsp_terms.specs.declared.data.Symbol.{Symbol}
-use Rattle.rwsp_terms.specs.Instance.{Instance, cells, shift_count, IsSymbol}
+use Rattle.rwsp_terms.specs.Instance.{Instance, cells, shift_count}
 use Rattle.rwsp_terms.specs.Roster.{MeetsAll}
 use Rattle.refutation_terms.specs.declared.lines.Line.{Line}
 use Rattle.refutation_terms.specs.declared.lines.Line.TheVariants.{Closing}
 use Rattle.refutation_terms.specs.declared.lines.Leaf.TheVariants.{Blocks}
-use Rattle.refutation_terms.specs.BlocksLeaf.{BlocksHold, NoBlocksHold}
+use Rattle.refutation_terms.specs.BlocksLeaf.{IsFirstBlocks, NoBlocksHold}
 use Rattle.refutation_terms.specs.Log.{Log, Passes, IsSpent, NamesOnlyCited, size}
 use Rattle.refutation_terms.specs.Sharp.{IsSharp, IsUnclosed}
 use Rattle.refutation_log.specs.declared.found.Found.{Found}
@@ -26,17 +26,7 @@ IsPlanned P budget (NoRoster g) = Passes P g × (size g ≤ budget) × IsPlanned
 IsPlanned P budget (Undecided g) =
     IsSpent P g budget × IsPlannedLog P g × (budget + 1 < 2 * (shift_count P + 1) ^ cells P)
 
--- blocks are counted of the shifts in their order, and then of the day off
-abbrev pub IsCountedBefore : Symbol → Symbol → Type 0
-IsCountedBefore y x = (0 < y.number) × ((x.number ≡ 0) ⊎ (y.number < x.number))
-
--- the leaf of blocks of the symbol holds, and none that is counted before
-pub record IsFirstBlocks (P : Instance) (x : Symbol) : Type 0 where
-  pub symbol : IsSymbol P x
-  pub holds : BlocksHold P x
-  pub first : (y : Symbol) → IsSymbol P y → IsCountedBefore y x → BlocksHold P y → ⊥
-
--- the tree of the log is that leaf
+-- the tree of the log is the first leaf of blocks that holds: of the shifts in their order, then of the day off
 abbrev pub IsBlocksTree : Instance → Log → Type 0
 IsBlocksTree P g = (x : Symbol) × IsFirstBlocks P x × (g.lines ≡ Closing (Blocks x) ∷ [])
 
@@ -44,13 +34,13 @@ IsBlocksTree P g = (x : Symbol) × IsFirstBlocks P x × (g.lines ≡ Closing (Bl
 abbrev pub IsUnclosedAtTop : Log → Type 0
 IsUnclosedAtTop g = (line : Line) × (slice_get g.lines 0 ≡ Some line) × IsUnclosed line
 
--- a log of a plan that counts may count exactly where its tree is such a leaf, and only where no leaf of blocks holds
--- is its first line a split, or unfinished; a log of one that doesn't count may not count
+-- a log of a search that counts may count exactly where its tree is such a leaf, and its first line is a split, or
+-- unfinished, only where no leaf of blocks holds; a log of one that doesn't count may not count
 abbrev pub IsCountedLog : Instance → Bool → Log → Type 0
 IsCountedLog P false g = g.counts ≡ false
 IsCountedLog P true g = (IsTrue g.counts ↔ IsBlocksTree P g) × (IsUnclosedAtTop g → NoBlocksHold P)
 
--- so are the logs that a plan finds which counts or not
+-- the log that a plan finds, which counts or not, is such a one
 abbrev pub IsCounted : Instance → Bool → Found → Type 0
 IsCounted P counts (Roster s) = Unit {0}
 IsCounted P counts (NoRoster g) = IsCountedLog P counts g
