@@ -413,7 +413,8 @@ fn read_free(
 
 #[tactic(auto, unfolding(crate::specs::Reading::blocks_at))]
 fn blocks_name<'a>(fields: &mut Fields<'a>) -> Option<&'a [u8]>
-    ensures { MatchOption result (blocks_at fields.old ≡ None) (λ name. blocks_at fields.old ≡ Some (RawBlocks name.now)) }
+    ensures { MatchOption result (blocks_at fields.old ≡ None)
+        (λ name. blocks_at fields.old ≡ Some (RawBlocks name.now)) }
 {
     let name = fields.name()?;
     if fields.is_done() { Some(name) } else { None }

@@ -9,9 +9,9 @@ use rwsp_terms::RuleList;
 use std::alloc::{AllocError, Global};
 use std::marker::Model;
 
-/// The rules that a refutation names, what is known before its first line, its goal if it has one, whether its lines may
-/// count blocks, and its lines, which are one whole tree. A log with a goal says that no roster has as many free weekends
-/// as the goal.
+/// The rules that a refutation names, what is known before its first line, its goal if it has one, whether its lines
+/// may count blocks, and its lines, which are one whole tree. A log with a goal says that no roster has as many free
+/// weekends as the goal.
 #[derive(Drop)]
 pub struct Log {
     named: RuleList,
