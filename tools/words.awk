@@ -1,5 +1,5 @@
-# What the script rwsp says of an answer, a line on standard error for each rule that it names, and what counting alone has
-# against a roster. `command` is the command, and `ended` its status.
+# What the script rwsp says of an answer, a line on standard error for each rule that it names, and where its log counts
+# blocks, the sum itself. `command` is the command, and `ended` its status.
 # It reads a problem in its canonical form, and then the answer. Classes are numbered as the rules on blocks are: the
 # shifts, days off, work.
 
@@ -23,7 +23,6 @@ function read_demands(k,    j, ends) {
     for (j = 1; j <= width; j++) {
         greatest[k, j] = split($j, ends, /\.\./) == 2 ? ends[2] : ends[1]
         least[k, j] = ends[1]
-        if (ends[1] > greatest[k, j]) has_crossed = 1
     }
 }
 
@@ -115,7 +114,7 @@ function with_free(goal) {
 function shift_misfit(k,    j, low, high, short, count, told) {
     for (j = 1; j <= width; j++) {
         low += least[k, j]
-        high += greatest[k, j]
+        high += smaller(greatest[k, j], weeks)
     }
     short = larger(shortest[k], 1)
     count = int(high / short)
@@ -171,38 +170,32 @@ function cycle_misfit(    rest, work, all, j, k, worked_low, worked_high, low, h
     return told
 }
 
-function tell_misfit(of_which, text) {
-    if (text == "") return 0
-    print "rwsp: counted by the script" of_which ", which proves nothing, so check it by hand: " text
-    return 1
-}
-
-# What counting alone has against a roster. Nothing is counted with demands that no number meets.
-function tell_counts(of_which,    k, misfits) {
-    if (has_crossed) return
-    for (k = 1; k <= shifts; k++) misfits += tell_misfit(of_which, shift_misfit(k))
-    misfits += tell_misfit(of_which, cycle_misfit())
-    if (!misfits && ended == 4) print "rwsp: counting days and blocks alone finds nothing against a roster" of_which
+# Why the blocks of the symbol that the log counts can't be as many as they have to be.
+function tell_count(    k, text) {
+    if (counted == "") return
+    if (counted == "-") text = cycle_misfit()
+    for (k = 1; k <= shifts; k++) if (name[k] == counted) text = shift_misfit(k)
+    if (text != "") print "rwsp: counting shows it: " text
 }
 
 function tell_sizes() {
     if (end == "roster") print "rwsp: " weeks " weeks, and so as many employees, are enough" (refuted ? ", and " span(first, refuted) " are not" : "; fewer were not tried")
     if (end == "undecided") {
         print "rwsp: nothing is known of " weeks " weeks" (refuted ? ", and there is no roster of " span(first, refuted) : "")
-        tell_counts(" of " weeks " weeks")
     }
     if (!refuted) return
     weeks = refuted
     tell_rules(" of " weeks " weeks")
+    tell_count()
 }
 
 function tell_weekends() {
-    if (ended != 4) tell_rules(with_free(goal))
-    else if (has_roster) print "rwsp: nothing is known of rosters" with_free(goal)
-    else {
-        print "rwsp: no roster was found, and nothing is known"
-        tell_counts("")
+    if (ended != 4) {
+        tell_rules(with_free(goal))
+        tell_count()
     }
+    else if (has_roster) print "rwsp: nothing is known of rosters" with_free(goal)
+    else print "rwsp: no roster was found, and nothing is known"
 }
 
 # Whether a line of the log rests on the demand of a day.
@@ -221,10 +214,6 @@ NR == 1 && !/^[0-9]+$/ {
 
 !is_read {
     read_problem(NR)
-    if (is_read && command == "plan" && ended == 4) {
-        tell_counts("")
-        exit
-    }
     next
 }
 
@@ -235,13 +224,14 @@ command == "staff" && $1 == "weeks" {
     if (end != "none") exit
     refuted = weeks
     turn = needs_more = 0
+    counted = ""
     next
 }
 
 # The number of free weekends and the roster stand in front of the log. No row of a roster has two words.
 command == "best" && !in_log {
     has_roster = has_roster || ($1 == "free" && NF == 2)
-    in_log = $0 == "rwsp-free 1"
+    in_log = /^rwsp-free [12]$/
     next
 }
 
@@ -263,6 +253,11 @@ $1 == "turn" {
     turn = $3
 }
 
+$1 == "blocks" {
+    counted = $2
+    needs_more = 1
+}
+
 turn && rests_on(turn) {
     needs_more = 1
 }
@@ -272,9 +267,7 @@ END {
     else if (command == "best") tell_weekends()
     else if (list != "") {
         count = tell_rules(with_free(goal))
-        if (command == "plan") {
-            tell_counts("")
-            if (count > 1) print "rwsp: `reduce` may find that the log needs fewer of them"
-        }
+        tell_count()
+        if (command == "plan" && counted == "" && count > 1) print "rwsp: `reduce` may find that the log needs fewer of them"
     }
 }
