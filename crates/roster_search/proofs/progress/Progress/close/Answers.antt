@@ -1,5 +1,5 @@
 -- A leaf more.
-use Rattle.std.proofs.Common.{◌≡◌, ◌⊎◌, refl, Some, arith, inl, inr}
+use Rattle.std.proofs.Common.{◌≡◌, ◌⊎◌, refl, false, Some, arith, inl, inr}
 use Rattle.std.specs.Prelude.{Contains}
 use Rattle.rwsp_terms.specs.declared.data.Rule.{Rule}
 use Rattle.rwsp_terms.specs.Rules.{rule_of}
@@ -26,4 +26,4 @@ returns-clause-written c =
     })
 
 pub put_cited-requires : goal.put_cited-requires
-put_cited-requires c = (c.args.self.now.aim.goal, c.requires.leaf.fits)
+put_cited-requires c = (c.args.self.now.aim.goal, false, c.requires.leaf.fits)
