@@ -3,6 +3,8 @@
 //! other.
 #![tactic(auto)]
 
+mod counted;
+mod effort;
 mod guide;
 mod likely_most;
 mod of_cases;
@@ -14,6 +16,7 @@ mod searching;
 mod staffing;
 mod top_leaf;
 
+pub use effort::Effort;
 pub use of_cases::{CaseReasons, case_reasons};
 pub use planning::plan_roster;
 pub use raising::best;

@@ -13,8 +13,8 @@ use propagators::{CycleProp, DayProp, WindowProp};
 use rwsp_model::Problem;
 use std::alloc::{AllocError, Global};
 
-// Windows and days, asked in this order.
-type PlainReasons<'a> = Pair<WindowProp<'a>, DayProp<'a>>;
+/// Windows and days, asked in this order.
+pub type PlainReasons<'a> = Pair<WindowProp<'a>, DayProp<'a>>;
 
 /// Windows, days and words of two turns, asked in this order.
 pub type CaseReasons<'a> = Pair<PlainReasons<'a>, CycleProp<'a>>;
@@ -37,14 +37,15 @@ pub fn case_reasons<'a>(
     Ok(Pair::new(plain, cycle))
 }
 
-// Windows and days, asked in this order.
-fn plain_reasons<'a>(
+/// The reasons of windows and days, which track the domains.
+pub fn plain_reasons<'a>(
     alloc: Global,
     problem: &'a Problem,
     doms: &Domains,
 ) -> Result<PlainReasons<'a>, AllocError>
     requires { BelongsTo problem.now doms.now }
     ensures serves { IfOk result (λ r. ⟦<PlainReasons<'a> as Propagator>⟧.serves r problem.now) }
+    ensures tracks { IfOk result (λ r. ⟦<PlainReasons<'a> as Propagator>⟧.tracks r doms.now) }
     ensures leaves { IfOk result (λ r. HasPlainLeaves problem.now (⟦<PlainReasons<'a> as Propagator>⟧.leaves r)) }
     ensures unweighed { IfOk result (λ r. WeighNoWords (⟦<PlainReasons<'a> as Propagator>⟧.leaves r)) }
     ensures spent { IfOk result (λ r. (S : Store) (p : ℕ) (x : Symbol)

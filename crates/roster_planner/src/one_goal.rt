@@ -1,11 +1,12 @@
 // A search with one goal, and the goal of the next.
-ghost use Rattle.std.specs.Prelude.{◌≡◌, ◌+◌, ◌*◌, ◌^◌, ◌<◌, ◌≤◌, Some, IfOk};
+ghost use Rattle.std.specs.Prelude.{◌≡◌, ◌+◌, ◌*◌, ◌^◌, ◌<◌, ◌≤◌, false, Some, IfOk};
 ghost use Rattle.rwsp_terms.specs.declared.limits.TheConstants.{DAYS_OF_WEEK};
 ghost use Rattle.rwsp_terms.specs.Instance.{cells, shift_count};
 ghost use Rattle.domain_store.specs.Cycles.{AreShortRules};
 ghost use Rattle.roster_planner.specs.CaseReasons.{AreCaseReasons, WeighNoWords};
 ghost use Rattle.roster_search.specs.Founds.{HasSpentBudget};
 ghost use Rattle.refutation_log.specs.Bests.{IsFoundWith, goal_behind};
+ghost use Rattle.refutation_log.specs.Planned.{IsCounted};
 ghost use Rattle.refutation_log.specs.FreeSharp.{FailsFreeAtTop};
 
 use crate::top_leaf::proof_at_top;
@@ -67,6 +68,7 @@ impl RisingGoal {
         requires goal { self.old ≤ automaton.now.problem.weeks + 1 }
         requires budget { (1 ≤ budget) × (budget ≤ GREATEST_BUDGET) }
         ensures found { IfOk result (IsFoundWith automaton.now.problem budget self.old) }
+        ensures counted { IfOk result (IsCounted automaton.now.problem false) }
         ensures goal { IfOk result (λ found. self.new ≡ goal_behind self.old found) }
         ensures few { IfOk result (λ _. self.new ≤ automaton.now.problem.weeks + 1) }
         ensures complete { IfOk result (λ found. HasSpentBudget found
@@ -97,6 +99,7 @@ fn search_with(
     requires goal { goal ≤ automaton.now.problem.weeks + 1 }
     requires budget { (1 ≤ budget) × (budget ≤ GREATEST_BUDGET) }
     ensures found { IfOk result (IsFoundWith automaton.now.problem budget goal) }
+    ensures counted { IfOk result (IsCounted automaton.now.problem false) }
     ensures complete { IfOk result (λ found. HasSpentBudget found
         → budget + 1 < 2 * (shift_count automaton.now.problem + 1) ^ cells automaton.now.problem) }
 {
@@ -122,6 +125,7 @@ fn split_cases(
     requires budget { (1 ≤ budget) × (budget ≤ GREATEST_BUDGET) }
     requires top { FailsFreeAtTop automaton.now.problem goal }
     ensures found { IfOk result (IsFoundWith automaton.now.problem budget goal) }
+    ensures counted { IfOk result (IsCounted automaton.now.problem false) }
     ensures complete { IfOk result (λ found. HasSpentBudget found
         → budget + 1 < 2 * (shift_count automaton.now.problem + 1) ^ cells automaton.now.problem) }
 {

@@ -1,10 +1,11 @@
 // A roster for a problem, or a refutation.
-ghost use Rattle.std.specs.Prelude.{◌≡◌, ◌≤◌, IfOk};
+ghost use Rattle.std.specs.Prelude.{◌≡◌, ◌≤◌, false, IfOk};
 ghost use Rattle.domain_store.specs.Cycles.{AreShortRules};
-ghost use Rattle.refutation_log.specs.Planned.{IsPlanned};
+ghost use Rattle.refutation_log.specs.Planned.{IsCounted, IsPlanned};
 
-use crate::planner_search;
+use crate::counted::counted_log;
 use crate::reasons::reasons_of;
+use crate::{Effort, planner_search};
 use clean_words::{Automaton, Told};
 use potential_bounds::Gate;
 use refutation_log::{Found, first_turn};
@@ -15,9 +16,10 @@ use rwsp_terms::limits::GREATEST_BUDGET;
 use std::alloc::{AllocError, Global};
 use std::thread::Threads;
 
-/// What a search finds within the budget. A roster is looked for first. Where none is found soon, cases are
-/// distinguished: where a shift is demanded, it is taken for granted that week 1 has the first such shift on the first
-/// such day, as some turned roster does.
+/// A roster, or a log of why there is none, within the budget. Where blocks are counted, that comes first: the log is
+/// then one leaf, if no number of blocks of some symbol fits. Else a roster is looked for. Where none is found soon,
+/// cases are distinguished: where a shift is demanded, it is taken for granted that week 1 has the first such shift on
+/// the first such day, as some turned roster does.
 ///
 /// Each case is looked at for reasons: windows, days, and the words of two turns. Bounds by weights are tried at the
 /// top, shared out among workers, who pass the gate.
@@ -25,11 +27,33 @@ pub fn plan_roster<R: Threads + Sync, G: Gate>(
     rt: &R,
     alloc: Global,
     problem: &Problem,
+    effort: Effort,
+    gate: &G,
+) -> Result<Found, AllocError>
+    requires { (1 ≤ effort.budget) × (effort.budget ≤ GREATEST_BUDGET) }
+    ensures planned { IfOk result (IsPlanned problem.now effort.budget) }
+    ensures counted { IfOk result (IsCounted problem.now effort.counts) }
+{
+    if !effort.counts {
+        return search_plan(rt, alloc, problem, effort.budget, gate);
+    }
+    match counted_log(alloc, problem, first_turn(problem), None)? {
+        Some(log) => Ok(Found::NoRoster(log)),
+        None => search_plan(rt, alloc, problem, effort.budget, gate),
+    }
+}
+
+// What a search finds, whose logs may not count blocks.
+fn search_plan<R: Threads + Sync, G: Gate>(
+    rt: &R,
+    alloc: Global,
+    problem: &Problem,
     budget: u32,
     gate: &G,
 ) -> Result<Found, AllocError>
     requires { (1 ≤ budget) × (budget ≤ GREATEST_BUDGET) }
-    ensures { IfOk result (IsPlanned problem.now budget) }
+    ensures planned { IfOk result (IsPlanned problem.now budget) }
+    ensures counted { IfOk result (IsCounted problem.now false) }
 {
     let finder = RosterFinder::new(alloc, problem)?;
     let found = plan_or_find(rt, alloc, &finder, budget, gate);
@@ -47,7 +71,8 @@ fn plan_or_find<R: Threads + Sync, G: Gate>(
     gate: &G,
 ) -> Result<Found, AllocError>
     requires { (1 ≤ budget) × (budget ≤ GREATEST_BUDGET) }
-    ensures { IfOk result (IsPlanned finder.now budget) }
+    ensures planned { IfOk result (IsPlanned finder.now budget) }
+    ensures counted { IfOk result (IsCounted finder.now false) }
 {
     if let Some(roster) = finder.find(alloc, 0, Patience::Short)? {
         return Ok(Found::Roster(roster));
@@ -70,7 +95,8 @@ fn plan_cases<R: Threads + Sync, G: Gate>(
     requires short { AreShortRules automaton.now.problem automaton.now.rules }
     requires same { finder.now ≡ automaton.now.problem }
     requires budget { (1 ≤ budget) × (budget ≤ GREATEST_BUDGET) }
-    ensures { IfOk result (IsPlanned automaton.now.problem budget) }
+    ensures planned { IfOk result (IsPlanned automaton.now.problem budget) }
+    ensures counted { IfOk result (IsCounted automaton.now.problem false) }
 {
     let problem = automaton.problem();
     problem.prove_limits();

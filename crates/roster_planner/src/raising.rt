@@ -1,15 +1,17 @@
 // A roster with the most free weekends, and why none has more.
-ghost use Rattle.std.specs.Prelude.{◌≡◌, ℕ, ◌+◌, ◌*◌, ◌^◌, ◌<◌, ◌≤◌, IfOk};
+ghost use Rattle.std.specs.Prelude.{◌≡◌, ℕ, ◌+◌, ◌*◌, ◌^◌, ◌<◌, ◌≤◌, false, IfOk};
 ghost use Rattle.std.specs.Option.{IfSome};
 ghost use Rattle.rwsp_terms.specs.declared.limits.TheConstants.{DAYS_OF_WEEK};
 ghost use Rattle.rwsp_terms.specs.Instance.{Instance, cells, shift_count};
 ghost use Rattle.domain_store.specs.Cycles.{AreShortRules};
-ghost use Rattle.refutation_log.specs.Bests.{IsMeeting, IsFreeProof, IsBestFound, IsUndecided, goal_above, goal_of};
+ghost use Rattle.refutation_log.specs.Bests.{IsMeeting, IsFreeProof, IsBestFound, IsBestCounted, IsUndecided, goal_above, goal_of};
 
+use crate::Effort;
+use crate::counted::counted_log;
 use crate::likely_most::likely_most;
 use crate::one_goal::RisingGoal;
 use clean_words::{Automaton, Told};
-use refutation_log::{BestFound, Found, Log};
+use refutation_log::{BestFound, Found, Log, Opening};
 use roster_finder::RosterFinder;
 use rwsp_model::{Problem, Roster};
 use rwsp_terms::limits::GREATEST_BUDGET;
@@ -18,11 +20,31 @@ use std::alloc::{AllocError, Global};
 /// The most free weekends that a roster of the problem can have: a roster with them, and the free log for one more.
 ///
 /// Where the budget is spent, it is the roster with the most free weekends of all that were found. With each goal, a
-/// roster with as many as seem likely is looked for first. The budget is for the lines of each log.
-pub fn best(alloc: Global, problem: &Problem, budget: u32) -> Result<BestFound, AllocError>
+/// roster with as many as seem likely is looked for first. The budget is for the lines of each log. Where blocks are
+/// counted, that comes first.
+pub fn best(alloc: Global, problem: &Problem, effort: Effort) -> Result<BestFound, AllocError>
+    requires week { problem.now.days ≡ DAYS_OF_WEEK }
+    requires budget { (1 ≤ effort.budget) × (effort.budget ≤ GREATEST_BUDGET) }
+    ensures found { IfOk result (IsBestFound problem.now effort.budget) }
+    ensures counted { IfOk result (IsBestCounted problem.now effort.counts) }
+    ensures complete { IfOk result (λ found. IsUndecided found
+        → effort.budget + 1 < 2 * (shift_count problem.now + 1) ^ cells problem.now) }
+{
+    if !effort.counts {
+        return search_best(alloc, problem, effort.budget);
+    }
+    match counted_log(alloc, problem, Opening::Full, Some(0))? {
+        Some(proof) => Ok(BestFound::NoRoster(proof)),
+        None => search_best(alloc, problem, effort.budget),
+    }
+}
+
+// The same by searches, whose logs may not count blocks.
+fn search_best(alloc: Global, problem: &Problem, budget: u32) -> Result<BestFound, AllocError>
     requires week { problem.now.days ≡ DAYS_OF_WEEK }
     requires budget { (1 ≤ budget) × (budget ≤ GREATEST_BUDGET) }
     ensures found { IfOk result (IsBestFound problem.now budget) }
+    ensures counted { IfOk result (IsBestCounted problem.now false) }
     ensures complete { IfOk result (λ found.
         IsUndecided found → budget + 1 < 2 * (shift_count problem.now + 1) ^ cells problem.now) }
 {
@@ -56,6 +78,7 @@ fn best_by(
     requires first { rising.old ≡ 0 }
     requires budget { (1 ≤ budget) × (budget ≤ GREATEST_BUDGET) }
     ensures found { IfOk result (IsBestFound automaton.now.problem budget) }
+    ensures counted { IfOk result (IsBestCounted automaton.now.problem false) }
     ensures most { IfOk result (λ found. rising.new ≡ goal_of found) }
     ensures complete { IfOk result (λ found. IsUndecided found
         → budget + 1 < 2 * (shift_count automaton.now.problem + 1) ^ cells automaton.now.problem) }
@@ -101,6 +124,7 @@ fn ended(kept: Option<Roster>, proof: Log) -> BestFound
     ensures decided { IsUndecided result → ⊥ }
     ensures found { (P : Instance) (budget : ℕ) → IfSome kept (IsMeeting P)
         → IsFreeProof P budget (goal_above kept) proof → IsBestFound P budget result }
+    ensures counted { (P : Instance) → proof.counts ≡ false → IsBestCounted P false result }
     ensures most { goal_of result ≡ goal_above kept }
 {
     match kept {

@@ -1,12 +1,12 @@
 // How few weeks are enough.
 ghost use Rattle.std.specs.Prelude.{◌≤◌, IfOk};
 ghost use Rattle.rwsp_terms.specs.declared.limits.TheConstants.{GREATEST_STAFF_BUDGET};
-ghost use Rattle.refutation_log.specs.Planned.{IsPlanned};
+ghost use Rattle.refutation_log.specs.Planned.{IsCounted, IsPlanned};
 ghost use Rattle.crew_size.specs.Sizes.{IsSize, with_weeks};
-ghost use Rattle.crew_size.specs.Runs.{IsStaffed};
+ghost use Rattle.crew_size.specs.Runs.{IsStaffed, IsStaffCounted};
 ghost use Rattle.crew_size.specs.Fitting.{FitsSizes};
 
-use crate::plan_roster;
+use crate::{Effort, plan_roster};
 use crew_size::{StaffEnd, StaffRun, with_weeks};
 use potential_bounds::Gate;
 use refutation_log::Found;
@@ -28,18 +28,19 @@ pub fn least_crew<R: Threads + Sync, G: Gate>(
     alloc: Global,
     problem: &Problem,
     sizes: Sizes,
-    budget: u32,
+    effort: Effort,
     gate: &G,
 ) -> Result<StaffRun, AllocError>
     requires sizes { (1 ≤ sizes.low) × (sizes.low ≤ sizes.high) }
     requires most { IsSize problem.now sizes.high }
-    requires budget { (1 ≤ budget) × (budget ≤ GREATEST_STAFF_BUDGET) }
-    ensures staffed { IfOk result (IsStaffed problem.now sizes.low sizes.high budget) }
+    requires budget { (1 ≤ effort.budget) × (effort.budget ≤ GREATEST_STAFF_BUDGET) }
+    ensures staffed { IfOk result (IsStaffed problem.now sizes.low sizes.high effort.budget) }
+    ensures counted { IfOk result (IsStaffCounted problem.now effort.counts) }
     ensures fits { IfOk result (FitsSizes problem.now) }
 {
     let mut logs = Vec::new(alloc);
     for weeks in sizes.low..sizes.high + 1 {
-        match plan_for(rt, alloc, problem, weeks, budget, gate)? {
+        match plan_for(rt, alloc, problem, weeks, effort, gate)? {
             Found::NoRoster(log) => logs.push(log)?,
             Found::Roster(roster) => {
                 return Ok(StaffRun::of(sizes.low, logs, StaffEnd::Least(roster)));
@@ -58,15 +59,16 @@ fn plan_for<R: Threads + Sync, G: Gate>(
     alloc: Global,
     problem: &Problem,
     weeks: u32,
-    budget: u32,
+    effort: Effort,
     gate: &G,
 ) -> Result<Found, AllocError>
     requires size { IsSize problem.now weeks }
-    requires budget { (1 ≤ budget) × (budget ≤ GREATEST_STAFF_BUDGET) }
-    ensures { IfOk result (IsPlanned (with_weeks problem.now weeks) budget) }
+    requires budget { (1 ≤ effort.budget) × (effort.budget ≤ GREATEST_STAFF_BUDGET) }
+    ensures planned { IfOk result (IsPlanned (with_weeks problem.now weeks) effort.budget) }
+    ensures counted { IfOk result (IsCounted (with_weeks problem.now weeks) effort.counts) }
 {
     let sized = with_weeks(problem, weeks)?;
-    let found = plan_roster(rt, alloc, &sized, budget, gate);
+    let found = plan_roster(rt, alloc, &sized, effort, gate);
     drop(sized);
     found
 }

@@ -1,5 +1,6 @@
 // The free leaf of one turn at the top: each free weekend weighs 1, and nothing else weighs.
-ghost use Rattle.std.specs.Prelude.{◌≡◌, ◌↔◌, ◌+◌, ◌≤◌, IfOk, IsTrue, MatchOption};
+ghost use Rattle.std.specs.Prelude.{◌≡◌, ◌↔◌, ◌+◌, ◌≤◌, [], false, IfOk, IsTrue, MatchOption};
+ghost use Rattle.std.specs.Option.{IfSome};
 ghost use Rattle.rwsp_terms.specs.declared.limits.TheConstants.{DAYS_OF_WEEK};
 ghost use Rattle.domain_store.specs.Cycles.{AreShortRules};
 ghost use Rattle.refutation_log.specs.Bests.{IsFreeProof};
@@ -8,9 +9,9 @@ ghost use Rattle.refutation_log.specs.FreeSharp.{HoldsFreeAtTop, FailsFreeAtTop}
 use clean_words::Automaton;
 use domain_store::Domains;
 use potential_bounds::{Claim, claim_escape};
-use refutation_log::Log;
-use refutation_terms::{Leaf, Line, Opening, WordClaim};
-use rwsp_terms::Weights;
+use refutation_log::{Log, one_leaf_log};
+use refutation_terms::{Leaf, Opening, Terms, WordClaim};
+use rwsp_terms::{RuleList, Weights};
 use std::alloc::{AllocError, Global};
 
 /// The log of one line that has this leaf, by all short rules, where it holds under full domains: no clean word of one
@@ -23,8 +24,9 @@ pub fn proof_at_top(
     requires short { AreShortRules automaton.now.problem automaton.now.rules }
     requires week { automaton.now.problem.days ≡ DAYS_OF_WEEK }
     requires goal { goal ≤ automaton.now.problem.weeks + 1 }
-    ensures { let P = automaton.now.problem in
+    ensures proof { let P = automaton.now.problem in
         IfOk result (λ found. MatchOption found (FailsFreeAtTop P goal) (IsFreeProof P 1 goal)) }
+    ensures counts { IfOk result (λ found. IfSome found (λ g. g.counts ≡ false)) }
 {
     if holds_at_top(alloc, automaton, goal)? {
         Ok(Some(log_of_top(alloc, automaton, goal)?))
@@ -64,22 +66,30 @@ fn log_of_top(alloc: Global, automaton: &Automaton, goal: u32) -> Result<Log, Al
     requires week { automaton.now.problem.days ≡ DAYS_OF_WEEK }
     requires goal { goal ≤ automaton.now.problem.weeks + 1 }
     requires holds { HoldsFreeAtTop automaton.now.problem goal automaton.now.rules }
-    ensures { IfOk result (IsFreeProof automaton.now.problem 1 goal) }
+    ensures proof { IfOk result (IsFreeProof automaton.now.problem 1 goal) }
+    ensures counts { IfOk result (λ g. g.counts ≡ false) }
 {
-    automaton.problem().prove_limits();
-    let named = automaton.rules().copy()?;
+    let problem = automaton.problem();
+    problem.prove_limits();
     let rules = automaton.rules().copy()?;
-    let weights = Weights::new(alloc);
-    let lines = vec![in alloc;
-        Line::Closing(Leaf::Words {
-            p: 0,
-            rules,
-            claim: WordClaim::Light {
-                turns: 1,
-                reward: 1,
-                weights
-            }
-        }),
-    ]?;
-    Ok(Log::new(named, Opening::Full, Some(goal), lines))
+    let terms = Terms {
+        goal: Some(goal),
+        counts: false,
+    };
+    one_leaf_log(alloc, problem, Opening::Full, terms, top_leaf(alloc, rules))
+}
+
+// The leaf by these rules.
+fn top_leaf(alloc: Global, rules: RuleList) -> Leaf
+    ensures { result ≡ Leaf.Words 0 rules (WordClaim.Light 1 1 []) }
+{
+    Leaf::Words {
+        p: 0,
+        rules,
+        claim: WordClaim::Light {
+            turns: 1,
+            reward: 1,
+            weights: Weights::new(alloc),
+        },
+    }
 }

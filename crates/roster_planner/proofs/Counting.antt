@@ -1,0 +1,109 @@
+-- What is found where blocks are counted.
+use Rattle.std.proofs.Common.{◌≡◌, ℕ, ◌<◌, [], ◌∷◌, true, false, None, refl, sym, ◌∙◌, subst}
+use Rattle.std.specs.Prelude.{IsTrue, Result, Ok, Err, IfOk}
+use Rattle.std.specs.declared.alloc.AllocError.{AllocError}
+use Rattle.rwsp_terms.specs.declared.data.Symbol.{Symbol}
+use Rattle.rwsp_terms.specs.Instance.{Instance, cells}
+use Rattle.refutation_terms.specs.declared.lines.Line.{Line}
+use Rattle.refutation_terms.specs.declared.lines.Line.TheVariants.{Closing}
+use Rattle.refutation_terms.specs.declared.lines.Leaf.{Leaf}
+use Rattle.refutation_terms.specs.declared.lines.Leaf.TheVariants.{Window, Day, Blocks}
+use Rattle.refutation_terms.specs.declared.lines.Opening.{Opening}
+use Rattle.refutation_terms.specs.Word.{Domains, AreSame}
+use Rattle.refutation_terms.specs.BlocksLeaf.{IsFirstBlocks, NoBlocksHold}
+use Rattle.refutation_terms.specs.Tree.{opening}
+use Rattle.refutation_terms.specs.Log.{Log}
+use Rattle.refutation_terms.proofs.SameDomains.{turned_round, same_holds}
+use Rattle.domain_store.specs.Store.{Store, has_domain}
+use Rattle.domain_store.specs.Looks.{Closes, HasPlainLeaves, IsLook}
+use Rattle.domain_store.specs.declared.look.Look.{Look}
+use Rattle.domain_store.specs.declared.look.Look.TheVariants.{Quiet, Closed, Cut}
+use Rattle.refutation_log.specs.declared.found.Found.{Found}
+use Rattle.refutation_log.specs.declared.found.Found.TheVariants.{Roster, NoRoster, Undecided}
+use Rattle.refutation_log.specs.declared.best_found.BestFound.{BestFound}
+use Rattle.refutation_log.specs.declared.best_found.BestFound.TheVariants as Bests
+use Rattle.refutation_log.specs.Planned.{IsBlocksTree, NoPlainLeafHolds, IsCountingLog, IsCountedLog, IsCounted}
+use Rattle.refutation_log.specs.Bests.{IsBestCounted}
+use Rattle.roster_planner.specs.CaseReasons.{WeighNoWords}
+use Rattle.roster_planner.specs.Counted.{IsPlainLeaf, IsPlainLook}
+use Rattle.roster_planner.proofs.OneLeaves.{closed_at_top}
+
+-- a look at windows and days
+
+no_plain : (P : Instance) (leaves : Store → Line → Type 0) (S : Store) → HasPlainLeaves P leaves → (Closes P (leaves S) S → ⊥) → NoPlainLeafHolds P (has_domain S)
+no_plain P leaves S plain quiet = (
+  λ h. quiet (Closing (Window h.0 h.1 h.2), plain.windows S h.0 h.1 h.2 h.3, h.4),
+  λ h. quiet (Closing (Day h.0 h.1 h.2), plain.days S h.0 h.1 h.2 h.3, h.4),
+)
+
+pub plain_look : (P : Instance) (leaves : Store → Line → Type 0) (spent : ℕ → Symbol → Type 0) (S : Store) (look : Look) → HasPlainLeaves P leaves → WeighNoWords leaves → IsLook P (leaves S) spent S look → IsPlainLook P S look
+plain_look P leaves spent S Quiet plain light h = no_plain P leaves S plain h.0
+plain_look P leaves spent S (Closed line) plain light h = (h.1, light S line h.0)
+plain_look P leaves spent S (Cut p x line) plain light h = no_plain P leaves S plain h.0
+
+-- under equal domains the same leaves hold
+pub same_plain : (P : Instance) (D E : Domains) (leaf : Leaf) → 0 < cells P → AreSame P D E → IsPlainLeaf P D leaf → IsPlainLeaf P E leaf
+same_plain P D E leaf some same h = (
+  record { leaf = h.0.leaf; fits = h.0.fits; short = h.0.short; holds = same_holds P None false D E (Closing leaf) some tt h.0.fits same h.0.holds },
+  h.1,
+)
+
+pub same_no_plain : (P : Instance) (D E : Domains) → 0 < cells P → AreSame P D E → NoPlainLeafHolds P D → NoPlainLeafHolds P E
+same_no_plain P D E some same none =
+    let back = turned_round P D E same in
+    (
+      λ h. none.0 (h.0, h.1, h.2, h.3, same_holds P None false E D (Closing (Window h.0 h.1 h.2)) some tt h.3 back h.4),
+      λ h. none.1 (h.0, h.1, h.2, h.3, same_holds P None false E D (Closing (Day h.0 h.1 h.2)) some tt h.3 back h.4),
+    )
+
+-- logs
+
+-- the tree of a log of such a leaf is no leaf of blocks
+not_blocks : (P : Instance) (D : Domains) (leaf : Leaf) (x : Symbol) → leaf ≡ Blocks x → IsPlainLeaf P D leaf → ⊥
+not_blocks P D leaf x is h = let fits : IsPlainLeaf P D (Blocks x) = rw is at h in absurd (cc fits.0.fits.0)
+
+only_one : (a b : Leaf) → Closing a ∷ [] ≡ Closing b ∷ [] → a ≡ b
+only_one a b e = cc e
+
+pub plain_counts : (P : Instance) (D : Domains) (leaf : Leaf) (g : Log) → g.counts ≡ false → g.lines ≡ Closing leaf ∷ [] → IsPlainLeaf P D leaf → IsCountingLog P g
+plain_counts P D leaf g none lines plain =
+    let no_tree : IsBlocksTree P g → ⊥ = λ h. not_blocks P D leaf h.0 (only_one leaf (Blocks h.0) (sym lines ∙ h.2)) plain in
+    record {
+      may_count = (λ counts. let no : IsTrue false = rw none at counts in absurd (cc no), λ h. absurd (no_tree h));
+      no_plain = λ h. absurd (no_tree h);
+      no_blocks = λ h. absurd (closed_at_top g (leaf, lines) h);
+    }
+
+pub blocks_count : (P : Instance) (o : Opening) (x : Symbol) (g : Log) → g.opening ≡ o → g.counts ≡ true → g.lines ≡ Closing (Blocks x) ∷ [] → IsFirstBlocks P x → NoPlainLeafHolds P (opening P o) → IsCountingLog P g
+blocks_count P o x g opened counts lines first none = record {
+  may_count = (λ h. (x, first, lines), λ h. rw counts refl);
+  no_plain = λ h. subst (λ t. NoPlainLeafHolds P (opening P t)) (sym opened) none;
+  no_blocks = λ h. absurd (closed_at_top g (Blocks x, lines) h);
+}
+
+-- where no leaf of blocks holds, a log that may not count is as one of a plan that counts
+pub search_counts : (P : Instance) (g : Log) → NoBlocksHold P → IsCountedLog P false g → IsCountedLog P true g
+search_counts P g none no = record {
+  may_count = (λ counts. let not : IsTrue false = rw no at counts in absurd (cc not), λ h. absurd (none h.0 h.1.symbol h.1.holds));
+  no_plain = λ h. absurd (none h.0 h.1.symbol h.1.holds);
+  no_blocks = λ h. none;
+}
+
+pub found_counts : (P : Instance) (found : Found) → NoBlocksHold P → IsCounted P false found → IsCounted P true found
+found_counts P (Roster s) none h = tt
+found_counts P (NoRoster g) none h = search_counts P g none h
+found_counts P (Undecided g) none h = search_counts P g none h
+
+pub best_counts : (P : Instance) (found : BestFound) → NoBlocksHold P → IsBestCounted P false found → IsBestCounted P true found
+best_counts P (Bests.Best s g) none h = search_counts P g none h
+best_counts P (Bests.NoRoster g) none h = search_counts P g none h
+best_counts P (Bests.Undecided s g) none h = search_counts P g none h
+
+-- the same of what a search gives
+pub if_found_counts : (P : Instance) (r : Result Found AllocError) → NoBlocksHold P → IfOk r (IsCounted P false) → IfOk r (IsCounted P true)
+if_found_counts P (Ok found) none h = found_counts P found none h
+if_found_counts P (Err e) none h = tt
+
+pub if_best_counts : (P : Instance) (r : Result BestFound AllocError) → NoBlocksHold P → IfOk r (IsBestCounted P false) → IfOk r (IsBestCounted P true)
+if_best_counts P (Ok found) none h = best_counts P found none h
+if_best_counts P (Err e) none h = tt

@@ -1,0 +1,82 @@
+-- A log whose tree is one leaf is sharp: it splits nowhere, and its first line is closed.
+use Rattle.std.proofs.Common.{◌≡◌, ℕ, zero, suc, ◌≤◌, [], ◌∷◌, sym, subst, arith, Some, None}
+use Rattle.std.specs.Prelude.{slice_get}
+use Rattle.rwsp_terms.specs.declared.data.Symbol.{Symbol}
+use Rattle.rwsp_terms.specs.Instance.{Instance}
+use Rattle.refutation_terms.specs.declared.lines.Line.{Line}
+use Rattle.refutation_terms.specs.declared.lines.Line.TheVariants.{Split, Closing}
+use Rattle.refutation_terms.specs.declared.lines.Leaf.{Leaf}
+use Rattle.refutation_terms.specs.declared.lines.Opening.{Opening}
+use Rattle.refutation_terms.specs.Tree.{IsLeaf}
+use Rattle.refutation_terms.specs.Log.{Log, Passes, NamesOnlyCited, size}
+use Rattle.refutation_terms.specs.Sharp.{IsFirstTurn, IsSharp, IsUnclosed}
+use Rattle.refutation_log.specs.declared.found.Found.TheVariants.{NoRoster}
+use Rattle.refutation_log.specs.Planned.{IsPlanned, IsUnclosedAtTop}
+use Rattle.refutation_log.specs.FreeSharp.{IsFreeSharp}
+use Rattle.refutation_log.specs.Bests.{IsFreeProof}
+use Rattle.roster_planner.specs.Counted.{IsOneLeaf, IsCountedProof}
+use Rattle.roster_planner.proofs.ShortLists.{some_short_rules}
+
+-- each line of such a list is a leaf
+only_leaf : (leaf : Leaf) (k : ℕ) (line : Line) → slice_get (Closing leaf ∷ []) k ≡ Some line → IsLeaf line
+only_leaf leaf zero line at = subst IsLeaf (cc at) tt
+only_leaf leaf (suc k) line at = absurd (cc at)
+
+line_is_leaf : (g : Log) → IsOneLeaf g → (k : ℕ) (line : Line) → slice_get g.lines k ≡ Some line → IsLeaf line
+line_is_leaf g one k line at = only_leaf one.0 k line (rw one.1 at at)
+
+-- and no leaf is a split, or unfinished
+closed : (line : Line) → IsLeaf line → IsUnclosed line → ⊥
+closed (Closing leaf) h undecided = undecided
+closed line h undecided = h
+
+pub closed_at_top : (g : Log) → IsOneLeaf g → IsUnclosedAtTop g → ⊥
+closed_at_top g one h = closed h.0 (line_is_leaf g one 0 h.0 h.1) h.2
+
+no_split : (g : Log) → IsOneLeaf g → (k p : ℕ) (x : Symbol) → slice_get g.lines k ≡ Some (Split p x) → ⊥
+no_split g one k p x at = line_is_leaf g one k (Split p x) at
+
+one_line : (g : Log) → IsOneLeaf g → size g ≤ 1
+one_line g one = rw one.1 (omega arith)
+
+pub one_is_sharp : (P : Instance) (g : Log) → IsOneLeaf g → IsFirstTurn P g.opening → IsSharp P g
+one_is_sharp P g one first =
+    let short = some_short_rules P in
+    record {
+      short = short.0;
+      all_short = short.1;
+      splits = λ k p x at. absurd (no_split g one k p x at);
+      top = λ line at undecided. absurd (closed_at_top g one (line, at, undecided));
+      turn = first;
+    }
+
+pub one_is_free_sharp : (P : Instance) (goal : ℕ) (g : Log) → IsOneLeaf g → NamesOnlyCited P g → IsFreeSharp P goal g
+one_is_free_sharp P goal g one cited =
+    let short = some_short_rules P in
+    record {
+      cited = cited;
+      short = short.0;
+      all_short = short.1;
+      splits = λ k p x at. absurd (no_split g one k p x at);
+      top = λ line at undecided. absurd (closed_at_top g one (line, at, undecided));
+    }
+
+-- a log of one leaf that passes with this goal is a proof within every budget
+pub one_proof : (P : Instance) (budget goal : ℕ) (g : Log) → 1 ≤ budget → IsOneLeaf g → Passes P g → g.goal ≡ Some goal → NamesOnlyCited P g → IsFreeProof P budget goal g
+one_proof P budget goal g some one passes same cited =
+    let few = one_line g one in
+    (passes, same, omega (arith, few, some), one_is_free_sharp P goal g one cited)
+
+-- and one with the first turn is a plan
+pub one_plan : (P : Instance) (budget : ℕ) (o : Opening) (g : Log) → 1 ≤ budget → IsFirstTurn P o → IsCountedProof P o None g → IsPlanned P budget (NoRoster g)
+one_plan P budget o g some first h =
+    let few = one_line g h.one_leaf in
+    (
+      h.passes,
+      omega (arith, few, some),
+      record {
+        no_goal = h.same_goal;
+        cited = h.cited;
+        sharp = one_is_sharp P g h.one_leaf (subst (IsFirstTurn P) (sym h.same_opening) first);
+      },
+    )
