@@ -7,8 +7,10 @@ use Rattle.refutation_terms.specs.declared.lines.Line.{Line}
 use Rattle.refutation_terms.specs.declared.lines.Line.TheVariants.{Closing}
 use Rattle.refutation_terms.specs.declared.lines.Leaf.TheVariants.{Blocks}
 use Rattle.refutation_terms.specs.BlocksLeaf.{IsFirstBlocks, NoBlocksHold}
+use Rattle.refutation_terms.specs.Word.{Domains}
+use Rattle.refutation_terms.specs.Tree.{opening}
 use Rattle.refutation_terms.specs.Log.{Log, Passes, IsSpent, NamesOnlyCited, size}
-use Rattle.refutation_terms.specs.Sharp.{IsSharp, IsUnclosed}
+use Rattle.refutation_terms.specs.Sharp.{SomeWindowHolds, SomeDayHolds, IsSharp, IsUnclosed}
 use Rattle.refutation_log.specs.declared.found.Found.{Found}
 use Rattle.refutation_log.specs.declared.found.Found.TheVariants.{Roster, NoRoster, Undecided}
 
@@ -34,11 +36,22 @@ IsBlocksTree P g = (x : Symbol) × IsFirstBlocks P x × (g.lines ≡ Closing (Bl
 abbrev pub IsUnclosedAtTop : Log → Type 0
 IsUnclosedAtTop g = (line : Line) × (slice_get g.lines 0 ≡ Some line) × IsUnclosed line
 
--- a log of a search that counts may count exactly where its tree is such a leaf, and its first line is a split, or
--- unfinished, only where no leaf of blocks holds; a log of one that doesn't count may not count
+-- no window leaf and no day leaf of the problem holds
+abbrev pub NoPlainLeafHolds : Instance → Domains → Type 0
+NoPlainLeafHolds P D = (SomeWindowHolds P D → ⊥) × (SomeDayHolds P D → ⊥)
+
+-- a log of a search that counts may count exactly where its tree is such a leaf, which comes behind each window leaf and
+-- each day leaf: none holds before the first line. And its first line is a split, or unfinished, only where no leaf of
+-- blocks holds
+pub record IsCountingLog (P : Instance) (g : Log) : Type 0 where
+  pub may_count : IsTrue g.counts ↔ IsBlocksTree P g
+  pub no_plain : IsBlocksTree P g → NoPlainLeafHolds P (opening P g.opening)
+  pub no_blocks : IsUnclosedAtTop g → NoBlocksHold P
+
+-- a log of a search that doesn't count may not count
 abbrev pub IsCountedLog : Instance → Bool → Log → Type 0
 IsCountedLog P false g = g.counts ≡ false
-IsCountedLog P true g = (IsTrue g.counts ↔ IsBlocksTree P g) × (IsUnclosedAtTop g → NoBlocksHold P)
+IsCountedLog P true g = IsCountingLog P g
 
 -- the log that a plan finds, which counts or not, is such a one
 abbrev pub IsCounted : Instance → Bool → Found → Type 0
