@@ -1,16 +1,16 @@
 -- What a search size by size gives, put together.
-use Rattle.std.proofs.Common.{◌≡◌, ℕ, ◌+◌, ◌*◌, ◌≤◌, List, [], ◌∷◌, ◌++◌, length, Some, ap, sym, ◌∙◌, subst, arith, ⊎_elim, length-append}
+use Rattle.std.proofs.Common.{◌≡◌, ℕ, ◌+◌, ◌*◌, ◌≤◌, List, [], ◌∷◌, ◌++◌, length, Bool, Some, ap, sym, ◌∙◌, subst, arith, ⊎_elim, length-append}
 use Rattle.std.specs.Prelude.{slice_get}
 use Rattle.std.proofs.Math.Nat.{mul-le-mul_right}
 use Rattle.std.proofs.lemmas.Option.{slice_get_within}
 use Rattle.rwsp_terms.specs.Instance.{Instance}
 use Rattle.refutation_terms.specs.Log.{Log}
 use Rattle.refutation_log.specs.declared.found.Found.TheVariants as Founds
-use Rattle.refutation_log.specs.Planned.{IsPlanned}
+use Rattle.refutation_log.specs.Planned.{IsPlanned, IsCountedLog}
 use Rattle.crew_size.specs.Sizes.{with_weeks, IsSize}
 use Rattle.crew_size.specs.Texts.{Staff, next_size}
 use Rattle.crew_size.specs.Fitting.{EndFits, FitsSizes}
-use Rattle.crew_size.specs.Runs.{IsEnd, IsStaffed}
+use Rattle.crew_size.specs.Runs.{IsEnd, IsStaffed, IsEndCounted, IsStaffCounted}
 use Rattle.crew_size.specs.declared.run.StaffEnd.{StaffEnd}
 use Rattle.crew_size.specs.declared.run.StaffEnd.TheVariants.{Least, NoneTo, Undecided}
 use Rattle.crew_size.proofs.Fronts.{pushed_at}
@@ -21,20 +21,34 @@ size_below P m high some le size =
     let less : m * P.days ≤ high * P.days = mul-le-mul_right P.days le in
     record { some = some; few = omega (arith, le, size.few); few_cells = omega (arith, less, size.few_cells) }
 
--- each log is that of a plan for its size
+-- this is said of each log, for its size
+abbrev pub AreFor : (ℕ → Log → Type 0) → ℕ → List Log → Type 0
+AreFor Said low logs = (k : ℕ) (g : Log) → slice_get logs k ≡ Some g → Said (low + k) g
+
+-- it is that of a plan for its size
+abbrev pub IsRefuted : Instance → ℕ → ℕ → Log → Type 0
+IsRefuted P budget m g = IsPlanned (with_weeks P m) budget (Founds.NoRoster g)
+
+-- and of one which counts or not
+abbrev pub IsCountedFor : Instance → Bool → ℕ → Log → Type 0
+IsCountedFor P counts m g = IsCountedLog (with_weeks P m) counts g
+
 abbrev pub AreRefuted : Instance → (budget low : ℕ) → List Log → Type 0
-AreRefuted P budget low logs = (k : ℕ) (g : Log) → slice_get logs k ≡ Some g → IsPlanned (with_weeks P (low + k)) budget (Founds.NoRoster g)
+AreRefuted P budget low logs = AreFor (IsRefuted P budget) low logs
 
-pub none_refuted : (P : Instance) (budget low : ℕ) (logs : List Log) → logs ≡ [] → AreRefuted P budget low logs
-none_refuted P budget low logs e = λ k g at. let none : slice_get [] k ≡ Some g = subst (λ (ls : List Log). slice_get ls k ≡ Some g) e at in absurd (cc)
+abbrev pub AreCounted : Instance → Bool → ℕ → List Log → Type 0
+AreCounted P counts low logs = AreFor (IsCountedFor P counts) low logs
 
-pub one_more_refuted : (P : Instance) (budget low m : ℕ) (logs more : List Log) (g : Log) → AreRefuted P budget low logs → low + length logs ≡ m → IsPlanned (with_weeks P m) budget (Founds.NoRoster g) → more ≡ logs ++ g ∷ [] → AreRefuted P budget low more
-one_more_refuted P budget low m logs more g are e planned same =
-    subst (AreRefuted P budget low) (sym same)
+pub none_for : (Said : ℕ → Log → Type 0) (low : ℕ) (logs : List Log) → logs ≡ [] → AreFor Said low logs
+none_for Said low logs e = λ k g at. let none : slice_get [] k ≡ Some g = subst (λ (ls : List Log). slice_get ls k ≡ Some g) e at in absurd (cc)
+
+pub one_more_for : (Said : ℕ → Log → Type 0) (low m : ℕ) (logs more : List Log) (g : Log) → AreFor Said low logs → low + length logs ≡ m → Said m g → more ≡ logs ++ g ∷ [] → AreFor Said low more
+one_more_for Said low m logs more g are e said same =
+    subst (AreFor Said low) (sym same)
     (λ k h at.
     ⊎_elim (λ (a : slice_get logs k ≡ Some h). are k h a)
     (λ (b : (k ≡ length logs) × (g ≡ h)).
-    subst (λ n. IsPlanned (with_weeks P n) budget (Founds.NoRoster h)) (sym e ∙ ap (λ n. low + n) (sym b.0)) (subst (λ (x : Log). IsPlanned (with_weeks P m) budget (Founds.NoRoster x)) b.1 planned))
+    subst (λ n. Said n h) (sym e ∙ ap (λ n. low + n) (sym b.0)) (subst (λ (x : Log). Said m x) b.1 said))
     (pushed_at logs g h k at))
 
 pub size_of_more : (low m : ℕ) (logs more : List Log) (g : Log) → low + length logs ≡ m → more ≡ logs ++ g ∷ [] → low + length more ≡ m + 1
@@ -47,6 +61,14 @@ is_staffed P low high budget m logs end run a b c are e h =
       first = a;
       refuted = subst (AreRefuted P budget low) (sym b) are;
       end = subst (λ n. IsEnd P high budget n run.end) (sym size) (subst (IsEnd P high budget m) (sym c) h);
+    }
+
+pub is_counted : (P : Instance) (counts : Bool) (low m : ℕ) (logs : List Log) (end : StaffEnd) (run : Staff) → run.low ≡ low → run.logs ≡ logs → run.end ≡ end → AreCounted P counts low logs → low + length logs ≡ m → IsEndCounted P counts m end → IsStaffCounted P counts run
+is_counted P counts low m logs end run a b c are e h =
+    let size : next_size run ≡ m = ap (λ n. n + length run.logs) a ∙ ap (λ (ls : List Log). low + length ls) b ∙ e in
+    record {
+      logs = subst (λ n. AreCounted P counts n run.logs) (sym a) (subst (AreCounted P counts low) (sym b) are);
+      end = subst (λ n. IsEndCounted P counts n run.end) (sym size) (subst (IsEndCounted P counts m) (sym c) h);
     }
 
 -- what a search gives fits its sizes

@@ -1,5 +1,5 @@
 -- A split that is as the reasons of cases say is one of a sharp log.
-use Rattle.std.proofs.Common.{ℕ, ◌*◌, ◌<◌, ◌≤◌, List, refl, ap, sym, ◌∙◌, arith, inl, inr, ◌&&◌, None}
+use Rattle.std.proofs.Common.{ℕ, ◌*◌, ◌<◌, ◌≤◌, List, refl, ap, sym, ◌∙◌, arith, inl, inr, ◌&&◌, false, None}
 use Rattle.std.specs.Prelude.{◌⊎◌}
 use Rattle.rwsp_terms.specs.declared.limits.TheConstants.{MOST_CELLS}
 use Rattle.rwsp_terms.specs.declared.data.Symbol.{Symbol}
@@ -34,26 +34,26 @@ Spent = Store → ℕ → Symbol → Type 0
 no_window : (P : Instance) (leaves : Leaves) (spent : Spent) (S : Store) (D : Domains) → 0 < cells P → AreCaseReasons P leaves spent → AreSame P D (has_domain S) → (Closes P (leaves S) S → ⊥) → SomeWindowHolds P D → ⊥
 no_window P leaves spent S D some reasons same undecided h =
     let line = Closing (Window h.0 h.1 h.2) in
-    undecided (line, reasons.plain.windows S h.0 h.1 h.2 h.3, same_holds P None D (has_domain S) line some tt h.3 same h.4)
+    undecided (line, reasons.plain.windows S h.0 h.1 h.2 h.3, same_holds P None false D (has_domain S) line some tt h.3 same h.4)
 
 no_day : (P : Instance) (leaves : Leaves) (spent : Spent) (S : Store) (D : Domains) → 0 < cells P → AreCaseReasons P leaves spent → AreSame P D (has_domain S) → (Closes P (leaves S) S → ⊥) → SomeDayHolds P D → ⊥
 no_day P leaves spent S D some reasons same undecided h =
     let line = Closing (Day h.0 h.1 h.2) in
-    undecided (line, reasons.plain.days S h.0 h.1 h.2 h.3, same_holds P None D (has_domain S) line some tt h.3 same h.4)
+    undecided (line, reasons.plain.days S h.0 h.1 h.2 h.3, same_holds P None false D (has_domain S) line some tt h.3 same h.4)
 
 not_dead : (P : Instance) (leaves : Leaves) (spent : Spent) (S : Store) (D : Domains) (R : List ℕ) → KeepsLimits P → AreShortRules P R → AreCaseReasons P leaves spent → AreSame P D (has_domain S) → (Closes P (leaves S) S → ⊥) → IsDead P D 0 (2 * cells P) R → ⊥
 not_dead P leaves spent S D R limits short reasons same undecided dead =
     let some : 0 < cells P = some_cells P limits in
     let few : cells P ≤ MOST_CELLS = limits.few_cells in
     let line = Closing (Words 0 R (Dead (2 * cells P))) in
-    let fits : LineFits P None line = (some, (omega (arith, some), omega (arith, few)), short.are_rules) in
-    undecided (line, reasons.cycle S line (refl, refl, short), same_holds P None D (has_domain S) line some tt fits same dead)
+    let fits : LineFits P None false line = (some, (omega (arith, some), omega (arith, few)), short.are_rules) in
+    undecided (line, reasons.cycle S line (refl, refl, short), same_holds P None false D (has_domain S) line some tt fits same dead)
 
 -- what a day leaf takes away rests on the domains of the positions alone
 same_day_spent : (P : Instance) (D E : Domains) (p : ℕ) (x : Symbol) → 0 < cells P → AreSame P D E → SomeDayHolds P (narrowed D (Split p x) First) → SomeDayHolds P (narrowed E (Split p x) First)
 same_day_spent P D E p x some same day =
     let cut : AreSame P (narrowed D (Split p x) First) (narrowed E (Split p x) First) = λ q z inside. ap (λ b. b && line_leaves (Split p x) First q z) (same q z inside) in
-    (day.0, day.1, day.2, day.3, same_holds P None (narrowed D (Split p x) First) (narrowed E (Split p x) First) (Closing (Day day.0 day.1 day.2)) some tt day.3 cut day.4)
+    (day.0, day.1, day.2, day.3, same_holds P None false (narrowed D (Split p x) First) (narrowed E (Split p x) First) (Closing (Day day.0 day.1 day.2)) some tt day.3 cut day.4)
 
 -- which list of all short rules is taken makes no difference
 pub clean_by_other_list : (P : Instance) (R S : List ℕ) (u : List Symbol) → NamesShortRules P R → NamesShortRules P S → Clean P S u → Clean P R u

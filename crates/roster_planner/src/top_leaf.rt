@@ -76,11 +76,11 @@ fn log_of_top(alloc: Global, automaton: &Automaton, goal: u32) -> Result<Log, Al
         goal: Some(goal),
         counts: false,
     };
-    one_leaf_log(alloc, problem, Opening::Full, terms, top_leaf(alloc, rules))
+    one_leaf_log(alloc, problem, Opening::Full, terms, light_leaf(alloc, rules))
 }
 
 // The leaf by these rules.
-fn top_leaf(alloc: Global, rules: RuleList) -> Leaf
+fn light_leaf(alloc: Global, rules: RuleList) -> Leaf
     ensures { result ≡ Leaf.Words 0 rules (WordClaim.Light 1 1 []) }
 {
     Leaf::Words {

@@ -1,5 +1,5 @@
 -- The three as one, for the automaton's problem.
-use Rattle.std.proofs.Common.{◌≡◌, sym, subst, inl, inr, None}
+use Rattle.std.proofs.Common.{◌≡◌, sym, subst, inl, inr, false, None}
 use Rattle.rwsp_terms.specs.Instance.{Instance}
 use Rattle.refutation_terms.specs.declared.lines.Line.TheVariants.{Closing}
 use Rattle.refutation_terms.specs.declared.lines.Leaf.TheVariants.{Window, Day}
@@ -22,8 +22,8 @@ returns-clause-reasons c =
       rules = c.args.automaton.now.rules;
       short = c.requires.short;
       plain = record {
-        windows = λ S number p len fits. (c.new-2.ensures.leaves S (Closing (Window number p len))).1 (inl (plain.windows S number p len (subst (λ (P : Instance). LineFits P None (Closing (Window number p len))) (sym same) fits)));
-        days = λ S j x over fits. (c.new-2.ensures.leaves S (Closing (Day j x over))).1 (inl (plain.days S j x over (subst (λ (P : Instance). LineFits P None (Closing (Day j x over))) (sym same) fits)));
+        windows = λ S number p len fits. (c.new-2.ensures.leaves S (Closing (Window number p len))).1 (inl (plain.windows S number p len (subst (λ (P : Instance). LineFits P None false (Closing (Window number p len))) (sym same) fits)));
+        days = λ S j x over fits. (c.new-2.ensures.leaves S (Closing (Day j x over))).1 (inl (plain.days S j x over (subst (λ (P : Instance). LineFits P None false (Closing (Day j x over))) (sym same) fits)));
       };
       cycle = λ S line is. (c.new-2.ensures.leaves S line).1 (inr ((c.in_ok-cycle.ensures.leaves S line).1 is));
       taken = λ S p x. (
