@@ -1,6 +1,6 @@
 -- What is found where blocks are counted.
-use Rattle.std.proofs.Common.{◌≡◌, ℕ, ◌<◌, [], ◌∷◌, true, false, None, refl, sym, ◌∙◌, subst}
-use Rattle.std.specs.Prelude.{IsTrue, Result, Ok, Err, IfOk}
+use Rattle.std.proofs.Common.{◌≡◌, ℕ, ◌<◌, [], ◌∷◌, true, false, Option, Some, None, refl, sym, ◌∙◌, subst}
+use Rattle.std.specs.Prelude.{IsTrue, MatchOption, Result, Ok, Err, IfOk}
 use Rattle.std.specs.declared.alloc.AllocError.{AllocError}
 use Rattle.rwsp_terms.specs.declared.data.Symbol.{Symbol}
 use Rattle.rwsp_terms.specs.Instance.{Instance, cells}
@@ -12,7 +12,8 @@ use Rattle.refutation_terms.specs.declared.lines.Opening.{Opening}
 use Rattle.refutation_terms.specs.Word.{Domains, AreSame}
 use Rattle.refutation_terms.specs.BlocksLeaf.{IsFirstBlocks, NoBlocksHold}
 use Rattle.refutation_terms.specs.Tree.{opening}
-use Rattle.refutation_terms.specs.Log.{Log}
+use Rattle.refutation_terms.specs.Log.{Log, Passes, NamesOnlyCited, GoalFits, IsAllowed}
+use Rattle.refutation_terms.specs.Leaves.{LeafFits}
 use Rattle.refutation_terms.proofs.SameDomains.{turned_round, same_holds}
 use Rattle.domain_store.specs.Store.{Store, has_domain}
 use Rattle.domain_store.specs.Looks.{Closes, HasPlainLeaves, IsLook}
@@ -24,8 +25,11 @@ use Rattle.refutation_log.specs.declared.best_found.BestFound.{BestFound}
 use Rattle.refutation_log.specs.declared.best_found.BestFound.TheVariants as Bests
 use Rattle.refutation_log.specs.Planned.{IsBlocksTree, NoPlainLeafHolds, IsCountingLog, IsCountedLog, IsCounted}
 use Rattle.refutation_log.specs.Bests.{IsBestCounted}
+use Rattle.refutation_log.specs.OneLeaf.{ClosesAll}
+use Rattle.roster_search.proofs.Reaching.{unweighed_leaf}
+use Rattle.roster_search.specs.Founds.{IsFound}
 use Rattle.roster_planner.specs.CaseReasons.{WeighNoWords}
-use Rattle.roster_planner.specs.Counted.{IsPlainLeaf, IsPlainLook}
+use Rattle.roster_planner.specs.Counted.{IsCountedProof, IsPlainLeaf, IsPlainLook}
 use Rattle.roster_planner.proofs.OneLeaves.{closed_at_top}
 
 -- a look at windows and days
@@ -36,25 +40,34 @@ no_plain P leaves S plain quiet = (
   λ h. quiet (Closing (Day h.0 h.1 h.2), plain.days S h.0 h.1 h.2 h.3, h.4),
 )
 
-pub plain_look : (P : Instance) (leaves : Store → Line → Type 0) (spent : ℕ → Symbol → Type 0) (S : Store) (look : Look) → HasPlainLeaves P leaves → WeighNoWords leaves → IsLook P (leaves S) spent S look → IsPlainLook P S look
+plain_look : (P : Instance) (leaves : Store → Line → Type 0) (spent : ℕ → Symbol → Type 0) (S : Store) (look : Look) → HasPlainLeaves P leaves → WeighNoWords leaves → IsLook P (leaves S) spent S look → IsPlainLook P S look
 plain_look P leaves spent S Quiet plain light h = no_plain P leaves S plain h.0
 plain_look P leaves spent S (Closed line) plain light h = (h.1, light S line h.0)
 plain_look P leaves spent S (Cut p x line) plain light h = no_plain P leaves S plain h.0
 
+-- what is said of each problem that is served is said of this one
+pub if_plain_look : (P : Instance) (serves : Instance → Type 0) (leaves : Store → Line → Type 0) (spent : Store → ℕ → Symbol → Type 0) (S : Store) (r : Result Look AllocError) → HasPlainLeaves P leaves → WeighNoWords leaves → serves P → IfOk r (λ look. (Q : Instance) → serves Q → IsLook Q (leaves S) (spent S) S look) → IfOk r (IsPlainLook P S)
+if_plain_look P serves leaves spent S (Ok look) plain light served h = plain_look P leaves (spent S) S look plain light (h P served)
+if_plain_look P serves leaves spent S (Err e) plain light served h = tt
+
 -- under equal domains the same leaves hold
-pub same_plain : (P : Instance) (D E : Domains) (leaf : Leaf) → 0 < cells P → AreSame P D E → IsPlainLeaf P D leaf → IsPlainLeaf P E leaf
+same_plain : (P : Instance) (D E : Domains) (leaf : Leaf) → 0 < cells P → AreSame P D E → IsPlainLeaf P D leaf → IsPlainLeaf P E leaf
 same_plain P D E leaf some same h = (
   record { leaf = h.0.leaf; fits = h.0.fits; short = h.0.short; holds = same_holds P None false D E (Closing leaf) some tt h.0.fits same h.0.holds },
   h.1,
 )
 
-pub same_no_plain : (P : Instance) (D E : Domains) → 0 < cells P → AreSame P D E → NoPlainLeafHolds P D → NoPlainLeafHolds P E
+same_no_plain : (P : Instance) (D E : Domains) → 0 < cells P → AreSame P D E → NoPlainLeafHolds P D → NoPlainLeafHolds P E
 same_no_plain P D E some same none =
     let back = turned_round P D E same in
     (
       λ h. none.0 (h.0, h.1, h.2, h.3, same_holds P None false E D (Closing (Window h.0 h.1 h.2)) some tt h.3 back h.4),
       λ h. none.1 (h.0, h.1, h.2, h.3, same_holds P None false E D (Closing (Day h.0 h.1 h.2)) some tt h.3 back h.4),
     )
+
+pub leaf_at_start : (P : Instance) (S : Store) (o : Opening) (found : Option Leaf) → 0 < cells P → AreSame P (has_domain S) (opening P o) → MatchOption found (NoPlainLeafHolds P (has_domain S)) (IsPlainLeaf P (has_domain S)) → MatchOption found (NoPlainLeafHolds P (opening P o)) (IsPlainLeaf P (opening P o))
+leaf_at_start P S o None some same h = same_no_plain P (has_domain S) (opening P o) some same h
+leaf_at_start P S o (Some leaf) some same h = same_plain P (has_domain S) (opening P o) leaf some same h
 
 -- logs
 
@@ -80,6 +93,52 @@ blocks_count P o x g opened counts lines first none = record {
   no_plain = λ h. subst (λ t. NoPlainLeafHolds P (opening P t)) (sym opened) none;
   no_blocks = λ h. absurd (closed_at_top g (Blocks x, lines) h);
 }
+
+-- such a leaf fits every log, and closes all cases where it holds before the first line
+pub plain_fits : (P : Instance) (o : Opening) (goal : Option ℕ) (leaf : Leaf) → IsPlainLeaf P (opening P o) leaf → LeafFits P goal false leaf
+plain_fits P o goal leaf h = (unweighed_leaf P goal (opening P o) (Closing leaf) h.0 h.1).fits
+
+pub plain_closes : (P : Instance) (o : Opening) (goal : Option ℕ) (leaf : Leaf) → GoalFits P o goal → IsAllowed P o → IsPlainLeaf P (opening P o) leaf → ClosesAll P o goal leaf
+plain_closes P o goal leaf fits allowed h =
+    let any = unweighed_leaf P goal (opening P o) (Closing leaf) h.0 h.1 in
+    record { goal_fits = fits; allowed = allowed; short = any.short; holds = any.holds }
+
+-- so does the first leaf of blocks
+pub blocks_close : (P : Instance) (o : Opening) (goal : Option ℕ) (x : Symbol) → GoalFits P o goal → IsAllowed P o → IsFirstBlocks P x → ClosesAll P o goal (Blocks x)
+blocks_close P o goal x fits allowed first = record { goal_fits = fits; allowed = allowed; short = tt; holds = first.holds }
+
+-- the logs that are made of them
+pub plain_proof : (P : Instance) (o : Opening) (goal : Option ℕ) (leaf : Leaf) (r : Result Log AllocError) → IsPlainLeaf P (opening P o) leaf → IfOk r (λ g. g.opening ≡ o) → IfOk r (λ g. g.goal ≡ goal) → IfOk r (λ g. g.counts ≡ false) → IfOk r (λ g. g.lines ≡ Closing leaf ∷ []) → IfOk r (NamesOnlyCited P) → IfOk r (Passes P) → IfOk r (IsCountedProof P o goal)
+plain_proof P o goal leaf (Ok g) plain opened same none lines cited passes = record {
+  passes = passes;
+  same_opening = opened;
+  same_goal = same;
+  cited = cited;
+  one_leaf = (leaf, lines);
+  counted = plain_counts P (opening P o) leaf g none lines plain;
+}
+plain_proof P o goal leaf (Err e) plain opened same none lines cited passes = tt
+
+pub blocks_proof : (P : Instance) (o : Opening) (goal : Option ℕ) (x : Symbol) (r : Result Log AllocError) → IsFirstBlocks P x → NoPlainLeafHolds P (opening P o) → IfOk r (λ g. g.opening ≡ o) → IfOk r (λ g. g.goal ≡ goal) → IfOk r (λ g. g.counts ≡ true) → IfOk r (λ g. g.lines ≡ Closing (Blocks x) ∷ []) → IfOk r (NamesOnlyCited P) → IfOk r (Passes P) → IfOk r (IsCountedProof P o goal)
+blocks_proof P o goal x (Ok g) first none opened same counts lines cited passes = record {
+  passes = passes;
+  same_opening = opened;
+  same_goal = same;
+  cited = cited;
+  one_leaf = (Blocks x, lines);
+  counted = blocks_count P o x g opened counts lines first none;
+}
+blocks_proof P o goal x (Err e) first none opened same counts lines cited passes = tt
+
+-- the logs of a search may not count
+uncounted : (P : Instance) (start : Opening) (goal : Option ℕ) (budget : ℕ) (leaves : Store → Line → Type 0) (spent : Store → ℕ → Symbol → Type 0) (found : Found) → IsFound P start goal budget leaves spent found → IsCounted P false found
+uncounted P start goal budget leaves spent (Roster s) h = tt
+uncounted P start goal budget leaves spent (NoRoster g) h = h.2.is_log.no_blocks
+uncounted P start goal budget leaves spent (Undecided g) h = h.1.is_log.no_blocks
+
+pub if_uncounted : (P : Instance) (start : Opening) (goal : Option ℕ) (budget : ℕ) (leaves : Store → Line → Type 0) (spent : Store → ℕ → Symbol → Type 0) (r : Result Found AllocError) → IfOk r (IsFound P start goal budget leaves spent) → IfOk r (IsCounted P false)
+if_uncounted P start goal budget leaves spent (Ok found) h = uncounted P start goal budget leaves spent found h
+if_uncounted P start goal budget leaves spent (Err e) h = tt
 
 -- where no leaf of blocks holds, a log that may not count is as one of a plan that counts
 pub search_counts : (P : Instance) (g : Log) → NoBlocksHold P → IsCountedLog P false g → IsCountedLog P true g

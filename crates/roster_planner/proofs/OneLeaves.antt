@@ -1,14 +1,14 @@
 -- A log whose tree is one leaf is sharp: it splits nowhere, and its first line is closed.
-use Rattle.std.proofs.Common.{◌≡◌, ℕ, zero, suc, ◌≤◌, [], ◌∷◌, sym, subst, arith, Some, None}
-use Rattle.std.specs.Prelude.{slice_get}
+use Rattle.std.proofs.Common.{◌≡◌, ℕ, zero, suc, ◌≤◌, List, [], ◌∷◌, sym, subst, arith, Some, None}
+use Rattle.std.specs.Prelude.{slice_get, count_by, Result, Ok, Err, IfOk}
+use Rattle.std.specs.declared.alloc.AllocError.{AllocError}
 use Rattle.rwsp_terms.specs.declared.data.Symbol.{Symbol}
 use Rattle.rwsp_terms.specs.Instance.{Instance}
 use Rattle.refutation_terms.specs.declared.lines.Line.{Line}
 use Rattle.refutation_terms.specs.declared.lines.Line.TheVariants.{Split, Closing}
 use Rattle.refutation_terms.specs.declared.lines.Leaf.{Leaf}
 use Rattle.refutation_terms.specs.declared.lines.Opening.{Opening}
-use Rattle.refutation_terms.specs.Tree.{IsLeaf}
-use Rattle.refutation_terms.specs.Log.{Log, Passes, NamesOnlyCited, size}
+use Rattle.refutation_terms.specs.Log.{Log, Passes, NamesOnlyCited, is_worked, size}
 use Rattle.refutation_terms.specs.Sharp.{IsFirstTurn, IsSharp, IsUnclosed}
 use Rattle.refutation_log.specs.declared.found.Found.TheVariants.{NoRoster}
 use Rattle.refutation_log.specs.Planned.{IsPlanned, IsUnclosedAtTop}
@@ -17,27 +17,21 @@ use Rattle.refutation_log.specs.Bests.{IsFreeProof}
 use Rattle.roster_planner.specs.Counted.{IsOneLeaf, IsCountedProof}
 use Rattle.roster_planner.proofs.ShortLists.{some_short_rules}
 
--- each line of such a list is a leaf
-only_leaf : (leaf : Leaf) (k : ℕ) (line : Line) → slice_get (Closing leaf ∷ []) k ≡ Some line → IsLeaf line
-only_leaf leaf zero line at = subst IsLeaf (cc at) tt
-only_leaf leaf (suc k) line at = absurd (cc at)
+only_line : (leaf : Leaf) (k : ℕ) (line : Line) → slice_get (Closing leaf ∷ []) k ≡ Some line → Closing leaf ≡ line
+only_line leaf zero line at = cc at
+only_line leaf (suc k) line at = absurd (cc at)
 
-line_is_leaf : (g : Log) → IsOneLeaf g → (k : ℕ) (line : Line) → slice_get g.lines k ≡ Some line → IsLeaf line
-line_is_leaf g one k line at = only_leaf one.0 k line (rw one.1 at at)
-
--- and no leaf is a split, or unfinished
-closed : (line : Line) → IsLeaf line → IsUnclosed line → ⊥
-closed (Closing leaf) h undecided = undecided
-closed line h undecided = h
+is_the_leaf : (g : Log) (one : IsOneLeaf g) (k : ℕ) (line : Line) → slice_get g.lines k ≡ Some line → Closing one.0 ≡ line
+is_the_leaf g one k line at = only_line one.0 k line (subst (λ (lines : List Line). slice_get lines k ≡ Some line) one.1 at)
 
 pub closed_at_top : (g : Log) → IsOneLeaf g → IsUnclosedAtTop g → ⊥
-closed_at_top g one h = closed h.0 (line_is_leaf g one 0 h.0 h.1) h.2
+closed_at_top g one h = subst IsUnclosed (sym (is_the_leaf g one 0 h.0 h.1)) h.2
 
 no_split : (g : Log) → IsOneLeaf g → (k p : ℕ) (x : Symbol) → slice_get g.lines k ≡ Some (Split p x) → ⊥
-no_split g one k p x at = line_is_leaf g one k (Split p x) at
+no_split g one k p x at = let same = is_the_leaf g one k (Split p x) at in absurd (cc same)
 
 one_line : (g : Log) → IsOneLeaf g → size g ≤ 1
-one_line g one = rw one.1 (omega arith)
+one_line g one = subst (λ (lines : List Line). count_by is_worked lines ≤ 1) (sym one.1) (omega arith)
 
 pub one_is_sharp : (P : Instance) (g : Log) → IsOneLeaf g → IsFirstTurn P g.opening → IsSharp P g
 one_is_sharp P g one first =
@@ -66,6 +60,11 @@ pub one_proof : (P : Instance) (budget goal : ℕ) (g : Log) → 1 ≤ budget �
 one_proof P budget goal g some one passes same cited =
     let few = one_line g one in
     (passes, same, omega (arith, few, some), one_is_free_sharp P goal g one cited)
+
+-- the same of a log that was made of the leaf
+pub if_one_proof : (P : Instance) (budget goal : ℕ) (leaf : Leaf) (r : Result Log AllocError) → 1 ≤ budget → IfOk r (λ g. g.lines ≡ Closing leaf ∷ []) → IfOk r (Passes P) → IfOk r (λ g. g.goal ≡ Some goal) → IfOk r (NamesOnlyCited P) → IfOk r (IsFreeProof P budget goal)
+if_one_proof P budget goal leaf (Ok g) some lines passes same cited = one_proof P budget goal g some (leaf, lines) passes same cited
+if_one_proof P budget goal leaf (Err e) some lines passes same cited = tt
 
 -- and one with the first turn is a plan
 pub one_plan : (P : Instance) (budget : ℕ) (o : Opening) (g : Log) → 1 ≤ budget → IsFirstTurn P o → IsCountedProof P o None g → IsPlanned P budget (NoRoster g)

@@ -1,9 +1,10 @@
--- What the search finds is a plan, by the reasons.
+-- What the search finds is a plan, by the reasons, and its log may not count.
 use Rattle.roster_planner.proofs.Sharpness.{plan_found}
+use Rattle.roster_planner.proofs.Counting.{if_uncounted}
 use Rattle.roster_planner.proofs.planning.plan_cases.Goals as goal
 
-pub returns : goal.returns
-returns g c =
+pub returns-clause-planned : goal.returns-clause-planned
+returns-clause-planned g c =
     let P = c.args.automaton.now.problem in
     let reasons = c.in_ok-reasons.ensures.reasons in
     plan_found
@@ -21,3 +22,6 @@ returns g c =
     reasons
     c.planner_search-found.ensures.found
     c.planner_search-found.ensures.complete
+
+pub returns-clause-counted : goal.returns-clause-counted
+returns-clause-counted g c = if_uncounted c.args.automaton.now.problem _ _ _ _ _ c.planner_search-found.result c.planner_search-found.ensures.found

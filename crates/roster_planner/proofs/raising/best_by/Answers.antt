@@ -18,3 +18,9 @@ returns-in-NoRoster-clause-found c =
     let found : IsFreeProof P c.args.budget c.loop-kept.rising proof = rw c.in-NoRoster.is at c.in_ok-roster.ensures.found in
     let above : IsFreeProof P c.args.budget (goal_above c.loop-kept.kept) proof = subst (λ (g : ℕ). IsFreeProof P c.args.budget g proof) c.loop-kept.invariant.above found in
     c.ended.ensures.found P c.args.budget c.loop-kept.invariant.kept above
+
+pub returns-in-NoRoster-clause-counted : goal.returns-in-NoRoster-clause-counted
+returns-in-NoRoster-clause-counted c = c.ended.ensures.counted c.args.automaton.now.problem (rw c.in-NoRoster.is at c.in_ok-roster.ensures.counted)
+
+pub returns-in-Undecided-clause-counted : goal.returns-in-Undecided-clause-counted
+returns-in-Undecided-clause-counted c = rw c.in-Undecided.is at c.in_ok-roster.ensures.counted

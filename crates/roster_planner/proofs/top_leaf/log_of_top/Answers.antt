@@ -1,28 +1,28 @@
--- The log is that of the one line.
-use Rattle.std.proofs.Common.{◌≡◌, ℕ, ◌∙◌, ap, sym, refl, subst, List, [], ◌∷◌}
-use Rattle.rwsp_terms.specs.declared.data.Weight.{Weight}
-use Rattle.refutation_terms.specs.declared.lines.Line.{Line}
-use Rattle.refutation_terms.specs.declared.lines.Line.TheVariants.{Closing}
-use Rattle.refutation_terms.specs.declared.lines.Leaf.TheVariants.{Words}
-use Rattle.refutation_terms.specs.declared.lines.WordClaim.TheVariants.{Light}
-use Rattle.refutation_terms.specs.Tree.{Leaf, IsTree}
-use Rattle.roster_planner.proofs.TopProofs.{top_line, top_proof_of}
+-- The leaf closes all cases, and its log is a proof.
+use Rattle.std.proofs.Common.{◌≡◌, List, ℕ, false, Some, refl, ap, sym, ◌∙◌, ◌≤◌, subst, arith}
+use Rattle.refutation_terms.specs.declared.lines.Leaf.{Leaf}
+use Rattle.refutation_terms.specs.declared.lines.Opening.TheVariants.{Full}
+use Rattle.refutation_terms.specs.Leaves.{LeafFits}
+use Rattle.refutation_log.specs.OneLeaf.{ClosesAll}
+use Rattle.roster_planner.proofs.OneLeaves.{if_one_proof}
+use Rattle.roster_planner.proofs.TopProofs.{top_leaf, leaf_fits, top_closes}
 use Rattle.roster_planner.proofs.top_leaf.log_of_top.Goals as goal
 
--- a line without weights by this list of rules is that by the other, where they are the same
-one_line : (lines : List Line) (R S : List ℕ) (y : List Weight) → lines ≡ (Closing (Words 0 S (Light 1 1 y)) ∷ []) → y ≡ [] → S ≡ R → lines ≡ (top_line R ∷ [])
-one_line lines R S y is none same = is ∙ ap (λ (z : List Weight). Closing (Words 0 S (Light 1 1 z)) ∷ []) none ∙ ap (λ (r : List ℕ). top_line r ∷ []) same
-
-pub new-requires-clause-tree : goal.new-requires-clause-tree
-new-requires-clause-tree c =
+pub one_leaf_log-requires-clause-leaf : goal.one_leaf_log-requires-clause-leaf
+one_leaf_log-requires-clause-leaf c =
+    let P = c.args.automaton.now.problem in
     let R = c.args.automaton.now.rules in
-    let one = one_line c.in_ok-lines.lines.items R c.in_ok-rules.rules c.new-weights.result c.in_ok-lines.ensures.items c.new-weights.ensures (c.in_ok-rules.ensures ∙ c.rules-2.ensures) in
-    subst IsTree (sym one) (Leaf (top_line R) tt, refl)
+    let limits = rw c.problem-problem.ensures at c.prove_limits.ensures in
+    let is : c.light_leaf.result ≡ top_leaf R = c.light_leaf.ensures ∙ ap top_leaf (c.in_ok-rules.ensures ∙ c.rules.ensures) in
+    rw c.problem-problem.ensures (subst (LeafFits P (Some c.args.goal) false) (sym is) (leaf_fits P c.args.goal R limits c.requires.short.are_rules))
 
-pub returns : goal.returns
-returns c =
+pub returns-clause-proof : goal.returns-clause-proof
+returns-clause-proof c =
+    let P = c.args.automaton.now.problem in
     let R = c.args.automaton.now.rules in
-    let one = one_line c.in_ok-lines.lines.items R c.in_ok-rules.rules c.new-weights.result c.in_ok-lines.ensures.items c.new-weights.ensures (c.in_ok-rules.ensures ∙ c.rules-2.ensures) in
-    let limits = rw c.problem.ensures at c.prove_limits.ensures in
-    let same = c.new.ensures in
-    top_proof_of c.args.automaton.now.problem c.args.goal R c.new.result limits (refl, c.requires.week, c.requires.goal) c.requires.short.are_rules c.requires.short.all_short c.requires.holds (same.named ∙ c.in_ok-named.ensures ∙ c.rules.ensures) same.opening same.goal (same.lines ∙ one)
+    let limits = rw c.problem-problem.ensures at c.prove_limits.ensures in
+    let is : c.light_leaf.result ≡ top_leaf R = c.light_leaf.ensures ∙ ap top_leaf (c.in_ok-rules.ensures ∙ c.rules.ensures) in
+    let closes : ClosesAll P Full (Some c.args.goal) c.light_leaf.result = subst (ClosesAll P Full (Some c.args.goal)) (sym is)
+        (top_closes P c.args.goal R limits (refl, c.requires.week, c.requires.goal) c.requires.short.are_rules c.requires.short.all_short c.requires.holds) in
+    let made = c.one_leaf_log.ensures in
+    if_one_proof P 1 c.args.goal c.light_leaf.result c.one_leaf_log.result (omega arith) made.lines (rw c.problem-problem.ensures at made.passes (rw c.problem-problem.ensures closes)) made.goal (rw c.problem-problem.ensures at made.cited)
