@@ -9,3 +9,4 @@ pub mod Written
 pub mod EventLines
 pub mod OneEvents
 pub mod ReadBack
+pub mod EventsRead

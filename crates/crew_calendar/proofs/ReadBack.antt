@@ -52,24 +52,46 @@ unfold-fold : (bytes : List ℕ) → unfolded_from 0 (13 ∷ 10 ∷ 32 ∷ bytes
 unfolding unfolded_from
 unfold-fold bytes = refl
 
-unfold-end : unfolded_from 0 (13 ∷ 10 ∷ []) ≡ 13 ∷ 10 ∷ []
+-- the bytes begin with a blank
+abbrev pub begins_blank : List ℕ → Bool
+begins_blank [] = false
+begins_blank (b ∷ bytes) = b == 32
+
+no_blank_by : (b : ℕ) (bytes : List ℕ) (fold : Bool) → bytes_eq (13 ∷ 10 ∷ b ∷ bytes) (13 ∷ 10 ∷ 32 ∷ []) ≡ fold → (b == 32) ≡ false → fold ≡ false
+no_blank_by b bytes true e other =
+    let same = (bytes_eq-Decides (13 ∷ 10 ∷ b ∷ bytes) (13 ∷ 10 ∷ 32 ∷ [])).0 e in
+    let is : b ≡ 32 = cc in
+    let yes : (b == 32) ≡ true = ap (λ z. z == 32) is in
+    absurd (cc)
+no_blank_by b bytes false e other = refl
+
+-- before what begins with no blank an end of a line stays
+unfold-end : (rest : List ℕ) → begins_blank rest ≡ false → unfolded_from 0 (13 ∷ 10 ∷ rest) ≡ 13 ∷ 10 ∷ unfolded_from 0 rest
 unfolding unfolded_from
-unfold-end = refl
+unfold-end [] other = refl
+unfold-end (b ∷ rest) other =
+    ap (λ r. cond r (unfolded_from 2 (10 ∷ b ∷ rest)) (13 ∷ unfolded_from 0 (10 ∷ b ∷ rest))) (no_blank_by b [] (begins_with_fold (13 ∷ 10 ∷ b ∷ rest)) refl other)
+    ∙ ap (λ t. 13 ∷ t) (unfold-byte 10 (b ∷ rest) (λ e. absurd (omega (arith, e))))
 
-byte_read : (column b : ℕ) (line : List ℕ) (room : Bool) → b ≢ 13 → ((next : ℕ) → unfolded_from 0 (folded_from next line ++ 13 ∷ 10 ∷ []) ≡ line ++ 13 ∷ 10 ∷ []) → unfolded_from 0 (cond room (b ∷ folded_from (column + 1) line) (13 ∷ 10 ∷ 32 ∷ b ∷ folded_from 2 line) ++ 13 ∷ 10 ∷ []) ≡ b ∷ line ++ 13 ∷ 10 ∷ []
-byte_read column b line true apart more = unfold-byte b (folded_from (column + 1) line ++ 13 ∷ 10 ∷ []) apart ∙ ap (λ t. b ∷ t) (more (column + 1))
-byte_read column b line false apart more =
-    unfold-fold (b ∷ folded_from 2 line ++ 13 ∷ 10 ∷ [])
-    ∙ unfold-byte b (folded_from 2 line ++ 13 ∷ 10 ∷ []) apart ∙ ap (λ t. b ∷ t) (more 2)
+byte_read : (column b : ℕ) (line rest : List ℕ) (room : Bool) → b ≢ 13 → ((next : ℕ) → unfolded_from 0 (folded_from next line ++ 13 ∷ 10 ∷ rest) ≡ line ++ 13 ∷ 10 ∷ unfolded_from 0 rest) → unfolded_from 0 (cond room (b ∷ folded_from (column + 1) line) (13 ∷ 10 ∷ 32 ∷ b ∷ folded_from 2 line) ++ 13 ∷ 10 ∷ rest) ≡ b ∷ line ++ 13 ∷ 10 ∷ unfolded_from 0 rest
+byte_read column b line rest true apart more = unfold-byte b (folded_from (column + 1) line ++ 13 ∷ 10 ∷ rest) apart ∙ ap (λ t. b ∷ t) (more (column + 1))
+byte_read column b line rest false apart more =
+    unfold-fold (b ∷ folded_from 2 line ++ 13 ∷ 10 ∷ rest)
+    ∙ unfold-byte b (folded_from 2 line ++ 13 ∷ 10 ∷ rest) apart ∙ ap (λ t. b ∷ t) (more 2)
 
-line_read : (line : List ℕ) → HasNoReturn line → (column : ℕ) → unfolded_from 0 (folded_from column line ++ 13 ∷ 10 ∷ []) ≡ line ++ 13 ∷ 10 ∷ []
-line_read [] none column = ap (λ f. unfolded_from 0 (f ++ 13 ∷ 10 ∷ [])) (fold-nil column) ∙ unfold-end
-line_read (b ∷ line) none column =
-    ap (λ f. unfolded_from 0 (f ++ 13 ∷ 10 ∷ [])) (fold-byte column b line (has_room column b) refl)
-    ∙ byte_read column b line (has_room column b) (none 0 b (omega arith)) (line_read line (λ k d less. none (suc k) d (omega (arith, less))))
+-- a line before what begins with no blank
+pub line_read : (line rest : List ℕ) → HasNoReturn line → begins_blank rest ≡ false → (column : ℕ) → unfolded_from 0 (folded_from column line ++ 13 ∷ 10 ∷ rest) ≡ line ++ 13 ∷ 10 ∷ unfolded_from 0 rest
+line_read [] rest none other column = ap (λ f. unfolded_from 0 (f ++ 13 ∷ 10 ∷ rest)) (fold-nil column) ∙ unfold-end rest other
+line_read (b ∷ line) rest none other column =
+    ap (λ f. unfolded_from 0 (f ++ 13 ∷ 10 ∷ rest)) (fold-byte column b line (has_room column b) refl)
+    ∙ byte_read column b line rest (has_room column b) (none 0 b (omega arith)) (line_read line rest (λ k d less. none (suc k) d (omega (arith, less))) other)
+
+unfold-nil : unfolded_from 0 [] ≡ []
+unfolding unfolded_from
+unfold-nil = refl
 
 pub lines_read : (line : List ℕ) → HasNoReturn line → unfolded (content_line line) ≡ line ++ 13 ∷ 10 ∷ []
-lines_read line none = line_read line none 0
+lines_read line none = line_read line [] none refl 0 ∙ ap (λ t. line ++ 13 ∷ 10 ∷ t) unfold-nil
 
 -- Rows.
 

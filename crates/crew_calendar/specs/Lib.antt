@@ -7,3 +7,4 @@ pub mod OnDate
 pub mod ShownNames
 pub mod ContentLines
 pub mod Events
+pub mod ReadEvents

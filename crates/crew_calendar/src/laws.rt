@@ -2,6 +2,7 @@
 ghost use Rattle.crew_calendar.specs.Facts.{DemandIsMetDaily, EmployeesFollowTheCycle, EmployeesKeepTheRules, EmployeesGoRound};
 ghost use Rattle.crew_calendar.specs.OnDate.{DatesAreAsInTables, DatesHaveOneText};
 ghost use Rattle.crew_calendar.specs.ContentLines.{LinesAreReadBack, TextsAreReadBack, RowsAreShort, CharactersStayWhole};
+ghost use Rattle.crew_calendar.specs.ReadEvents.{EventsAreReadBack, DutiesAreListed};
 ghost use Rattle.crew_calendar.specs.Laws.{TablesAreOne, DutiesAreOne, EventsAreOne, WordsNameOneDate};
 
 /// Where a roster meets all rules, on each day at least as many employees as the least demand and at most as many as
@@ -73,4 +74,14 @@ pub fn rows_are_short()
 /// No row of a line begins within a character.
 pub fn characters_stay_whole()
     ensures { CharactersStayWhole }
+{}
+
+/// The events of a calendar, read back from its whole text, are the employee's duties, with their moments and names.
+pub fn events_are_read_back()
+    ensures { EventsAreReadBack }
+{}
+
+/// The text of an employee's duties is a line for each of them.
+pub fn duties_are_listed()
+    ensures { DutiesAreListed }
 {}

@@ -22,9 +22,9 @@ pub use duty_lines::duties;
 pub use events::{duty_calendar, has_duty};
 pub use laws::{
     characters_stay_whole, dates_are_as_in_tables, dates_have_one_text, demand_is_met_daily,
-    duties_are_one, employees_follow_the_cycle, employees_go_round, employees_keep_the_rules,
-    events_are_one, lines_are_read_back, rows_are_short, tables_are_one, texts_are_read_back,
-    words_name_one_date,
+    duties_are_listed, duties_are_one, employees_follow_the_cycle, employees_go_round,
+    employees_keep_the_rules, events_are_one, events_are_read_back, lines_are_read_back,
+    rows_are_short, tables_are_one, texts_are_read_back, words_name_one_date,
 };
 pub use lines::crew_table;
 pub use on_date::who_works;
