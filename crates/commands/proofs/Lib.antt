@@ -14,3 +14,5 @@ pub mod Calendars
 pub mod Rests
 pub mod Pages
 pub mod RosterAnswers
+pub mod Scanned
+pub mod GivenBack

@@ -7,7 +7,7 @@ use Rattle.roster_print.proofs.Spelling.{one_roster}
 use Rattle.roster_checker.proofs.FirstBroken.{first_broken-not_met, first_broken-same}
 use Rattle.roster_checker.specs.declared.broken.Broken.{Broken}
 use Rattle.crew_size.specs.Sizes.{with_weeks}
-use Rattle.answer_parts.specs.Parts.{Numbered, best_part, staff_part}
+use Rattle.commands.specs.AnswerParts.{Numbered, best_part, staff_part}
 use Rattle.commands.specs.Verify.{fault_line}
 use Rattle.commands.specs.declared.verify.RosterFault.TheVariants as Faults
 use Rattle.commands.specs.Roster.{IsJudged, SaysOf, SpellsNone, SaysOfWeeks, SaysOfStaff, SaysBehindWhole, IsRosterAnswer}
@@ -55,4 +55,4 @@ pub one_taken : (P : Instance) (bytes : List ℕ) (a b : Answer) → IsRosterAns
 one_taken P bytes a b (inl h) (inl k) = one_said P bytes a b h k
 one_taken P bytes a b (inl h) (inr k) = absurd (said_or_none P bytes a h k.0)
 one_taken P bytes a b (inr h) (inl k) = absurd (said_or_none P bytes b k h.0)
-one_taken P bytes a b (inr h) (inr k) = one_behind P bytes (best_part bytes) a b h.1 k.1
+one_taken P bytes a b (inr h) (inr k) = one_behind P bytes (best_part P.weeks bytes) a b h.1 k.1

@@ -11,8 +11,10 @@ pub mod Rest
 pub mod Page
 pub mod Ics
 pub mod On
+pub mod AnswerParts
 pub mod Roster
 pub mod Trial
 pub mod Best
 pub mod Staff
 pub mod CheckStaff
+pub mod RosterLaws

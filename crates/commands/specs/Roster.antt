@@ -9,7 +9,7 @@ use Rattle.roster_print.specs.RosterText.{SpellsRoster, roster_text}
 use Rattle.roster_checker.specs.FirstBroken.{IsFirstBroken}
 use Rattle.roster_checker.specs.declared.broken.Broken.{Broken}
 use Rattle.crew_size.specs.Sizes.{with_weeks, IsSize}
-use Rattle.answer_parts.specs.Parts.{Numbered, best_part, staff_part}
+use Rattle.commands.specs.AnswerParts.{Numbered, best_part, staff_part}
 use Rattle.commands.specs.Lines.{line}
 use Rattle.commands.specs.Verify.{fault_line}
 use Rattle.commands.specs.declared.verify.RosterFault.TheVariants as Faults
@@ -57,7 +57,7 @@ SaysBehindWhole P bytes (Some part) answer =
 -- them
 abbrev pub IsRosterAnswer : Instance → List ℕ → Answer → Type 0
 IsRosterAnswer P bytes answer =
-    SaysOf P bytes answer ⊎ (SpellsNone P bytes × SaysBehindWhole P bytes (best_part bytes) answer)
+    SaysOf P bytes answer ⊎ (SpellsNone P bytes × SaysBehindWhole P bytes (best_part P.weeks bytes) answer)
 
 abbrev pub roster_answer_text : Answer → List ℕ
 roster_answer_text (Shown text) = text

@@ -1,16 +1,23 @@
 // The roster that stands in an answer of `plan`, `best` or `staff`.
 ghost use Rattle.std.specs.Prelude.{◌≡◌, IfOk, MatchOption};
 ghost use Rattle.rwsp_terms.specs.Roster.{IsRoster};
-ghost use Rattle.answer_parts.specs.Parts.{best_part, staff_part};
+ghost use Rattle.commands.specs.AnswerParts.{best_part, staff_part};
 ghost use Rattle.crew_size.specs.Sizes.{with_weeks, IsSize};
 ghost use Rattle.commands.specs.Files.{IsWithinLimit};
 ghost use Rattle.commands.specs.declared.second_file.SecondKind.TheVariants as Kinds;
 ghost use Rattle.commands.specs.Roster.{IsJudged, SaysOf, SpellsNone, SaysOfWeeks, SaysOfStaff, SaysBehindWhole, IsRosterAnswer, roster_answer_text, roster_status};
 
+mod laws;
+mod parts;
+mod scan;
+
 use crate::crew::Calendar;
 use crate::verify::{RosterFault, fault_line};
-use answer_parts::{best_part, staff_part};
 use crew_size::{is_size, with_weeks};
+pub use laws::{
+    bests_are_given_back, plans_are_given_back, staffs_are_given_back, staffs_spell_no_roster,
+};
+use parts::{best_part, staff_part};
 use roster_checker::first_broken;
 use roster_print::{print_roster, read_roster};
 use rwsp_model::{Fail, Problem, Roster};
@@ -30,8 +37,8 @@ pub enum Answer {
 }
 
 /// The answer to the bytes of an answer. First all of them are taken for a roster, as `plan` prints one; then what
-/// stands between the first line and the free log of an answer of `best`; then what is behind the heading of a roster
-/// in one of `staff`. The first that spells a roster is judged.
+/// stands behind the first line of an answer of `best`, a line for each week; then what is behind the heading of a
+/// roster in one of `staff`. The first that spells a roster is judged.
 pub fn job(alloc: Global, problem: &Problem, bytes: &[u8]) -> Result<Answer, AllocError>
     requires { IsWithinLimit Kinds.Log bytes.now }
     ensures { IfOk result (IsRosterAnswer problem.now bytes.now) }
@@ -44,9 +51,9 @@ pub fn job(alloc: Global, problem: &Problem, bytes: &[u8]) -> Result<Answer, All
 
 // The answer where the bytes as a whole spell no roster.
 fn behind_whole(alloc: Global, problem: &Problem, bytes: &[u8]) -> Result<Answer, AllocError>
-    ensures { IfOk result (SaysBehindWhole problem.now bytes.now (best_part bytes.now)) }
+    ensures { IfOk result (SaysBehindWhole problem.now bytes.now (best_part problem.now.weeks bytes.now)) }
 {
-    let Some(part) = best_part(bytes) else {
+    let Some(part) = best_part(problem.weeks(), bytes) else {
         return of_staff(alloc, problem, bytes);
     };
     match of_part(alloc, problem, part)? {

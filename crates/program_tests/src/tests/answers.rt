@@ -17,12 +17,23 @@ const BREAKS: &str =
 
 const NONE: &str = "no roster in the answer\n";
 
-const CASES: [(&str, &str, u8, &str); 9] = [
+// A shift with the name that begins a free log.
+const LOG_AS_NAME: &str =
+    "7\n2\n1\n1 1 1 1 1 1 1\nrwsp-free 0 480 1 7\n1 7\n1 7\n0 0\n";
+
+const LOG_AS_NAME_ROSTER: &str =
+    "- - - - - - -\nrwsp-free rwsp-free rwsp-free rwsp-free rwsp-free rwsp-free rwsp-free\n";
+
+const LOG_AS_NAME_BEST: &str =
+    "free 1\n- - - - - - -\nrwsp-free rwsp-free rwsp-free rwsp-free rwsp-free rwsp-free rwsp-free\nrwsp-free 1\nrules\ngoal 2\nopen\n";
+
+const CASES: [(&str, &str, u8, &str); 10] = [
     (NINE_WEEKS, NINE_WEEKS_ROSTER, 0, NINE_WEEKS_ROSTER),
     (NINE_WEEKS, OF_BEST, 0, NINE_WEEKS_ROSTER),
     (NINE_WEEKS, OF_STAFF, 0, NINE_WEEKS_ROSTER),
     (FIVE_WEEKS, OF_STAFF, 0, NINE_WEEKS_ROSTER),
     (FIVE_WEEKS, OF_BEST, 5, NONE),
+    (LOG_AS_NAME, LOG_AS_NAME_BEST, 0, LOG_AS_NAME_ROSTER),
     (
         NINE_WEEKS,
         BREAKS,

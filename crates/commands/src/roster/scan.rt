@@ -1,6 +1,6 @@
 // Digits at the front of bytes.
 ghost use Rattle.std.specs.Prelude.{◌≡◌, ◌≤◌, length, Some, None, MatchOption};
-ghost use Rattle.answer_parts.specs.Parts.{behind_digits, closed, number_at, behind_word};
+ghost use Rattle.commands.specs.AnswerParts.{behind_digits, closed, number_at, behind_word};
 
 // The bytes behind the digits at the front.
 fn behind_digits(bytes: &[u8]) -> &[u8]

@@ -1,11 +1,11 @@
 -- What is found behind an index.
-use Rattle.std.proofs.Common.{◌≡◌, ℕ, ◌+◌, ◌-◌, ◌<◌, ◌≤◌, ◌==◌, List, [], ◌∷◌, length, drop, get_or, Bool, true, false, cond, refl, ap, sym, ◌∙◌, arith}
+use Rattle.std.proofs.Common.{◌≡◌, ℕ, zero, suc, ◌+◌, ◌-◌, ◌<◌, ◌≤◌, ◌==◌, List, [], ◌∷◌, length, drop, get_or, Bool, true, false, cond, refl, ap, sym, ◌∙◌, arith}
 use Rattle.std.specs.Prelude.{slice_range, Option, Some, None}
 use Rattle.std.specs.Char.{is_ascii_digit}
 use Rattle.std.proofs.Math.Numerals.{add-one}
 use Rattle.std.proofs.Math.Seq.{drop-cons}
 use Rattle.std.proofs.lemmas.List.{drop_all, take_all, length-drop}
-use Rattle.answer_parts.specs.Parts.{Numbered, behind_digits, found_or, heading_here, behind_first_heading, log_here, log_place}
+use Rattle.commands.specs.AnswerParts.{Numbered, behind_digits, found_or, heading_here, behind_first_heading, left_behind, lines_len}
 
 drop-at : (l : List ℕ) (i : ℕ) → i < length l → drop i l ≡ get_or l i 0 ∷ drop (i + 1) l
 drop-at l i less = rw add-one (drop-cons l i 0 less)
@@ -64,33 +64,34 @@ heading_found all start l found i n is less before some =
 pub no_heading : (all : Option Numbered) (start : Bool) (l : List ℕ) (i : ℕ) → length l ≤ i → all ≡ behind_first_heading start (drop i l) → all ≡ None
 no_heading all start l i past before = before ∙ ap (behind_first_heading start) (drop_all i l past) ∙ heading-nil start
 
--- Logs.
+-- Lines.
 
-log-byte : (start : Bool) (b : ℕ) (l : List ℕ) (here : Bool) → log_here start (b ∷ l) ≡ here → log_place start (b ∷ l) ≡ cond here 0 (log_place (b == 10) l + 1)
-unfolding log_place
-log-byte start b l here is = ap (λ h. cond h 0 (log_place (b == 10) l + 1)) is
+lines-nil : (n : ℕ) → lines_len n [] ≡ 0
+unfolding lines_len
+lines-nil n = refl
 
-log-nil : (start : Bool) → log_place start [] ≡ 0
-unfolding log_place
-log-nil start = refl
+lines-none : (l : List ℕ) → lines_len 0 l ≡ 0
+unfolding lines_len
+lines-none [] = refl
+lines-none (b ∷ l) = refl
 
-log-at : (start : Bool) (l : List ℕ) (i n : ℕ) (here : Bool) → n ≡ length l → i < length l → log_here start (slice_range l i n) ≡ here → log_place start (drop i l) ≡ cond here 0 (log_place (get_or l i 0 == 10) (drop (i + 1) l) + 1)
-log-at start l i n here is less e =
-    let same : log_here start (get_or l i 0 ∷ drop (i + 1) l) ≡ here = ap (log_here start) (sym (ap (slice_range l i) is ∙ range-end l i ∙ drop-at l i less)) ∙ e in
-    ap (log_place start) (drop-at l i less) ∙ log-byte start (get_or l i 0) (drop (i + 1) l) here same
+lines-byte : (n b : ℕ) (l : List ℕ) → 0 < n → lines_len n (b ∷ l) ≡ lines_len (left_behind n b) l + 1
+unfolding lines_len
+lines-byte zero b l some = absurd (omega (arith, some))
+lines-byte (suc n) b l some = refl
 
-pub no_log_yet : (all : ℕ) (start next : Bool) (l : List ℕ) (i n : ℕ) → n ≡ length l → i < length l → all ≡ i + log_place start (drop i l) → log_here start (slice_range l i n) ≡ false → next ≡ (get_or l i 0 == 10) → all ≡ i + 1 + log_place next (drop (i + 1) l)
-no_log_yet all start next l i n is less before none then =
-    let here = log-at start l i n false is less none in
-    let same : log_place (get_or l i 0 == 10) (drop (i + 1) l) ≡ log_place next (drop (i + 1) l) = ap (λ s. log_place s (drop (i + 1) l)) (sym then) in
+pub line_more : (all n next : ℕ) (l : List ℕ) (i : ℕ) → i < length l → all ≡ i + lines_len n (drop i l) → 0 < n → next ≡ left_behind n (get_or l i 0) → all ≡ i + 1 + lines_len next (drop (i + 1) l)
+line_more all n next l i less before some then =
+    let here : lines_len n (drop i l) ≡ lines_len (left_behind n (get_or l i 0)) (drop (i + 1) l) + 1 = ap (lines_len n) (drop-at l i less) ∙ lines-byte n (get_or l i 0) (drop (i + 1) l) some in
+    let same : lines_len (left_behind n (get_or l i 0)) (drop (i + 1) l) ≡ lines_len next (drop (i + 1) l) = ap (λ m. lines_len m (drop (i + 1) l)) (sym then) in
     omega (arith, before, here, same)
 
-pub log_found : (all : ℕ) (start : Bool) (l : List ℕ) (i n : ℕ) → n ≡ length l → i < length l → all ≡ i + log_place start (drop i l) → log_here start (slice_range l i n) ≡ true → i ≡ all
-log_found all start l i n is less before some =
-    let here = log-at start l i n true is less some in
-    omega (arith, before, here)
+pub lines_done : (all n : ℕ) (l : List ℕ) (i : ℕ) → n ≡ 0 → all ≡ i + lines_len n (drop i l) → i ≡ all
+lines_done all n l i none before =
+    let end : lines_len n (drop i l) ≡ 0 = ap (λ m. lines_len m (drop i l)) none ∙ lines-none (drop i l) in
+    omega (arith, before, end)
 
-pub no_log : (all : ℕ) (start : Bool) (l : List ℕ) (i : ℕ) → length l ≤ i → i ≤ length l → all ≡ i + log_place start (drop i l) → length l ≡ all
-no_log all start l i past end before =
-    let none : log_place start (drop i l) ≡ 0 = ap (log_place start) (drop_all i l past) ∙ log-nil start in
+pub lines_end : (all n : ℕ) (l : List ℕ) (i : ℕ) → length l ≤ i → i ≤ length l → all ≡ i + lines_len n (drop i l) → length l ≡ all
+lines_end all n l i past end before =
+    let none : lines_len n (drop i l) ≡ 0 = ap (lines_len n) (drop_all i l past) ∙ lines-nil n in
     omega (arith, before, none)

@@ -1,6 +1,6 @@
 use Rattle.std.proofs.Common.{sym, ◌∙◌}
-use Rattle.answer_parts.proofs.Scanned.{digit_more, digits_end, digits_all}
-use Rattle.answer_parts.proofs.scan.behind_digits.Goals as goal
+use Rattle.commands.proofs.Scanned.{digit_more, digits_end, digits_all}
+use Rattle.commands.proofs.roster.scan.behind_digits.Goals as goal
 
 pub loop-i-preserved : goal.loop-i-preserved
 loop-i-preserved c =

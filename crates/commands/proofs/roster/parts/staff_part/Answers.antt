@@ -1,6 +1,6 @@
 use Rattle.std.proofs.Common.{refl}
-use Rattle.answer_parts.proofs.Scanned.{no_heading_yet, heading_found, no_heading}
-use Rattle.answer_parts.proofs.parts.staff_part.Goals as goal
+use Rattle.commands.proofs.Scanned.{no_heading_yet, heading_found, no_heading}
+use Rattle.commands.proofs.roster.parts.staff_part.Goals as goal
 
 pub returns-in-Some : goal.returns-in-Some
 returns-in-Some c =

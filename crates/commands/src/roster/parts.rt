@@ -1,8 +1,8 @@
-// The parts of a text that may be a roster's.
+// The parts of an answer of `best` or `staff` that may be a roster's text.
 ghost use Rattle.std.specs.Prelude.{◌≡◌, ◌≤◌, ◌<◌, length, Some, None, true, MatchOption, IsTrue};
-ghost use Rattle.answer_parts.specs.Parts.{behind_heading, heading_here, behind_first_heading, log_here, log_place, up_to_log, best_part, staff_part};
+ghost use Rattle.commands.specs.AnswerParts.{behind_heading, heading_here, behind_first_heading, left_behind, lines_len, lines_up_to, best_part, staff_part};
 
-use crate::scan::behind_word;
+use super::scan::behind_word;
 
 // What is behind the heading of a roster, where a line begins here with one.
 fn heading_here(start: bool, bytes: &[u8]) -> Option<(&[u8], &[u8])>
@@ -31,32 +31,34 @@ pub fn staff_part(answer: &[u8]) -> Option<(&[u8], &[u8])>
     None
 }
 
-// Whether a free log begins here.
-fn log_here(start: bool, bytes: &[u8]) -> bool
-    ensures { result ≡ log_here start bytes.now }
+// Of so many lines, how many are left behind a byte.
+fn left_behind(lines: u32, byte: u8) -> u32
+    requires { 0 < lines }
+    ensures { result ≡ left_behind lines byte }
 {
-    start && bytes.starts_with(b"rwsp-free ".as_slice())
+    if byte == b'\n' { lines - 1 } else { lines }
 }
 
-// How many bytes there are in front of the first line with which a free log begins.
-fn log_place(bytes: &[u8]) -> usize
-    ensures value { result ≡ log_place true bytes.now }
+// How many bytes the first lines have, as many as there are weeks.
+fn lines_len(weeks: u32, bytes: &[u8]) -> usize
+    ensures value { result ≡ lines_len weeks bytes.now }
     ensures within { result ≤ length bytes.now }
 {
-    let mut start = true;
+    let mut left = weeks;
     for i in 0..bytes.len() {
-        if log_here(start, &bytes[i..]) {
+        if left == 0 {
             return i;
         }
-        start = bytes[i] == b'\n';
+        left = left_behind(left, bytes[i]);
     }
     bytes.len()
 }
 
-/// In an answer of `best`: what is between its first line and the log. It takes time by the bytes.
-pub fn best_part(answer: &[u8]) -> Option<&[u8]>
-    ensures { MatchOption result (best_part answer.now ≡ None) (λ part. best_part answer.now ≡ Some part.now) }
+/// In an answer of `best`: as many lines behind its first one as there are weeks. It takes time by the bytes.
+pub fn best_part(weeks: u32, answer: &[u8]) -> Option<&[u8]>
+    ensures { MatchOption result (best_part weeks answer.now ≡ None)
+        (λ part. best_part weeks answer.now ≡ Some part.now) }
 {
     let (_, rest) = behind_word(b"free ".as_slice(), b"\n".as_slice(), answer)?;
-    Some(&rest[..log_place(rest)])
+    Some(&rest[..lines_len(weeks, rest)])
 }

@@ -1,5 +1,5 @@
--- The parts of a text that may be a roster's.
-use Rattle.std.specs.Prelude.{ℕ, ◌+◌, ◌-◌, ◌==◌, List, [], ◌∷◌, length, take, drop, Bool, true, ◌&&◌, nat_eq, Option, Some, None, codes, if◌then◌else◌}
+-- The parts of an answer of `best` or `staff` that may be a roster's text.
+use Rattle.std.specs.Prelude.{ℕ, zero, suc, ◌+◌, ◌-◌, ◌==◌, List, [], ◌∷◌, length, take, drop, Bool, true, nat_eq, Option, Some, None, codes, if◌then◌else◌}
 use Rattle.std.specs.List.{starts_with}
 use Rattle.std.specs.Char.{is_ascii_digit}
 
@@ -46,24 +46,27 @@ behind_first_heading start [] = None
 behind_first_heading start (b ∷ bytes) =
     found_or (heading_here start (b ∷ bytes)) (behind_first_heading (b == 10) bytes)
 
--- how many bytes there are in front of the first line with which a free log begins
-abbrev pub log_here : (start : Bool) → List ℕ → Bool
-log_here start bytes = start && starts_with nat_eq bytes (codes "rwsp-free ")
+-- of n lines, how many are left behind a byte
+abbrev pub left_behind : (n b : ℕ) → ℕ
+left_behind n b = if b == 10 then n - 1 else n
 
-unfoldable pub log_place : (start : Bool) → List ℕ → ℕ
-log_place start [] = 0
-log_place start (b ∷ bytes) = if log_here start (b ∷ bytes) then 0 else log_place (b == 10) bytes + 1
+-- how many bytes the first n lines have
+unfoldable pub lines_len : (n : ℕ) → List ℕ → ℕ
+lines_len n [] = 0
+lines_len zero (b ∷ bytes) = 0
+lines_len (suc n) (b ∷ bytes) = lines_len (left_behind (suc n) b) bytes + 1
 
-abbrev pub up_to_log : List ℕ → List ℕ
-up_to_log bytes = take (log_place true bytes) bytes
+-- the first n lines
+abbrev pub lines_up_to : (n : ℕ) → List ℕ → List ℕ
+lines_up_to n bytes = take (lines_len n bytes) bytes
 
--- in an answer of `best`: what is between its first line and the log
-abbrev pub part_of_best : Option Numbered → Option (List ℕ)
-part_of_best None = None
-part_of_best (Some found) = Some (up_to_log found.1)
+-- in an answer of `best`: as many lines behind its first one as there are weeks
+abbrev pub part_of_best : (weeks : ℕ) → Option Numbered → Option (List ℕ)
+part_of_best weeks None = None
+part_of_best weeks (Some found) = Some (lines_up_to weeks found.1)
 
-abbrev pub best_part : List ℕ → Option (List ℕ)
-best_part answer = part_of_best (behind_word (codes "free ") (codes "\n") answer)
+abbrev pub best_part : (weeks : ℕ) → List ℕ → Option (List ℕ)
+best_part weeks answer = part_of_best weeks (behind_word (codes "free ") (codes "\n") answer)
 
 -- in an answer of `staff`: the digits of the heading of a roster, and what is behind it
 abbrev pub staff_part : List ℕ → Option Numbered
