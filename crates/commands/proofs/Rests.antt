@@ -1,8 +1,8 @@
 -- A problem has one answer about a least rest.
 use Rattle.std.proofs.Common.{◌≡◌, ℕ, ap, sym, ◌∙◌, arith}
 use Rattle.rwsp_terms.specs.Instance.{Instance}
-use Rattle.rest_between.specs.declared.rested.LeastRest.{LeastRest}
-use Rattle.rest_between.specs.declared.rested.LeastRest.TheVariants.{Rested, Pairs, Triples}
+use Rattle.made_problems.specs.declared.rested.LeastRest.{LeastRest}
+use Rattle.made_problems.specs.declared.rested.LeastRest.TheVariants.{Rested, Pairs, Triples}
 use Rattle.commands.specs.Rest.{IsRestAnswer}
 
 pub one_rest : (P : Instance) (minutes : ℕ) (a b : LeastRest) → IsRestAnswer P minutes a → IsRestAnswer P minutes b → a ≡ b

@@ -3,9 +3,9 @@ use Rattle.std.proofs.Common.{ℕ, ◌≤◌, sym, subst}
 use Rattle.rwsp_terms.specs.declared.limits.TheConstants.{TRIAL_BUDGET}
 use Rattle.rwsp_terms.specs.Instance.{Instance}
 use Rattle.rwsp_terms.specs.Roster.{MeetsAll}
-use Rattle.problem_generator.specs.Blocks.{roster_of}
-use Rattle.problem_generator.specs.Generated.{IsGenerated}
-use Rattle.problem_generator.specs.Laws.{HiddenRostersMeet}
+use Rattle.made_problems.specs.Blocks.{roster_of}
+use Rattle.made_problems.specs.Generated.{IsGenerated}
+use Rattle.made_problems.specs.Laws.{HiddenRostersMeet}
 use Rattle.refutation_log.specs.Planned.{IsPlanned}
 use Rattle.refutation_log.specs.declared.found.Found.{Found}
 use Rattle.refutation_log.specs.declared.found.Found.TheVariants as Founds

@@ -6,10 +6,10 @@ use Rattle.rwsp_terms.specs.Roster.{MeetsAll}
 use Rattle.rwsp_terms.specs.declared.data.Symbol.{Symbol}
 use Rattle.rwsp_file.specs.Spelling.{SpellsProblem}
 use Rattle.rwsp_file.specs.Text.{problem_text}
-use Rattle.rest_between.specs.Rested.{HasRest}
-use Rattle.rest_between.specs.Answers.{IsRestOf}
-use Rattle.rest_between.specs.declared.rested.LeastRest.{LeastRest}
-use Rattle.rest_between.specs.declared.rested.LeastRest.TheVariants.{Rested, Pairs, Triples}
+use Rattle.made_problems.specs.Rested.{HasRest}
+use Rattle.made_problems.specs.RestAnswers.{IsRestOf}
+use Rattle.made_problems.specs.declared.rested.LeastRest.{LeastRest}
+use Rattle.made_problems.specs.declared.rested.LeastRest.TheVariants.{Rested, Pairs, Triples}
 use Rattle.commands.specs.Lines.{line}
 
 abbrev pub rest_text : LeastRest → List ℕ

@@ -8,7 +8,7 @@ use Rattle.rwsp_terms.specs.Roster.{MeetsAll}
 use Rattle.refutation_terms.specs.Log.{IsSpent}
 use Rattle.refutation_terms.specs.LogText.{log_text}
 use Rattle.roster_print.specs.RosterText.{roster_text}
-use Rattle.problem_generator.specs.Generated.{IsGenerated}
+use Rattle.made_problems.specs.Generated.{IsGenerated}
 use Rattle.refutation_log.specs.declared.found.Found.{Found}
 use Rattle.refutation_log.specs.declared.found.Found.TheVariants.{Roster, NoRoster, Undecided}
 use Rattle.refutation_log.specs.Planned.{IsPlannedLog}

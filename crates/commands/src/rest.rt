@@ -5,7 +5,7 @@ ghost use Rattle.commands.specs.Lines.{line};
 ghost use Rattle.commands.specs.Rest.{IsRestAnswer, rest_text, rest_status};
 
 use crate::put::put_labelled;
-use rest_between::{LeastRest, require_rest, rosters_rest};
+use made_problems::{LeastRest, require_rest, rosters_rest};
 use rwsp_file::{canonical_texts_spell, print_problem};
 use rwsp_model::Problem;
 use rwsp_terms::limits::LONGEST_REST;

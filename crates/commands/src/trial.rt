@@ -1,12 +1,12 @@
 // What a search finds for the problem of a number.
 ghost use Rattle.std.specs.Prelude.{◌≤◌, IfOk};
-ghost use Rattle.problem_generator.specs.Generated.{IsGenerated};
+ghost use Rattle.made_problems.specs.Generated.{IsGenerated};
 ghost use Rattle.commands.specs.Trial.{IsTried, IsTrial, IsTrialText};
 
 mod texts;
 
 use potential_bounds::Gate;
-use problem_generator::{gen_problem, hidden_rosters_meet};
+use made_problems::{gen_problem, hidden_rosters_meet};
 use refutation_log::Found;
 use roster_planner::{Effort, plan_roster};
 use rwsp_model::Problem;

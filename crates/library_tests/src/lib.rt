@@ -5,9 +5,9 @@
 #[cfg(test)]
 mod crew_calendar_tests;
 #[cfg(test)]
-mod nearest_point_tests;
+mod made_problems_tests;
 #[cfg(test)]
-mod problem_generator_tests;
+mod nearest_point_tests;
 #[cfg(test)]
 mod refutation_log_tests;
 #[cfg(test)]

@@ -3,8 +3,8 @@ use Rattle.std.proofs.Common.{◌≡◌, ℕ, zero, suc, ◌-◌, ◌<◌, ap, �
 use Rattle.std.specs.Prelude.{Some, option_map, slice_get}
 use Rattle.rwsp_terms.specs.declared.data.ShiftRow.{ShiftRow}
 use Rattle.rwsp_terms.specs.Instance.{Instance}
-use Rattle.rest_between.specs.Times.{length_in}
-use Rattle.rest_between.proofs.Rows.{length_is}
+use Rattle.made_problems.specs.Times.{length_in}
+use Rattle.made_problems.proofs.Rows.{length_is}
 use Rattle.roster_page.specs.Hours.{minutes_numbered}
 
 pub minutes_are : (P : Instance) (n length : ℕ) → 0 < n → option_map (λ (r : ShiftRow). r.length) (slice_get P.shifts (n - 1)) ≡ Some length → length ≡ minutes_numbered P n

@@ -1,7 +1,7 @@
 -- Numbers of minutes as texts.
 use Rattle.std.specs.Prelude.{ℕ, ◌+◌, ◌/◌, ◌%◌, List, [], ◌∷◌, ◌++◌, ◌==◌, if◌then◌else◌}
 use Rattle.std.specs.Fmt.{decimal}
-use Rattle.rest_between.specs.Times.{day_minutes}
+use Rattle.made_problems.specs.Times.{day_minutes}
 use Rattle.roster_page.specs.PieceText.{piece_text}
 use Rattle.roster_page.specs.declared.pieces.Piece.TheVariants.{Later, Closed}
 

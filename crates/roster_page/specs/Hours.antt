@@ -3,7 +3,7 @@ use Rattle.std.specs.Prelude.{ℕ, zero, suc, List, slice_get}
 use Rattle.std.specs.List.{sum_by}
 use Rattle.rwsp_terms.specs.Instance.{Instance}
 use Rattle.rwsp_terms.specs.declared.data.Symbol.{Symbol}
-use Rattle.rest_between.specs.Times.{length_in}
+use Rattle.made_problems.specs.Times.{length_in}
 
 -- the minutes of a symbol by its number; the day off has none
 abbrev pub minutes_numbered : Instance → ℕ → ℕ

@@ -3,7 +3,7 @@ use Rattle.std.specs.Prelude.{◌≡◌, ℕ, ◌+◌, ◌-◌, ◌<◌, ◌≤�
 use Rattle.rwsp_terms.specs.Instance.{Instance}
 use Rattle.rwsp_terms.specs.Window.{cell}
 use Rattle.rwsp_terms.specs.declared.data.Symbol.{Symbol}
-use Rattle.rest_between.specs.Times.{start_later, end_of}
+use Rattle.made_problems.specs.Times.{start_later, end_of}
 
 -- at position p is a shift, and the next one is n days later, round the cycle
 pub record IsNext (s : List Symbol) (p n : ℕ) : Type 0 where

@@ -10,8 +10,8 @@ use Rattle.rwsp_terms.specs.Instance.{Instance, shift_count, shift_demand, bound
 use Rattle.rwsp_terms.specs.Roster.{weeks_with}
 use Rattle.roster_print.specs.RosterText.{week_at}
 use Rattle.refutation_terms.specs.FreeWeekends.{free_weekends, is_off_at}
-use Rattle.rest_between.specs.Rested.{shift_at}
-use Rattle.rest_between.specs.Times.{start_of, end_of}
+use Rattle.made_problems.specs.Rested.{shift_at}
+use Rattle.made_problems.specs.Times.{start_of, end_of}
 use Rattle.roster_page.specs.Escaped.{escaped}
 use Rattle.roster_page.specs.Clock.{hours_text, moment_text}
 use Rattle.roster_page.specs.Hours.{minutes_of, minutes_in}

@@ -1,10 +1,10 @@
 // Numbers of minutes as texts.
 ghost use Rattle.std.specs.Prelude.{◌≡◌, ◌++◌, ◌<◌, OnOk};
-ghost use Rattle.rest_between.specs.Times.{day_minutes};
+ghost use Rattle.made_problems.specs.Times.{day_minutes};
 ghost use Rattle.roster_page.specs.Clock.{two_digits, hours_text, clock_text, later_text, moment_text};
 
 use crate::pieces::{Piece, put};
-use rest_between::DAY_MINUTES;
+use made_problems::DAY_MINUTES;
 use rwsp_text::put_number;
 use std::alloc::AllocError;
 

@@ -4,10 +4,10 @@ ghost use Rattle.rwsp_terms.specs.Instance.{IsShift};
 ghost use Rattle.rwsp_terms.specs.Roster.{IsRoster};
 ghost use Rattle.rwsp_terms.specs.Window.{cell};
 ghost use Rattle.rwsp_terms.specs.declared.limits.TheConstants.{MOST_CELLS};
-ghost use Rattle.rest_between.specs.Times.{start_later, end_of};
+ghost use Rattle.made_problems.specs.Times.{start_later, end_of};
 ghost use Rattle.roster_page.specs.LeastRest.{IsNext, rest_after, lesser, IsLeastBelow, IsLeastRest};
 
-use rest_between::{DAY_MINUTES, length_of, start_of};
+use made_problems::{DAY_MINUTES, length_of, start_of};
 use rwsp_model::Problem;
 use rwsp_terms::Symbol;
 

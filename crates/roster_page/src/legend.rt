@@ -7,7 +7,7 @@ use crate::clock::{put_hours, put_moment};
 use crate::pieces::{Piece, put};
 use crate::table::minutes_of;
 use crate::words::{put_shift_head, shift_at};
-use rest_between::{length_of, start_of};
+use made_problems::{length_of, start_of};
 use rwsp_model::Problem;
 use std::alloc::AllocError;
 

@@ -1,7 +1,7 @@
 // Words that several parts of a page have.
 ghost use Rattle.std.specs.Prelude.{◌≡◌, ◌++◌, ◌<◌, OnOk};
 ghost use Rattle.rwsp_terms.specs.Instance.{shift_count, IsSymbol};
-ghost use Rattle.rest_between.specs.Rested.{shift_at};
+ghost use Rattle.made_problems.specs.Rested.{shift_at};
 ghost use Rattle.roster_page.specs.PageText.{weeks_words, range_words, name_text, day_head, day_heads, shift_head};
 
 use crate::escaped::put_escaped;

@@ -2,7 +2,7 @@
 use Rattle.std.proofs.Common.{◌≡◌, ap, sym, ◌∙◌, subst}
 use Rattle.rwsp_terms.specs.Instance.{Instance}
 use Rattle.rwsp_file.specs.Laws.{TextsSpellOne}
-use Rattle.problem_generator.proofs.OneProblem.{same_generated}
+use Rattle.made_problems.proofs.OneProblem.{same_generated}
 use Rattle.command_line.specs.Commands.{file_of}
 use Rattle.command_line.specs.declared.command.Command.{Command}
 use Rattle.command_line.proofs.OneForm.{one_form}

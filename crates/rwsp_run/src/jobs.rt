@@ -13,7 +13,7 @@ use commands::{
 };
 use potential_bounds::Gate;
 use refutation_log::{BestFound, Found};
-use rest_between::LeastRest;
+use made_problems::LeastRest;
 use rwsp_file::print_problem;
 use rwsp_model::Problem;
 use rwsp_terms::limits::DAYS_OF_WEEK;

@@ -1,4 +1,4 @@
-use Rattle.rest_between.proofs.Pieces.{piece_more}
+use Rattle.made_problems.proofs.Pieces.{piece_more}
 use Rattle.roster_page.specs.PageText.{demand_row}
 use Rattle.roster_page.proofs.demand.put_demand_rows.Goals as goal
 

@@ -1,4 +1,4 @@
-use Rattle.rest_between.proofs.Pieces.{piece_more}
+use Rattle.made_problems.proofs.Pieces.{piece_more}
 use Rattle.roster_page.specs.PageText.{block_rule}
 use Rattle.roster_page.proofs.rules.put_block_rules.Goals as goal
 

@@ -1,4 +1,4 @@
-use Rattle.rest_between.proofs.Pieces.{piece_more}
+use Rattle.made_problems.proofs.Pieces.{piece_more}
 use Rattle.roster_page.specs.PageText.{week_row}
 use Rattle.roster_page.proofs.table.put_week_rows.Goals as goal
 

@@ -1,4 +1,4 @@
-use Rattle.rest_between.proofs.Pieces.{piece_more}
+use Rattle.made_problems.proofs.Pieces.{piece_more}
 use Rattle.roster_page.specs.PageText.{day_head}
 use Rattle.roster_page.proofs.words.put_day_heads.Goals as goal
 

@@ -1,0 +1,15 @@
+pub mod Stepping
+pub mod Following
+pub mod Lengths
+pub mod Valid
+pub mod Walking
+pub mod Usual
+pub mod Endless
+pub mod Days
+pub mod Meeting
+pub mod OneProblem
+pub mod Rows
+pub mod Pieces
+pub mod Sequences
+pub mod Resting
+pub mod Sizes

@@ -1,0 +1,93 @@
+-- The hidden roster meets each rule.
+use Rattle.std.proofs.Common.{◌≡◌, ℕ, zero, suc, ◌-◌, ◌*◌, ◌<◌, ◌≤◌, List, [], ◌∷◌, length, Bool, true, false, ◌&&◌, ltb, Some, refl, subst, ◌∙◌, arith}
+use Rattle.std.specs.Prelude.{slice_get}
+use Rattle.std.specs.List.{AllByRecursion}
+use Rattle.std.proofs.lemmas.Bool.{and_parts}
+use Rattle.rwsp_terms.specs.Instance.{bounds, bounds_of, IsClass}
+use Rattle.rwsp_terms.specs.Window.{window, TooLong, TooShort}
+use Rattle.rwsp_terms.specs.Roster.{IsRule, MeetsRule, MeetsAll}
+use Rattle.rwsp_terms.specs.declared.data.Symbol.{Symbol}
+use Rattle.rwsp_terms.specs.declared.data.Class.{Class}
+use Rattle.rwsp_terms.specs.declared.data.Class.TheVariants.{Shift, Off, Work}
+use Rattle.rwsp_terms.specs.declared.data.Rule.{Rule}
+use Rattle.rwsp_terms.specs.declared.data.Rule.TheVariants.{MaxShift, MinShift, MaxOff, MinOff, MaxWork, MinWork, Pair, Triple, Day}
+use Rattle.rwsp_terms.proofs.Elements.{all_from}
+use Rattle.made_problems.specs.Stints.{IsUsual, AreStints}
+use Rattle.made_problems.specs.Blocks.{roster_of}
+use Rattle.made_problems.specs.Generated.{shifts, pairs, problem_of}
+use Rattle.made_problems.specs.declared.stint.Stint.{Stint}
+use Rattle.made_problems.proofs.Lengths.{roster_long}
+use Rattle.made_problems.proofs.Usual.{stints_usual}
+use Rattle.made_problems.proofs.Walking.{Stand, walks, step, may_follow, works, most_same, follows_from, least_of, greatest_of, never_too_long, never_too_short, second_follows}
+use Rattle.made_problems.proofs.Endless.{part_walks, cells_walk}
+use Rattle.made_problems.proofs.Days.{meets_days}
+
+shift_bounds : (n : ℕ) → 0 < n → n ≤ 3 → ((bounds_of (slice_get shifts (n - 1))).greatest ≡ most_same n) × ((bounds_of (slice_get shifts (n - 1))).least ≡ 2)
+shift_bounds zero some few = absurd (omega (arith, some))
+shift_bounds (suc zero) some few = (refl, refl)
+shift_bounds (suc (suc zero)) some few = (refl, refl)
+shift_bounds (suc (suc (suc zero))) some few = (refl, refl)
+shift_bounds (suc (suc (suc (suc n)))) some few = absurd (omega (arith, few))
+
+class_bounds : (weeks : ℕ) (s : List Symbol) (c : Class) → IsClass (problem_of weeks s) c → ((bounds (problem_of weeks s) c).greatest ≡ greatest_of c) × ((bounds (problem_of weeks s) c).least ≡ least_of c)
+class_bounds weeks s (Shift x) h = shift_bounds x.number h.0 h.1
+class_bounds weeks s Off h = (refl, refl)
+class_bounds weeks s Work h = (refl, refl)
+
+-- a forbidden pair has an earlier shift behind a later one
+unwrapped : {x y : Symbol × Symbol} → Some x ≡ Some y → x ≡ y
+unwrapped h = cc
+
+pair_goes_back : (k : ℕ) (x : Symbol × Symbol) → k < 3 → slice_get pairs k ≡ Some x → (works x.1.number && ltb x.1.number x.0.number) ≡ true
+pair_goes_back zero x less h = let e = unwrapped h in subst (λ (y : Symbol × Symbol). (works y.1.number && ltb y.1.number y.0.number) ≡ true) e refl
+pair_goes_back (suc zero) x less h = let e = unwrapped h in subst (λ (y : Symbol × Symbol). (works y.1.number && ltb y.1.number y.0.number) ≡ true) e refl
+pair_goes_back (suc (suc zero)) x less h = let e = unwrapped h in subst (λ (y : Symbol × Symbol). (works y.1.number && ltb y.1.number y.0.number) ≡ true) e refl
+pair_goes_back (suc (suc (suc k))) x less h = absurd (omega (arith, less))
+
+not_both : (b : Bool) → b ≡ true → b ≡ false → ⊥
+not_both b p q = cc
+
+known_symbols : (e : Stand) (u : List Symbol) → walks e u ≡ true → AllByRecursion (λ y. y.number ≤ 3) u
+known_symbols e [] w = tt
+known_symbols e (y ∷ u) w =
+    let p = and_parts (may_follow e y.number) (walks (step e y.number) u) w in
+    ((follows_from e y.number p.0).known, known_symbols (step e y.number) u p.1)
+
+-- each window of the roster walks
+abbrev Walks : List Symbol → Type 0
+Walks s = (p len : ℕ) → (f : Stand) × (walks f (window s p len) ≡ true)
+
+class_kept_short : (weeks : ℕ) (s : List Symbol) (c : Class) → IsClass (problem_of weeks s) c → Walks s → (p len : ℕ) → TooLong c (bounds (problem_of weeks s) c).greatest (window s p len) → ⊥
+class_kept_short weeks s c is w p len bad =
+    let f = w p len in
+    never_too_long c f.0 (window s p len) f.1 (subst (λ n. TooLong c n (window s p len)) (class_bounds weeks s c is).0 bad)
+
+class_kept_long : (weeks : ℕ) (s : List Symbol) (c : Class) → IsClass (problem_of weeks s) c → Walks s → (p len : ℕ) → TooShort c (bounds (problem_of weeks s) c).least (window s p len) → ⊥
+class_kept_long weeks s c is w p len bad =
+    let f = w p len in
+    never_too_short c f.0 (window s p len) f.1 (subst (λ n. TooShort c n (window s p len)) (class_bounds weeks s c is).1 bad)
+
+rule_kept : (weeks : ℕ) (s : List Symbol) → Walks s → AllByRecursion (λ y. y.number ≤ 3) s → (r : Rule) → IsRule (problem_of weeks s) r → MeetsRule (problem_of weeks s) r s
+rule_kept weeks s w h (MaxShift x) is = λ p len less bad. class_kept_short weeks s (Shift x) is w p len bad
+rule_kept weeks s w h (MinShift x) is = λ p len less bad. class_kept_long weeks s (Shift x) is w p len bad
+rule_kept weeks s w h MaxOff is = λ p len less bad. class_kept_short weeks s Off tt w p len bad
+rule_kept weeks s w h MinOff is = λ p len less bad. class_kept_long weeks s Off tt w p len bad
+rule_kept weeks s w h MaxWork is = λ p len less bad. class_kept_short weeks s Work tt w p len bad
+rule_kept weeks s w h MinWork is = λ p len less bad. class_kept_long weeks s Work tt w p len bad
+rule_kept weeks s w h (Pair k) is = λ p len less bad.
+    let f = w p len in
+    let behind = second_follows f.0 bad.0.0 bad.0.1 (subst (λ u. walks f.0 u ≡ true) bad.2 f.1) in
+    not_both (works bad.0.1.number && ltb bad.0.1.number bad.0.0.number) (pair_goes_back k bad.0 is bad.1) behind.forward
+rule_kept weeks s w h (Triple k) is = λ p len less bad. absurd (omega (arith, is))
+rule_kept weeks s w h (Day j) is = meets_days weeks s j is.0 is.1 h
+
+pub hidden_meets : (number weeks : ℕ) (ts : List Stint) → 1 ≤ weeks → AreStints number (weeks * 7) ts → MeetsAll (problem_of weeks (roster_of ts)) (roster_of ts)
+hidden_meets number weeks ts some are =
+    let usual = stints_usual number (weeks * 7) ts (omega arith) are in
+    let long : length (roster_of ts) ≡ weeks * 7 = roster_long ts (all_from IsUsual ts usual) ∙ are.whole in
+    let walk = cells_walk ts usual in
+    let known = known_symbols walk.0 (roster_of ts) walk.1 in
+    record {
+      is_roster = record { long = long; symbols = all_from (λ y. y.number ≤ 3) (roster_of ts) known };
+      rules = rule_kept weeks (roster_of ts) (λ p len. part_walks ts p len (omega arith) usual) known;
+    }

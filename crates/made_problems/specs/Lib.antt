@@ -1,0 +1,9 @@
+pub mod Draws
+pub mod Stints
+pub mod Blocks
+pub mod Generated
+pub mod Laws
+pub mod Times
+pub mod Rested
+pub mod RestLaws
+pub mod RestAnswers

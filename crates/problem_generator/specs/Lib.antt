@@ -1,5 +1,0 @@
-pub mod Draws
-pub mod Stints
-pub mod Blocks
-pub mod Generated
-pub mod Laws

@@ -1,5 +1,0 @@
-pub mod Rows
-pub mod Pieces
-pub mod Sequences
-pub mod Resting
-pub mod Sizes

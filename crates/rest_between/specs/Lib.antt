@@ -1,4 +1,0 @@
-pub mod Times
-pub mod Rested
-pub mod Laws
-pub mod Answers
