@@ -1,27 +1,26 @@
 -- What follows the text of a log as a heading doesn't cut it short.
 use Rattle.std.proofs.Common.{◌≡◌, ℕ, zero, suc, ◌+◌, ◌-◌, ◌<◌, ◌≤◌, List, [], ◌∷◌, ◌++◌, length, take, get_or, Bool, true, false, ◌&&◌, ◌||◌, ◌==◌, Option, Some, None, refl, ap, sym, ◌∙◌, subst, arith, inl, inr, ⊎_elim, length-append}
-use Rattle.std.specs.Prelude.{◌⊎◌}
-use Rattle.std.specs.List.{join_with_byte, AllByRecursion}
-use Rattle.std.proofs.lemmas.Bool.{cases_lt}
+use Rattle.std.specs.Prelude.{◌⊎◌, not}
+use Rattle.std.specs.List.{join_with_byte, list_all, AllByRecursion}
+use Rattle.std.proofs.lemmas.Bool.{cases_lt, and_parts}
 use Rattle.std.proofs.lemmas.List.{append-nil, append_assoc, get_or_append_left}
 use Rattle.std.proofs.Math.Seq.{take-append-add, drop-append-add, take-append_seam, drop-append_seam}
 use Rattle.rwsp_text.specs.Fields.{Words, text_of}
+use Rattle.rwsp_text.specs.Kinds.{Kind, IsLine}
 use Rattle.rwsp_text.specs.Lines.{AreWords, AreLines, text_of_lines}
 use Rattle.rwsp_text.proofs.LineLaws.{join_no_feed}
+use Rattle.rwsp_text.proofs.KindLaws.{no_words}
 use Rattle.rwsp_terms.specs.Instance.{Instance}
 use Rattle.refutation_terms.specs.declared.lines.Line.{Line}
-use Rattle.refutation_terms.specs.declared.lines.Line.TheVariants.{Split, Closing, Unfinished}
 use Rattle.refutation_terms.specs.declared.lines.Opening.{Opening}
 use Rattle.refutation_terms.specs.declared.lines.Opening.TheVariants.{Full, Turned}
-use Rattle.refutation_terms.specs.LogText.{raw, line_text}
-use Rattle.refutation_terms.proofs.LineTables.{rules_fields, version_fields}
-use Rattle.refutation_terms.proofs.Texts.{lines_fields, log_fields, log_written, log_words, version_of, opening_fields, third_fields}
+use Rattle.refutation_terms.specs.LogText.{RawLine, raw, raw_fields, line_text, line_kinds, version_kinds}
+use Rattle.refutation_terms.specs.TextLaws.{HasNames}
+use Rattle.refutation_terms.proofs.LineTables.{rules_fields, version_fields, version_line, raw_line, spelled_raw}
+use Rattle.refutation_terms.proofs.Texts.{lines_fields, log_fields, log_written, log_words, version_of, opening_fields, third_fields, each_fits}
 use Rattle.refutation_log.proofs.OneText.{is_writable, has_names}
-use Rattle.refutation_terms.specs.declared.lines.Leaf.TheVariants.{Window, Day, Words as OfWords, Few, Blocks}
-use Rattle.refutation_terms.specs.declared.lines.WordClaim.TheVariants.{Dead, Light}
-use Rattle.refutation_terms.specs.declared.lines.Version.TheVariants.{Version1, Version2, Version3, Free1, Free2}
 use Rattle.refutation_terms.specs.declared.lines.Version.{Version}
-use Rattle.refutation_terms.specs.Log.{Log}
+use Rattle.refutation_terms.specs.Log.{Log, LineFits, Fits}
 use Rattle.crew_size.specs.Sections.{AreWholeLines, BeginsAsHeading, HasHeadingAt, AreUpToHeading}
 use Rattle.crew_size.specs.Laws.{LogsAreCutWhole}
 use Rattle.crew_size.proofs.Cuts.{line_goes_on}
@@ -115,45 +114,81 @@ rules_other : (R t : List ℕ) → opens (text_of (rules_fields R) ++ t) ≡ fal
 rules_other [] t = refl
 rules_other (k ∷ R) t = refl
 
-line_other : (P : Instance) (goal : Option ℕ) (line : Line) (t : List ℕ) → opens (line_text P (raw P goal line) ++ t) ≡ false
-line_other P goal (Split p x) t = refl
-line_other P goal (Closing (Window rule p len)) t = refl
-line_other P goal (Closing (Day j x over)) t = refl
-line_other P goal (Closing (OfWords p R (Dead len))) t = refl
-line_other P None (Closing (OfWords p R (Light turns reward y))) t = refl
-line_other P (Some goal) (Closing (OfWords p R (Light turns reward y))) t = refl
-line_other P goal (Closing Few) t = refl
-line_other P goal (Closing (Blocks x)) t = refl
-line_other P goal Unfinished t = refl
+-- a first word has two letters at least, and not those that a heading begins with
+abbrev is_other_word : List ℕ → Bool
+is_other_word (a ∷ b ∷ word) = not (opens (a ∷ b ∷ []))
+is_other_word word = false
 
-lines_other : (P : Instance) (goal : Option ℕ) (lines : List Line) → AreLines (lines_fields P goal lines) → AreOther (lines_fields P goal lines)
-lines_other P goal [] are = tt
-lines_other P goal (line ∷ lines) are = (record { words = are.0; other = line_other P goal line }, lines_other P goal lines are.1)
+other_goes_on : (word t : List ℕ) → is_other_word word ≡ true → opens (word ++ t) ≡ false
+other_goes_on [] t h = absurd (cc)
+other_goes_on (a ∷ []) t h = absurd (cc)
+other_goes_on (a ∷ b ∷ word) t h = is_false (opens (a ∷ b ∷ [])) h
+  where
+    is_false : (yes : Bool) → not yes ≡ true → yes ≡ false
+    is_false false h = refl
+    is_false true h = absurd (cc)
+
+words_other : (w : List ℕ) (ws : Words) (t : List ℕ) → is_other_word w ≡ true → opens (text_of (w ∷ ws) ++ t) ≡ false
+words_other w [] t h = subst (λ bytes. opens bytes ≡ false) (sym (append_assoc w (10 ∷ []) t)) (other_goes_on w (10 ∷ t) h)
+words_other w (v ∷ ws) t h =
+    let more : List ℕ = 32 ∷ join_with_byte 32 (v ∷ ws) in
+    let whole = append_assoc (w ++ more) (10 ∷ []) t ∙ append_assoc w more (10 ∷ t) in
+    subst (λ bytes. opens bytes ≡ false) (sym whole) (other_goes_on w (more ++ (10 ∷ t)) h)
+
+-- no kind of line of a table begins as a heading does
+abbrev are_other_kinds : {X : Type 0} → List (Kind X) → Bool
+are_other_kinds table = list_all (λ kind. is_other_word kind.word) table
+
+kinds_other : {X : Type 0} (table : List (Kind X)) (ws : Words) (x : X) (t : List ℕ) → are_other_kinds table ≡ true → IsLine table ws x → opens (text_of ws ++ t) ≡ false
+kinds_other table [] x t h l = absurd (no_words table x l)
+kinds_other [] (w ∷ ws) x t h l = absurd l
+kinds_other (kind ∷ table) (w ∷ ws) x t h (inl l) =
+    words_other w ws t (ap is_other_word l.0 ∙ (and_parts (is_other_word kind.word) (are_other_kinds table) h).0)
+kinds_other (kind ∷ table) (w ∷ ws) x t h (inr l) =
+    kinds_other table (w ∷ ws) x t (and_parts (is_other_word kind.word) (are_other_kinds table) h).1 l
+
+line_kinds_other : (P : Instance) (goal : Option ℕ) (counts : Bool) → are_other_kinds (line_kinds P goal counts) ≡ true
+line_kinds_other P None false = refl
+line_kinds_other P None true = refl
+line_kinds_other P (Some goal) false = refl
+line_kinds_other P (Some goal) true = refl
+
+line_other : (P : Instance) (goal : Option ℕ) (counts : Bool) (line : Line) → HasNames P → LineFits P goal counts line → (t : List ℕ) → opens (line_text P (raw P goal line) ++ t) ≡ false
+line_other P goal counts line names fits t =
+    let written : RawLine = raw P goal line in
+    kinds_other (line_kinds P goal counts) (raw_fields P written) written t (line_kinds_other P goal counts) (raw_line P goal counts written (spelled_raw P goal counts line names fits).0)
+
+lines_other : (P : Instance) (goal : Option ℕ) (counts : Bool) (lines : List Line) → HasNames P → AllByRecursion (LineFits P goal counts) lines → AreLines (lines_fields P goal lines) → AreOther (lines_fields P goal lines)
+lines_other P goal counts [] names fit are = tt
+lines_other P goal counts (line ∷ lines) names fit are = (
+  record { words = are.0; other = line_other P goal counts line names fit.0 },
+  lines_other P goal counts lines names fit.1 are.1,
+)
 
 opening_other : (P : Instance) (o : Opening) (t : List ℕ) → opens (text_of (opening_fields P o) ++ t) ≡ false
 opening_other P Full t = refl
 opening_other P (Turned turn) t = refl
 
-third_other : (P : Instance) (o : Opening) (goal : Option ℕ) (counts : Bool) (lines : List Line) → AreLines (third_fields P o goal counts ++ lines_fields P goal lines) → AreOther (third_fields P o goal counts ++ lines_fields P goal lines)
-third_other P Full None false lines are = lines_other P None lines are
-third_other P (Turned turn) None false lines are = (record { words = are.0; other = λ t. refl }, lines_other P None lines are.1)
-third_other P o None true lines are = (record { words = are.0; other = opening_other P o }, lines_other P None lines are.1)
-third_other P o (Some goal) counts lines are = (record { words = are.0; other = λ t. refl }, lines_other P (Some goal) lines are.1)
+third_other : (P : Instance) (o : Opening) (goal : Option ℕ) (counts : Bool) (lines : List Line) → HasNames P → AllByRecursion (LineFits P goal counts) lines → AreLines (third_fields P o goal counts ++ lines_fields P goal lines) → AreOther (third_fields P o goal counts ++ lines_fields P goal lines)
+third_other P Full None false lines names fit are = lines_other P None false lines names fit are
+third_other P (Turned turn) None false lines names fit are = (record { words = are.0; other = λ t. refl }, lines_other P None false lines names fit are.1)
+third_other P o None true lines names fit are = (record { words = are.0; other = opening_other P o }, lines_other P None true lines names fit are.1)
+third_other P o (Some goal) counts lines names fit are = (record { words = are.0; other = λ t. refl }, lines_other P (Some goal) counts lines names fit are.1)
 
 version_other : (v : Version) (t : List ℕ) → opens (text_of (version_fields v) ++ t) ≡ false
-version_other Version1 t = refl
-version_other Version2 t = refl
-version_other Version3 t = refl
-version_other Free1 t = refl
-version_other Free2 t = refl
+version_other v t = kinds_other version_kinds (version_fields v) v t refl (version_line v)
 
-log_other : (P : Instance) (g : Log) → AreLines (log_fields P g) → AreOther (log_fields P g)
-log_other P g are = (
+log_other : (P : Instance) (g : Log) → HasNames P → Fits P g → AreLines (log_fields P g) → AreOther (log_fields P g)
+log_other P g names fits are = (
   record { words = are.0; other = version_other (version_of g.opening g.goal g.counts) },
-  (record { words = are.1.0; other = rules_other g.named }, third_other P g.opening g.goal g.counts g.lines are.1.1),
+  (
+    record { words = are.1.0; other = rules_other g.named },
+    third_other P g.opening g.goal g.counts g.lines names (each_fits P g.goal g.counts g.lines fits.lines) are.1.1,
+  ),
 )
 
 pub logs_are_cut_whole : LogsAreCutWhole
 logs_are_cut_whole P g rest limits fits place =
+    let names = has_names P limits in
     subst (λ t. AreUpToHeading t rest) (sym (log_written P g))
-    (cut_of_lines (log_fields P g) rest (log_other P g (log_words P g (is_writable P limits) (has_names P limits) fits)) place)
+    (cut_of_lines (log_fields P g) rest (log_other P g names fits (log_words P g (is_writable P limits) names fits)) place)
