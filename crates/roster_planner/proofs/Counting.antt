@@ -1,5 +1,5 @@
 -- What is found where blocks are counted.
-use Rattle.std.proofs.Common.{◌≡◌, ℕ, ◌<◌, [], ◌∷◌, true, false, Option, Some, None, refl, sym, ◌∙◌, subst}
+use Rattle.std.proofs.Common.{◌≡◌, ℕ, ◌<◌, [], ◌∷◌, Bool, true, false, Option, Some, None, refl, sym, ◌∙◌, subst}
 use Rattle.std.specs.Prelude.{IsTrue, MatchOption, Result, Ok, Err, IfOk}
 use Rattle.std.specs.declared.alloc.AllocError.{AllocError}
 use Rattle.rwsp_terms.specs.declared.data.Symbol.{Symbol}
@@ -73,7 +73,7 @@ leaf_at_start P S o (Some leaf) some same h = same_plain P (has_domain S) (openi
 
 -- the tree of a log of such a leaf is no leaf of blocks
 not_blocks : (P : Instance) (D : Domains) (leaf : Leaf) (x : Symbol) → leaf ≡ Blocks x → IsPlainLeaf P D leaf → ⊥
-not_blocks P D leaf x is h = let fits : IsPlainLeaf P D (Blocks x) = rw is at h in absurd (cc fits.0.fits.0)
+not_blocks P D leaf x is h = let fits : IsPlainLeaf P D (Blocks x) = subst (IsPlainLeaf P D) is h in absurd (cc fits.0.fits.0)
 
 only_one : (a b : Leaf) → Closing a ∷ [] ≡ Closing b ∷ [] → a ≡ b
 only_one a b e = cc e
@@ -82,14 +82,14 @@ pub plain_counts : (P : Instance) (D : Domains) (leaf : Leaf) (g : Log) → g.co
 plain_counts P D leaf g none lines plain =
     let no_tree : IsBlocksTree P g → ⊥ = λ h. not_blocks P D leaf h.0 (only_one leaf (Blocks h.0) (sym lines ∙ h.2)) plain in
     record {
-      may_count = (λ counts. let no : IsTrue false = rw none at counts in absurd (cc no), λ h. absurd (no_tree h));
+      may_count = (λ counts. let no : IsTrue false = subst IsTrue none counts in absurd (cc no), λ h. absurd (no_tree h));
       no_plain = λ h. absurd (no_tree h);
       no_blocks = λ h. absurd (closed_at_top g (leaf, lines) h);
     }
 
 pub blocks_count : (P : Instance) (o : Opening) (x : Symbol) (g : Log) → g.opening ≡ o → g.counts ≡ true → g.lines ≡ Closing (Blocks x) ∷ [] → IsFirstBlocks P x → NoPlainLeafHolds P (opening P o) → IsCountingLog P g
 blocks_count P o x g opened counts lines first none = record {
-  may_count = (λ h. (x, first, lines), λ h. rw counts refl);
+  may_count = (λ h. (x, first, lines), λ h. counts);
   no_plain = λ h. subst (λ t. NoPlainLeafHolds P (opening P t)) (sym opened) none;
   no_blocks = λ h. absurd (closed_at_top g (Blocks x, lines) h);
 }
@@ -140,29 +140,23 @@ pub if_uncounted : (P : Instance) (start : Opening) (goal : Option ℕ) (budget 
 if_uncounted P start goal budget leaves spent (Ok found) h = uncounted P start goal budget leaves spent found h
 if_uncounted P start goal budget leaves spent (Err e) h = tt
 
--- where no leaf of blocks holds, a log that may not count is as one of a plan that counts
-pub search_counts : (P : Instance) (g : Log) → NoBlocksHold P → IsCountedLog P false g → IsCountedLog P true g
-search_counts P g none no = record {
-  may_count = (λ counts. let not : IsTrue false = rw no at counts in absurd (cc not), λ h. absurd (none h.0 h.1.symbol h.1.holds));
+-- where no leaf of blocks holds, a log that may not count is as one of a search that counts
+search_counts : (P : Instance) (counts : Bool) (g : Log) → NoBlocksHold P → g.counts ≡ false → IsCountedLog P counts g
+search_counts P false g none no = no
+search_counts P true g none no = record {
+  may_count = (λ may. let never : IsTrue false = subst IsTrue no may in absurd (cc never), λ h. absurd (none h.0 h.1.symbol h.1.holds));
   no_plain = λ h. absurd (none h.0 h.1.symbol h.1.holds);
   no_blocks = λ h. none;
 }
 
-pub found_counts : (P : Instance) (found : Found) → NoBlocksHold P → IsCounted P false found → IsCounted P true found
-found_counts P (Roster s) none h = tt
-found_counts P (NoRoster g) none h = search_counts P g none h
-found_counts P (Undecided g) none h = search_counts P g none h
+pub if_found_counts : (P : Instance) (counts : Bool) (r : Result Found AllocError) → NoBlocksHold P → IfOk r (IsCounted P false) → IfOk r (IsCounted P counts)
+if_found_counts P counts (Ok (Roster s)) none h = tt
+if_found_counts P counts (Ok (NoRoster g)) none h = search_counts P counts g none h
+if_found_counts P counts (Ok (Undecided g)) none h = search_counts P counts g none h
+if_found_counts P counts (Err e) none h = tt
 
-pub best_counts : (P : Instance) (found : BestFound) → NoBlocksHold P → IsBestCounted P false found → IsBestCounted P true found
-best_counts P (Bests.Best s g) none h = search_counts P g none h
-best_counts P (Bests.NoRoster g) none h = search_counts P g none h
-best_counts P (Bests.Undecided s g) none h = search_counts P g none h
-
--- the same of what a search gives
-pub if_found_counts : (P : Instance) (r : Result Found AllocError) → NoBlocksHold P → IfOk r (IsCounted P false) → IfOk r (IsCounted P true)
-if_found_counts P (Ok found) none h = found_counts P found none h
-if_found_counts P (Err e) none h = tt
-
-pub if_best_counts : (P : Instance) (r : Result BestFound AllocError) → NoBlocksHold P → IfOk r (IsBestCounted P false) → IfOk r (IsBestCounted P true)
-if_best_counts P (Ok found) none h = best_counts P found none h
-if_best_counts P (Err e) none h = tt
+pub if_best_counts : (P : Instance) (counts : Bool) (r : Result BestFound AllocError) → NoBlocksHold P → IfOk r (IsBestCounted P false) → IfOk r (IsBestCounted P counts)
+if_best_counts P counts (Ok (Bests.Best s g)) none h = search_counts P counts g none h
+if_best_counts P counts (Ok (Bests.NoRoster g)) none h = search_counts P counts g none h
+if_best_counts P counts (Ok (Bests.Undecided s g)) none h = search_counts P counts g none h
+if_best_counts P counts (Err e) none h = tt

@@ -1,5 +1,5 @@
 -- There is a list of all short rules.
-use Rattle.std.proofs.Common.{◌≡◌, ℕ, zero, suc, ◌<◌, ◌≤◌, List, [], ◌∷◌, length, refl, ap, sym, ◌∙◌, arith, Option, Some, None, ◌⊎◌, inl, inr, ⊎_elim}
+use Rattle.std.proofs.Common.{◌≡◌, ℕ, zero, suc, ◌<◌, ◌≤◌, List, [], ◌∷◌, length, refl, ap, sym, ◌∙◌, subst, arith, Option, Some, None, ◌⊎◌, inl, inr, ⊎_elim}
 use Rattle.std.specs.Prelude.{Contains, ◌↔◌}
 use Rattle.std.proofs.lemmas.Bool.{cases_lt}
 use Rattle.rwsp_terms.specs.declared.limits.TheConstants.{GREATEST_SHORT_BOUND}
@@ -36,7 +36,7 @@ short_number_by P k None is = inr (λ h. let none : None ≡ Some h.0 = sym is �
 short_number_by P k (Some r) is =
     ⊎_elim
     (λ (short : IsShort P r). inl (r, is, short))
-    (λ (long : IsShort P r → ⊥). inr (λ h. let same : h.0 ≡ r = same_Some h.0 r (sym h.1 ∙ is) in long (rw same at h.2)))
+    (λ (long : IsShort P r → ⊥). inr (λ h. let same : h.0 ≡ r = same_Some h.0 r (sym h.1 ∙ is) in long (subst (IsShort P) same h.2)))
     (short_or_not P r)
 
 -- the list has the numbers of short rules up to one
@@ -55,7 +55,7 @@ lists_more P R n lists (inl short) = (
   λ k. (
     λ c. ⊎_elim
         (λ (in_tail : Contains R k). let f = (lists k).0 in_tail in (omega (arith, f.0), f.1))
-        (λ (e : k ≡ suc n). (omega (arith, e), rw (sym e) at short))
+        (λ (e : k ≡ suc n). (omega (arith, e), subst (IsShortNumber P) (sym e) short))
         (Contains-cons (suc n) R k c),
     λ h. ⊎_elim
         (λ (less : k < suc n). Contains-later (suc n) R k ((lists k).1 (omega (arith, less), h.1)))
@@ -69,7 +69,7 @@ lists_more P R n lists (inr long) = (
     λ c. let f = (lists k).0 c in (omega (arith, f.0), f.1),
     λ h. ⊎_elim
         (λ (less : k < suc n). (lists k).1 (omega (arith, less), h.1))
-        (λ (most : suc n ≤ k). let e : k ≡ suc n = omega (arith, most, h.0) in absurd (long (rw e at h.1)))
+        (λ (most : suc n ≤ k). let e : k ≡ suc n = omega (arith, most, h.0) in absurd (long (subst (IsShortNumber P) e h.1)))
         (cases_lt k (suc n)),
   ),
 )

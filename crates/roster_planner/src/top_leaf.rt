@@ -2,6 +2,8 @@
 ghost use Rattle.std.specs.Prelude.{◌≡◌, ◌↔◌, ◌+◌, ◌≤◌, [], false, IfOk, IsTrue, MatchOption};
 ghost use Rattle.std.specs.Option.{IfSome};
 ghost use Rattle.rwsp_terms.specs.declared.limits.TheConstants.{DAYS_OF_WEEK};
+ghost use Rattle.refutation_terms.specs.declared.lines.Leaf.TheVariants.{Words};
+ghost use Rattle.refutation_terms.specs.declared.lines.WordClaim.TheVariants.{Light};
 ghost use Rattle.domain_store.specs.Cycles.{AreShortRules};
 ghost use Rattle.refutation_log.specs.Bests.{IsFreeProof};
 ghost use Rattle.refutation_log.specs.FreeSharp.{HoldsFreeAtTop, FailsFreeAtTop};
@@ -81,7 +83,7 @@ fn log_of_top(alloc: Global, automaton: &Automaton, goal: u32) -> Result<Log, Al
 
 // The leaf by these rules.
 fn light_leaf(alloc: Global, rules: RuleList) -> Leaf
-    ensures { result ≡ Leaf.Words 0 rules (WordClaim.Light 1 1 []) }
+    ensures { result ≡ Words 0 rules (Light 1 1 []) }
 {
     Leaf::Words {
         p: 0,
