@@ -13,5 +13,5 @@ pub use problems::{
     DAYS_AND_NIGHTS, DAYS_OR_NIGHTS, HALF_OF_FOUR, LONG_BLOCKS, LONGER_BLOCKS, MOST_OF_FOUR,
     MOST_OF_FOUR_WEEKS, N, NO_DEMAND, OFF, ONE_CELL, SEQUENCES, SEQUENCES_IN_TWO_WEEKS,
     THREE_IN_FIVE, THREE_IN_TWO, THREE_SHIFTS, TWO_D_AND_ONE, TWO_IN_FOUR, TWOS_IN_FOUR,
-    TWOS_IN_SIX, all_rules, log_of, one_rule, problem_of, roster_of, take_away,
+    TWOS_IN_SIX, all_rules, log_of, log_of_kind, one_rule, problem_of, roster_of, take_away,
 };

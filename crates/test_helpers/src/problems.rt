@@ -134,10 +134,27 @@ pub fn log_of(alloc: Global, problem: &Problem, text: &[u8]) -> Result<Log, Fail
     ensures text { IfOk result (λ log. text.now ≡ log_text problem.now log) }
     ensures fits { IfOk result (λ log. Fits problem.now log) }
 {
+    log_of_kind(alloc, problem, LogKind::WithoutGoal, text)
+}
+
+/// The log of this kind that a text spells.
+pub fn log_of_kind(
+    alloc: Global,
+    problem: &Problem,
+    kind: LogKind,
+    text: &[u8],
+) -> Result<Log, Fail>
+    ensures kind { IfOk result (λ log. kind_by log.goal ≡ kind) }
+    ensures text { IfOk result (λ log. text.now ≡ log_text problem.now log) }
+    ensures fits { IfOk result (λ log. Fits problem.now log) }
+{
     if text.len() > 10_000 {
         return Err(Fail::from("a long text"));
     }
-    match read_log(alloc, problem, LogKind::WithoutGoal, text) {
+    if matches!(kind, LogKind::WithGoal) && problem.days() != 7 {
+        return Err(Fail::from("no week of seven days"));
+    }
+    match read_log(alloc, problem, kind, text) {
         Ok(log) => Ok(log),
         Err(why) => Err(Fail::from(why)),
     }
