@@ -11,10 +11,10 @@ use std::alloc::{AllocError, Global};
 use std::test::Fail;
 use test_helpers::{
     D, D_ON_BOTH_DAYS, LONG_BLOCKS, NO_DEMAND, ONE_CELL, THREE_IN_FIVE, TWO_IN_FOUR, TWOS_IN_SIX,
-    log_of, problem_of,
+    log_of, log_of_kind, problem_of,
 };
 
-const TEXTS: [(&[u8], &[u8]); 9] = [
+const TEXTS: [(&[u8], &[u8]); 11] = [
     (
         D_ON_BOTH_DAYS,
         b"rwsp-log 1\nrules 1 7 8\nbound 1 1 1 rules 1 weights 1 D 1 2 D 1\n",
@@ -45,28 +45,57 @@ const TEXTS: [(&[u8], &[u8]); 9] = [
         ONE_CELL,
         b"rwsp-log 1\nrules 3 5\nsplit 1 1 D\nwindow 5 1 1 8\nwindow 3 1 1 2\n",
     ),
+    (
+        THREE_IN_FIVE,
+        b"rwsp-log 3\nrules 1 2 7\nturn D 1\nblocks D\n",
+    ),
+    (
+        THREE_IN_FIVE,
+        b"rwsp-log 3\nrules\nturn\nsplit 2 1 D\nblocks -\nopen\n",
+    ),
 ];
 
-fn read_and_printed(alloc: Global, problem: &[u8], text: &[u8]) -> Result<Vec<u8>, Fail> {
+fn read_and_printed(
+    alloc: Global,
+    problem: &[u8],
+    kind: LogKind,
+    text: &[u8],
+) -> Result<Vec<u8>, Fail> {
     let problem = problem_of(alloc, problem)?;
-    let log = log_of(alloc, &problem, text)?;
+    let log = log_of_kind(alloc, &problem, kind, text)?;
     Ok(print_log(alloc, &problem, &log)?)
 }
 
 #[test]
 fn texts_come_back(rt: HostRuntime) -> Result<(), Fail> {
     for (problem, text) in TEXTS {
-        let printed = read_and_printed(rt.alloc(), problem, text)?;
+        let printed = read_and_printed(rt.alloc(), problem, LogKind::WithoutGoal, text)?;
         assert_eq!(rt; printed.as_slice(), text);
     }
     Ok(())
 }
 
-const REFUSALS: [(&[u8], LogRefusal); 34] = [
+const REFUSALS: [(&[u8], LogRefusal); 41] = [
     (b"", LogRefusal::Ends),
     (b"rwsp-log 1\n", LogRefusal::Ends),
     (b"rwsp-log 1", LogRefusal::Form(1)),
-    (b"rwsp-log 3\nrules\nopen\n", LogRefusal::Form(1)),
+    (b"rwsp-log 4\nrules\nopen\n", LogRefusal::Form(1)),
+    (b"rwsp-log 3\nrules\nopen\n", LogRefusal::Form(3)),
+    (b"rwsp-log 3\nrules\nturn D\n", LogRefusal::Form(3)),
+    (b"rwsp-log 3\nrules\nturn\n", LogRefusal::Ends),
+    (b"rwsp-log 1\nrules\nblocks D\n", LogRefusal::Form(3)),
+    (
+        b"rwsp-log 2\nrules\nturn D 1\nblocks D\n",
+        LogRefusal::Form(4),
+    ),
+    (
+        b"rwsp-log 3\nrules\nturn\nblocks Q\n",
+        LogRefusal::Name(4),
+    ),
+    (
+        b"rwsp-log 3\nrules\nturn\nblocks D D\n",
+        LogRefusal::Form(4),
+    ),
     (b"rwsp-log 2\nrules\nopen\n", LogRefusal::Form(3)),
     (b"rwsp-log 2\nrules\nturn Q 1\n", LogRefusal::Name(3)),
     (b"rwsp-log 2\nrules\nturn D 2\n", LogRefusal::Form(3)),
@@ -177,7 +206,7 @@ fn many_splits_and_nothing_more(rt: HostRuntime) -> Result<(), Fail> {
     Ok(())
 }
 
-const FREE_TEXTS: [(&[u8], bool); 15] = [
+const FREE_TEXTS: [(&[u8], bool); 18] = [
     (
         b"rwsp-free 1\nrules 3 5 6\ngoal 2\nfree 1 1 rules 3 5 6 weights\n",
         true,
@@ -196,7 +225,13 @@ const FREE_TEXTS: [(&[u8], bool); 15] = [
     (b"rwsp-free 1\nrules\ngoal 1\nopen\n", true),
     (b"rwsp-free 1\nrules\ngoal 5\nfew\n", false),
     (b"rwsp-free 1\nrules\ngoal 01\nfew\n", false),
-    (b"rwsp-free 2\nrules\ngoal 1\nfew\n", false),
+    (b"rwsp-free 2\nrules\ngoal 1\nfew\n", true),
+    (
+        b"rwsp-free 2\nrules 1 2 7 8 9 10 11 12 13\ngoal 1\nblocks D\n",
+        true,
+    ),
+    (b"rwsp-free 1\nrules\ngoal 1\nblocks D\n", false),
+    (b"rwsp-free 3\nrules\ngoal 1\nfew\n", false),
     (b"rwsp-free 1\nrules\nfew\n", false),
     (b"rwsp-free 1\nrules\ngoal 1\nfew 1\n", false),
     (
@@ -216,7 +251,7 @@ const FREE_TEXTS: [(&[u8], bool); 15] = [
 // Whether the text is read as that of a free log of one line.
 fn is_free_log_of_one_line(alloc: Global, problem: &Problem, text: &[u8]) -> bool {
     match read_header(alloc, problem, LogKind::WithGoal, text) {
-        Ok(header) => read_line(alloc, problem, header.goal, header.body).is_ok(),
+        Ok(header) => read_line(alloc, problem, header.terms(), header.body).is_ok(),
         Err(_) => false,
     }
 }
@@ -227,6 +262,10 @@ fn free_logs_of_one_line(rt: HostRuntime) -> Result<(), Fail> {
     for (text, is_read) in FREE_TEXTS {
         let found = is_free_log_of_one_line(rt.alloc(), &problem, text);
         assert!(rt; found == is_read, "{text:?}");
+        if is_read {
+            let printed = read_and_printed(rt.alloc(), LONG_BLOCKS, LogKind::WithGoal, text)?;
+            assert_eq!(rt; printed.as_slice(), text);
+        }
     }
     Ok(())
 }

@@ -1,7 +1,7 @@
 // The search for the most free weekends by itself.
 use refutation_log::BestFound;
 use roster_checker::free_weekends;
-use roster_planner::best;
+use roster_planner::{Effort, best};
 use rwsp_model::Problem;
 use std::alloc::Global;
 use std::test::Fail;
@@ -12,7 +12,11 @@ fn most_free(alloc: Global, problem: &Problem) -> Result<Option<(u32, Option<u32
     if problem.days() != 7 {
         return Err(Fail::from("no week of seven days"));
     }
-    match best(alloc, problem, 2_000)? {
+    let effort = Effort {
+        budget: 2_000,
+        counts: true,
+    };
+    match best(alloc, problem, effort)? {
         BestFound::Best { roster, proof } => {
             Ok(Some((free_weekends(problem, &roster), proof.goal())))
         }
