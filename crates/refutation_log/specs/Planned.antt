@@ -40,9 +40,9 @@ IsUnclosedAtTop g = (line : Line) × (slice_get g.lines 0 ≡ Some line) × IsUn
 abbrev pub NoPlainLeafHolds : Instance → Domains → Type 0
 NoPlainLeafHolds P D = (SomeWindowHolds P D → ⊥) × (SomeDayHolds P D → ⊥)
 
--- a log of a search that counts may count exactly where its tree is such a leaf, which comes behind each window leaf and
--- each day leaf: none holds before the first line. And its first line is a split, or unfinished, only where no leaf of
--- blocks holds
+-- a log of a search that counts may count exactly where its tree is such a leaf, which comes behind window leaves and
+-- day leaves: none of them holds before the first line. And its first line is a split, or unfinished, only where no
+-- leaf of blocks holds
 pub record IsCountingLog (P : Instance) (g : Log) : Type 0 where
   pub may_count : IsTrue g.counts ↔ IsBlocksTree P g
   pub no_plain : IsBlocksTree P g → NoPlainLeafHolds P (opening P g.opening)
