@@ -135,7 +135,7 @@ some_same old new A B h same k = (λ o. (h k).0 o, λ c. ⊎_elim (λ (o : Conta
 abbrev pub StandsFor : Instance → List Rule → ℕ → ℕ → Type 0
 StandsFor P listed m k = (r : Rule) × (slice_get listed m ≡ Some r) × (rule_of P k ≡ Some r)
 
-listed_steps : (P : Instance) (listed : List Rule) (k : ℕ) → IsCited P (Contains listed) k ↔ ((m : ℕ) × (m < length listed) × StandsFor P listed m k)
+pub listed_steps : (P : Instance) (listed : List Rule) (k : ℕ) → IsCited P (Contains listed) k ↔ ((m : ℕ) × (m < length listed) × StandsFor P listed m k)
 listed_steps P listed k = (
   λ q. (q.2.0, q.2.1, (q.0, slice_get-get_or listed q.2.0 q.0 q.2.1 ∙ ap (λ (r : Rule). Some r) q.2.2, q.1)),
   λ q. (q.2.0, q.2.2, (q.0, q.1, get_or_from_slice_get listed q.0 q.2.0 q.2.0 q.2.1)),
@@ -163,7 +163,7 @@ some_listed P old mid new items listed i e within h same =
 abbrev pub StandsOnDay : Instance → ℕ → ℕ → Type 0
 StandsOnDay P m k = IsDayRule P (m + 1) k
 
-day_steps : (P : Instance) (k : ℕ) → IsCited P (IsSomeDay P) k ↔ ((m : ℕ) × (m < P.days) × StandsOnDay P m k)
+pub day_steps : (P : Instance) (k : ℕ) → IsCited P (IsSomeDay P) k ↔ ((m : ℕ) × (m < P.days) × StandsOnDay P m k)
 day_steps P k = (
   λ q.
       let back : q.2.0 ≡ q.2.0 - 1 + 1 = omega (arith, q.2.1.0) in

@@ -149,7 +149,7 @@ adds_none P Cited old new none e k = (
 )
 
 -- two kinds of rules that are cited
-either_cited : (P : Instance) (A B : Rule → Type 0) (k : ℕ) → (IsCited P A k ⊎ IsCited P B k) ↔ IsCited P (λ r. A r ⊎ B r) k
+pub either_cited : (P : Instance) (A B : Rule → Type 0) (k : ℕ) → (IsCited P A k ⊎ IsCited P B k) ↔ IsCited P (λ r. A r ⊎ B r) k
 either_cited P A B k = (
   λ h. ⊎_elim (λ (q : IsCited P A k). (q.0, q.1, inl q.2)) (λ (q : IsCited P B k). (q.0, q.1, inr q.2)) h,
   λ q. ⊎_elim (λ (a : A q.0). inl (q.0, q.1, a)) (λ (b : B q.0). inr (q.0, q.1, b)) q.2,
