@@ -30,11 +30,11 @@ pub record JudgedUpTo (J : Judging) (o : Opening) (earlier : List Line) (bytes l
   pub sound : AreSoundBehind J o earlier lines
   pub text : bytes ≡ lines_text J.problem J.goal lines ++ left
   pub state : IsStateOf J.problem o (earlier ++ lines) w
-  pub counted : number ≡ header_lines o J.goal + length (earlier ++ lines) + 1
+  pub counted : number ≡ header_lines o J.goal J.counts + length (earlier ++ lines) + 1
 
 pub record JudgedSoFar (J : Judging) (s : Start) (left : List ℕ) (w : State) (number : ℕ) : Type 0 where
   pub few : number + length left ≤ s.first + length s.bytes
-  pub each : (o : Opening) (earlier : List Line) → StandsBehind J.problem J.goal o earlier s → JudgedUpTo J o earlier s.bytes left w number
+  pub each : (o : Opening) (earlier : List Line) → StandsBehind J.problem J.goal J.counts o earlier s → JudgedUpTo J o earlier s.bytes left w number
 
 pub judged_none : (J : Judging) (s : Start) (left : List ℕ) (w : State) (number : ℕ) → left ≡ s.bytes → w ≡ s.walk → number ≡ s.first → JudgedSoFar J s left w number
 judged_none J s left w number e f g = record {
@@ -44,7 +44,7 @@ judged_none J s left w number e f g = record {
     sound = tt;
     text = sym e;
     state = subst (λ ls. IsStateOf J.problem o ls w) (sym (append-nil earlier)) (subst (IsStateOf J.problem o earlier) (sym f) h.state);
-    counted = g ∙ h.counted ∙ ap (λ ls. header_lines o J.goal + length ls + 1) (sym (append-nil earlier));
+    counted = g ∙ h.counted ∙ ap (λ ls. header_lines o J.goal J.counts + length ls + 1) (sym (append-nil earlier));
   };
 }
 

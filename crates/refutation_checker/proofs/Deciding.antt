@@ -1,5 +1,5 @@
 -- A line that fits the problem holds, or has a cause: it can't be without both.
-use Rattle.std.proofs.Common.{◌≡◌, ◌≢◌, ◌⊎◌, ◌==◌, ◌&&◌, ℕ, zero, suc, ◌+◌, ◌*◌, ◌%◌, ◌<◌, ◌≤◌, List, [], ◌∷◌, length, refl, ap, sym, ◌∙◌, subst, arith, inl, inr, Option, Some, None, pos, negsuc, ℤ}
+use Rattle.std.proofs.Common.{◌≡◌, ◌⊎◌, ◌==◌, ◌&&◌, ℕ, zero, suc, ◌+◌, ◌*◌, ◌%◌, ◌<◌, ◌≤◌, List, [], ◌∷◌, length, refl, ap, sym, subst, arith, inl, inr, Option, Some, None, pos, negsuc, ℤ, Bool}
 use Rattle.std.specs.Prelude.{Contains, ◌≤ℤ◌, ◌<ℤ◌, ◌+ℤ◌, ◌*ℤ◌}
 use Rattle.std.specs.List.{AllByRecursion, range_with_len}
 use Rattle.std.proofs.Math.Nat.{mul-le-mul}
@@ -12,17 +12,17 @@ use Rattle.rwsp_terms.specs.declared.data.Weight.{Weight}
 use Rattle.rwsp_terms.specs.declared.data.Rule.{Rule}
 use Rattle.rwsp_terms.specs.declared.data.Rule.TheVariants as TheRules
 use Rattle.rwsp_terms.specs.declared.data.Class.TheVariants.{Shift}
-use Rattle.rwsp_terms.specs.Instance.{Instance, cells, bounds, IsDay, IsSymbol, symbol_numbered}
+use Rattle.rwsp_terms.specs.Instance.{Instance, cells, bounds, symbol_numbered}
 use Rattle.rwsp_terms.specs.Roster.{IsRule}
 use Rattle.rwsp_terms.specs.Rules.{rule_of, Names, IsShort, NamesShortOnly}
 use Rattle.rwsp_terms.specs.Weights.{IsWeight, weight_at}
-use Rattle.rwsp_terms.proofs.Ascending.{Contains-cons, Contains-first, Contains-later, here_from_test, weight_past, weight_first}
+use Rattle.rwsp_terms.proofs.Ascending.{Contains-cons, Contains-first, Contains-later, weight_past, weight_first}
 use Rattle.rwsp_terms.proofs.Elements.{all_to}
 use Rattle.rwsp_model.specs.RuleNumbers.{place_of}
 use Rattle.rwsp_model.proofs.Numbering.{number_at_place, one_number}
 use Rattle.refutation_terms.specs.declared.lines.Line.{Line}
 use Rattle.refutation_terms.specs.declared.lines.Line.TheVariants.{Split, Unfinished, Closing}
-use Rattle.refutation_terms.specs.declared.lines.Leaf.TheVariants.{Window, Day, Few, Words}
+use Rattle.refutation_terms.specs.declared.lines.Leaf.TheVariants.{Words}
 use Rattle.refutation_terms.specs.declared.lines.WordClaim.TheVariants.{Dead, Light}
 use Rattle.refutation_terms.specs.declared.lines.LogRefusal.{LogRefusal}
 use Rattle.refutation_terms.specs.declared.lines.LogRefusal.TheVariants as Refusals
@@ -31,11 +31,10 @@ use Rattle.refutation_terms.specs.FreeWeekends.{free_weekends, is_free_weekend}
 use Rattle.refutation_terms.specs.WordsLeaf.{worth, owed, IsTooLight}
 use Rattle.refutation_terms.specs.Tree.{is_idle}
 use Rattle.refutation_terms.specs.Log.{LineFits, Cites, CitesOnlyNamed, Holds, ListsShortOnly}
-use Rattle.refutation_terms.specs.Ranges.{AreWeightsOf, HasWeight}
 use Rattle.refutation_terms.specs.Escape.{ComesFirst, IsCleanOver, IsHeaviestBy, IsLeastHeaviestBy}
 use Rattle.refutation_terms.specs.Verdict.{IsLeast, IsUnnamed, ListsLong}
 use Rattle.refutation_terms.specs.Leaves.{IsLongIn}
-use Rattle.refutation_terms.proofs.Named.{named-IsRule}
+use Rattle.refutation_terms.proofs.LeafLaws.{leaf_cites_rules}
 use Rattle.refutation_checker.specs.LineVerdicts.{IsSoundLine, LineCause}
 
 -- where no number is the least with a property, none has it
@@ -60,28 +59,9 @@ named_or_not (i ∷ named) k =
       ]
     ]
 
-weighed_is_day : (P : Instance) (y : List Weight) (j x : ℕ) → AllByRecursion (λ e. IsDay P e.day × IsSymbol P e.symbol) y → weight_at y j x ≢ pos 0 → IsDay P j
-weighed_is_day P [] j x h ne = absurd (ne refl)
-weighed_is_day P (e ∷ y) j x h ne =
-    elim (cases_Bool ((e.day == j) && (e.symbol.number == x))) [
-      | inl here ↦ subst (IsDay P) (here_from_test e j x here).0 h.0.0
-      | inr past ↦ weighed_is_day P y j x h.1 (λ z. ne (weight_past e y j x past ∙ z))
-    ]
-
--- the rule of a day that has a weight
-weighed_is_rule : (P : Instance) (y : List Weight) (r : Rule) → AreWeightsOf P y → (j : ℕ) × HasWeight y j × (r ≡ TheRules.Day j) → IsRule P r
-weighed_is_rule P y r own c =
-    subst (IsRule P) (sym c.2) (weighed_is_day P y c.0 c.1.0 (all_to (λ e. IsDay P e.day × IsSymbol P e.symbol) y own.1) c.1.1)
-
-cited_is_rule : (P : Instance) (goal : Option ℕ) (line : Line) (r : Rule) → LineFits P goal line → Cites P line r → IsRule P r
-cited_is_rule P goal (Split p x) r fits c = absurd c
-cited_is_rule P goal (Closing (Window number p len)) r fits c = named-IsRule P (number ∷ []) r c
-cited_is_rule P goal (Closing (Day j x over)) r fits c = subst (IsRule P) (sym c) fits.0
-cited_is_rule P goal (Closing (Words p R (Dead len))) r fits c = named-IsRule P R r c
-cited_is_rule P goal (Closing (Words p R (Light turns reward y))) r fits (inl c) = named-IsRule P R r c
-cited_is_rule P goal (Closing (Words p R (Light turns reward y))) r fits (inr c) = weighed_is_rule P y r fits.3 c
-cited_is_rule P goal (Closing Few) r fits c = absurd c
-cited_is_rule P goal Unfinished r fits c = absurd c
+cited_is_rule : (P : Instance) (goal : Option ℕ) (counts : Bool) (line : Line) (r : Rule) → LineFits P goal counts line → Cites P line r → IsRule P r
+cited_is_rule P goal counts (Closing leaf) r fits c = leaf_cites_rules P goal counts leaf r fits c
+cited_is_rule P goal counts line r fits c = absurd c
 
 pub cited_is_named : (P : Instance) (named : List ℕ) (Cited : Rule → Type 0) (r : Rule) → IsRule P r → ((k : ℕ) → IsUnnamed P named Cited k → ⊥) → Cited r → Names P named r
 cited_is_named P named Cited r is none cites =
@@ -245,24 +225,22 @@ lists_short : (P : Instance) (goal : Option ℕ) (named : List ℕ) (D : Domains
 lists_short P goal named D n (Closing (Words p R claim)) none all = names_short P R (least_number (ListsLong P (Closing (Words p R claim))) (λ k least. none (Refusals.Long n k) (refl, all, least)))
 lists_short P goal named D n line none all = tt
 
-line_holds : (P : Instance) (goal : Option ℕ) (named : List ℕ) (D : Domains) (n : ℕ) (line : Line) → LineFits P goal line → HasNoCause P goal named D n line → CitesOnlyNamed P named line → ListsShortOnly P line → (Holds P goal D line → ⊥) → ⊥
-line_holds P goal named D n (Split p x) fits none all short goes =
+line_holds : (P : Instance) (goal : Option ℕ) (counts : Bool) (named : List ℕ) (D : Domains) (n : ℕ) (line : Line) → LineFits P goal counts line → HasNoCause P goal named D n line → CitesOnlyNamed P named line → ListsShortOnly P line → (Holds P goal D line → ⊥) → ⊥
+line_holds P goal counts named D n (Split p x) fits none all short goes =
     elim (cases_Bool (is_idle P D p x.number)) [ inl idle ↦ none (Refusals.Idle n) (refl, idle) | inr useful ↦ goes useful ]
-line_holds P goal named D n (Closing (Window number p len)) fits none all short goes = none (Refusals.Fails n) (refl, all, tt, goes)
-line_holds P goal named D n (Closing (Day j x over)) fits none all short goes = none (Refusals.Fails n) (refl, all, tt, goes)
-line_holds P goal named D n (Closing (Words p R (Dead len))) fits none all short goes =
+line_holds P goal counts named D n (Closing (Words p R (Dead len))) fits none all short goes =
     goes (λ u long over clean.
     least_word len (IsCleanOver P D p len R) (λ w h. h.long)
     (λ w h first. none (Refusals.Escape n w) (refl, all, short, record { clean = h; least = first }))
     u (record { long = long; over = over; clean = clean }))
-line_holds P goal named D n (Closing (Words p R (Light turns reward y))) fits none all short goes =
+line_holds P goal counts named D n (Closing (Words p R (Light turns reward y))) fits none all short goes =
     goes (too_light P goal D p turns reward R y (all_to IsWeight y fits.3.0.small) (λ w heavy le. none (Refusals.Escape n w) (refl, all, short, (heavy, le))))
-line_holds P goal named D n (Closing Few) fits none all short goes = none (Refusals.Fails n) (refl, all, tt, goes)
-line_holds P goal named D n Unfinished fits none all short goes = none (Refusals.Unfinished n) (refl, refl)
+line_holds P goal counts named D n (Closing leaf) fits none all short goes = none (Refusals.Fails n) (refl, all, tt, goes)
+line_holds P goal counts named D n Unfinished fits none all short goes = none (Refusals.Unfinished n) (refl, refl)
 
-pub line_stands : (P : Instance) (goal : Option ℕ) (named : List ℕ) (D : Domains) (n : ℕ) (line : Line) → LineFits P goal line → HasNoCause P goal named D n line → (IsSoundLine P goal named D line → ⊥) → ⊥
-line_stands P goal named D n line fits none goes =
+pub line_stands : (P : Instance) (goal : Option ℕ) (counts : Bool) (named : List ℕ) (D : Domains) (n : ℕ) (line : Line) → LineFits P goal counts line → HasNoCause P goal named D n line → (IsSoundLine P goal named D line → ⊥) → ⊥
+line_stands P goal counts named D n line fits none goes =
     let all : CitesOnlyNamed P named line = λ r c.
-    cited_is_named P named (Cites P line) r (cited_is_rule P goal line r fits c) (least_number (IsUnnamed P named (Cites P line)) (λ k least. none (Refusals.Unnamed n k) (refl, least))) c in
+    cited_is_named P named (Cites P line) r (cited_is_rule P goal counts line r fits c) (least_number (IsUnnamed P named (Cites P line)) (λ k least. none (Refusals.Unnamed n k) (refl, least))) c in
     let short : ListsShortOnly P line = lists_short P goal named D n line none all in
-    line_holds P goal named D n line fits none all short (λ h. goes (record { named_all = all; short = short; holds = h }))
+    line_holds P goal counts named D n line fits none all short (λ h. goes (record { named_all = all; short = short; holds = h }))

@@ -15,8 +15,8 @@ use Rattle.refutation_terms.specs.Verdict.{Front, Start, Versioned, BeforeTurn, 
 never_ends : (P : Instance) (kind : LogKind) (front : Front) (line : List ℕ) → Cause P kind front line Refusals.Ends → ⊥
 never_ends P kind Start line h = h
 never_ends P kind (Versioned v) line h = h
-never_ends P kind (BeforeTurn R) line h = h
-never_ends P kind (BeforeGoal R) line h = h
+never_ends P kind (BeforeTurn counts R) line h = h
+never_ends P kind (BeforeGoal counts R) line h = h
 never_ends P kind (Reading g) line h = elim h [ inl extra ↦ extra.1 | inr other ↦ other.1 ]
 
 pub refused_at_line : (P : Instance) (kind : LogKind) (text : List ℕ) (why : LogRefusal) → IsRefusedBehindFront P (HasNoCause P kind) (Cause P kind) text why → IsRefused P kind text why

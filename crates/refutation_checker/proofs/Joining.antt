@@ -36,14 +36,14 @@ answers_to J (c ∷ chunks) [] s d e h = absurd (omega (arith, e))
 answers_to J (c ∷ chunks) (a ∷ answers) s d e h = (h 0 (omega arith), answers_to J chunks answers s d (omega (arith, e)) (λ i less. h (suc i) (omega (arith, less))))
 
 -- lines that are sound fit
-fit_from_sound : (J : Judging) (o : Opening) (earlier lines : List Line) → AreSoundBehind J o earlier lines → EachFits J.problem J.goal lines
+fit_from_sound : (J : Judging) (o : Opening) (earlier lines : List Line) → AreSoundBehind J o earlier lines → EachFits J.problem J.goal J.counts lines
 fit_from_sound J o earlier [] h = tt
 fit_from_sound J o earlier (l ∷ lines) h = (h.0.fits, fit_from_sound J o (earlier ++ l ∷ []) lines h.1)
 
 -- what follows a chunk: nothing, or chunks behind its lines, whatever they are
 abbrev pub IsFollowed : Judging → Opening → ℕ → List Line → Start → List ℕ → List Start → Type 0
 IsFollowed J o size earlier c below chunks =
-    ((below ≡ []) × (chunks ≡ [])) ⊎ (EndWithFeed c.bytes × ((lines : List Line) → EachFits J.problem J.goal lines → c.bytes ≡ lines_text J.problem J.goal lines → AreChunks J.problem J.goal o size (earlier ++ lines) below chunks))
+    ((below ≡ []) × (chunks ≡ [])) ⊎ (EndWithFeed c.bytes × ((lines : List Line) → EachFits J.problem J.goal J.counts lines → c.bytes ≡ lines_text J.problem J.goal lines → AreChunks J.problem J.goal J.counts o size (earlier ++ lines) below chunks))
 
 -- a line of a chunk is one of the whole text
 next_in_all : (J : Judging) (o : Opening) (size : ℕ) (earlier : List Line) (c : Start) (below : List ℕ) (chunks : List Start) (front line rest : List ℕ) → IsFollowed J o size earlier c below chunks → c.bytes ≡ front ++ line ++ rest → IsNextLine line rest → IsNextLine line (rest ++ below)
@@ -99,14 +99,14 @@ nothing_below J o size earlier c below whole followed all =
     elim followed [ inl none ↦ none.0 | inr goes ↦ goes.1 all.lines (fit_from_sound J o earlier all.lines all.sound) all.text ]
 
 -- the next chunk begins behind the lines that were judged
-goes_below : (J : Judging) (o : Opening) (size : ℕ) (earlier : List Line) (c d : Start) (below : List ℕ) (chunks : List Start) (whole : Bool) → IsFollowed J o size earlier c below (d ∷ chunks) → (all : AreAllSound J o earlier c.bytes whole) → AreChunks J.problem J.goal o size (earlier ++ all.lines) below (d ∷ chunks)
+goes_below : (J : Judging) (o : Opening) (size : ℕ) (earlier : List Line) (c d : Start) (below : List ℕ) (chunks : List Start) (whole : Bool) → IsFollowed J o size earlier c below (d ∷ chunks) → (all : AreAllSound J o earlier c.bytes whole) → AreChunks J.problem J.goal J.counts o size (earlier ++ all.lines) below (d ∷ chunks)
 goes_below J o size earlier c d below chunks whole followed all =
     elim followed [
       | inl none ↦ absurd (let no : d ∷ chunks ≡ [] = none.1 in cc)
       | inr goes ↦ goes.1 all.lines (fit_from_sound J o earlier all.lines all.sound) all.text
     ]
 
-joined_behind : (J : Judging) (o : Opening) (size : ℕ) (c : Start) (cs : List Start) (answers : List Answer) (earlier : List Line) (bytes : List ℕ) (before : Bool) → AreAnswersTo J (c ∷ cs) answers → AreChunks J.problem J.goal o size earlier bytes (c ∷ cs) → IsJudged J o earlier bytes (joined_from before answers)
+joined_behind : (J : Judging) (o : Opening) (size : ℕ) (c : Start) (cs : List Start) (answers : List Answer) (earlier : List Line) (bytes : List ℕ) (before : Bool) → AreAnswersTo J (c ∷ cs) answers → AreChunks J.problem J.goal J.counts o size earlier bytes (c ∷ cs) → IsJudged J o earlier bytes (joined_from before answers)
 joined_behind J o size c cs [] earlier bytes before are chunks = absurd are
 joined_behind J o size c cs (Err Memory ∷ answers) earlier bytes before are chunks = tt
 joined_behind J o size c cs (Err (Refused why) ∷ answers) earlier bytes before are chunks =
@@ -118,10 +118,10 @@ joined_behind J o size c [] (Ok whole ∷ []) earlier bytes before are chunks =
     subst (λ t. AreAllSound J o earlier t whole) (sym same) all
 joined_behind J o size c (d ∷ cs) (Ok whole ∷ answers) earlier bytes before are chunks =
     let all : AreAllSound J o earlier c.bytes whole = are.0 o earlier chunks.0 in
-    let below : AreChunks J.problem J.goal o size (earlier ++ all.lines) chunks.2 (d ∷ cs) = goes_below J o size earlier c d chunks.2 cs whole chunks.4 all in
+    let below : AreChunks J.problem J.goal J.counts o size (earlier ++ all.lines) chunks.2 (d ∷ cs) = goes_below J o size earlier c d chunks.2 cs whole chunks.4 all in
     judged_through J o earlier all.lines bytes c.bytes chunks.2 (joined_from whole answers) all.sound all.text chunks.3
     (joined_behind J o size d cs answers (earlier ++ all.lines) chunks.2 whole are.1 below)
 
-pub joined : (J : Judging) (o : Opening) (size : ℕ) (chunks : List Start) (answers : List Answer) (earlier : List Line) (bytes : List ℕ) (before : Bool) → AreAnswersTo J chunks answers → AreChunks J.problem J.goal o size earlier bytes chunks → bytes ≢ [] → IsJudged J o earlier bytes (joined_from before answers)
+pub joined : (J : Judging) (o : Opening) (size : ℕ) (chunks : List Start) (answers : List Answer) (earlier : List Line) (bytes : List ℕ) (before : Bool) → AreAnswersTo J chunks answers → AreChunks J.problem J.goal J.counts o size earlier bytes chunks → bytes ≢ [] → IsJudged J o earlier bytes (joined_from before answers)
 joined J o size [] answers earlier bytes before are chunks some = absurd (some chunks)
 joined J o size (c ∷ cs) answers earlier bytes before are chunks some = joined_behind J o size c cs answers earlier bytes before are chunks

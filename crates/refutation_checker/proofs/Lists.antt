@@ -19,8 +19,8 @@ use Rattle.refutation_terms.specs.Ranges.{AreRules}
 use Rattle.refutation_terms.specs.Log.{Cites, CitesOnlyNamed}
 use Rattle.refutation_terms.specs.Verdict.{IsLeast, IsUnnamed}
 use Rattle.refutation_terms.specs.Leaves.{IsLongIn}
-use Rattle.refutation_log.specs.Cited.{IsDayRule, IsWeighedDayRule}
-use Rattle.refutation_log.proofs.Adding.{StandsOn, weighed_steps}
+use Rattle.refutation_log.specs.Cited.{IsDayRule}
+use Rattle.refutation_log.proofs.Adding.{StandsOn, StandsFor}
 use Rattle.refutation_log.proofs.CitedRules.{TellsCited, rule_there}
 use Rattle.refutation_checker.specs.Outside.{IsOutside, HoldsAll, IsLeastOutside, IsLeastUnnamed, lesser}
 
@@ -78,40 +78,46 @@ least_of cited items list i n e rises inside is below gone =
       ],
     )
 
--- the days of the first i weights
-abbrev pub DaysBelow : Instance → List Weight → ℕ → ℕ → Type 0
-DaysBelow P y i k = (m : ℕ) × (m < i) × StandsOn P y m k
+-- what is asked for step by step: the first i steps
+abbrev pub Below : (ℕ → ℕ → Type 0) → ℕ → ℕ → Type 0
+Below Asks i k = (m : ℕ) × (m < i) × Asks m k
 
-same_weight : (a b : Weight) → Some a ≡ Some b → a ≡ b
-same_weight a b e = cc
+pub none_below : (Asks : ℕ → ℕ → Type 0) (list : List ℕ) → IsLeastOutside (Below Asks 0) list None
+none_below Asks list = λ k h. absurd (omega (arith, h.1))
 
-pub no_days : (P : Instance) (y : List Weight) (list : List ℕ) → IsLeastOutside (DaysBelow P y 0) list None
-no_days P y list = λ k h. absurd (omega (arith, h.1))
-
-pub days_more : (P : Instance) (y : List Weight) (i : ℕ) (e : Weight) (list : List ℕ) (a b : Option ℕ) → slice_get y i ≡ Some e → IsLeastOutside (DaysBelow P y i) list a → IsLeastOutside (IsDayRule P e.day) list b → IsLeastOutside (DaysBelow P y (i + 1)) list (lesser a b)
-days_more P y i e list a b is f g =
-    same_outside (λ k. DaysBelow P y i k ⊎ IsDayRule P e.day k) (DaysBelow P y (i + 1)) list (lesser a b)
+pub more_below : (Asks : ℕ → ℕ → Type 0) (i : ℕ) (list : List ℕ) (a b : Option ℕ) → IsLeastOutside (Below Asks i) list a → IsLeastOutside (Asks i) list b → IsLeastOutside (Below Asks (i + 1)) list (lesser a b)
+more_below Asks i list a b f g =
+    same_outside (λ k. Below Asks i k ⊎ Asks i k) (Below Asks (i + 1)) list (lesser a b)
     (λ k. (
       λ h. ⊎_elim
-          (λ (q : DaysBelow P y i k). (q.0, omega (arith, q.1), q.2))
-          (λ (q : IsDayRule P e.day k). (i, omega arith, (e, is, q)))
+          (λ (q : Below Asks i k). (q.0, omega (arith, q.1), q.2))
+          (λ (q : Asks i k). (i, omega arith, q))
           h,
       λ q. elim (cases_lt q.0 i) [
         | inl less ↦ inl (q.0, less, q.2)
-        | inr more ↦
-            let at : q.0 ≡ i = omega (arith, q.1, more) in
-            let there : slice_get y i ≡ Some q.2.0 = subst (λ m. slice_get y m ≡ Some q.2.0) at q.2.1 in
-            let same : q.2.0 ≡ e = same_weight q.2.0 e (sym there ∙ is) in
-            inr (subst (λ (w : Weight). IsDayRule P w.day k) same q.2.2)
+        | inr more ↦ let at : q.0 ≡ i = omega (arith, q.1, more) in inr (subst (λ m. Asks m k) at q.2)
       ],
     ))
-    (lesser_outside (DaysBelow P y i) (IsDayRule P e.day) list a b f g)
+    (lesser_outside (Below Asks i) (Asks i) list a b f g)
 
-pub all_days : (P : Instance) (items y : List Weight) (i : ℕ) (list : List ℕ) (found : Option ℕ) → items ≡ y → i ≡ length items → IsLeastOutside (DaysBelow P items i) list found → IsLeastOutside (IsWeighedDayRule P y) list found
-all_days P items y i list found e all h =
-    subst (λ z. IsLeastOutside (IsWeighedDayRule P z) list found) e
-    (same_outside (DaysBelow P items (length items)) (IsWeighedDayRule P items) list found (λ k. ((weighed_steps P items k).1, (weighed_steps P items k).0))
-    (subst (λ n. IsLeastOutside (DaysBelow P items n) list found) all h))
+pub all_below : (Asks : ℕ → ℕ → Type 0) (A : ℕ → Type 0) (i n : ℕ) (list : List ℕ) (found : Option ℕ) → i ≡ n → ((k : ℕ) → A k ↔ Below Asks n k) → IsLeastOutside (Below Asks i) list found → IsLeastOutside A list found
+all_below Asks A i n list found all same h =
+    same_outside (Below Asks n) A list found (λ k. ((same k).1, (same k).0)) (subst (λ m. IsLeastOutside (Below Asks m) list found) all h)
+
+-- a weight asks for the rule of its day
+pub weight_asks : (P : Instance) (y : List Weight) (i : ℕ) (e : Weight) (list : List ℕ) (found : Option ℕ) → slice_get y i ≡ Some e → IsLeastOutside (IsDayRule P e.day) list found → IsLeastOutside (StandsOn P y i) list found
+weight_asks P y i e list found is h =
+    same_outside (IsDayRule P e.day) (StandsOn P y i) list found
+    (λ k. (λ q. (e, is, q), λ q. subst (λ (w : Weight). IsDayRule P w.day k) (same_Some q.0 e (sym q.1 ∙ is)) q.2)) h
+
+-- a rule asks for its number
+pub rule_asks : (P : Instance) (listed : List Rule) (i n : ℕ) (r : Rule) (list : List ℕ) (found : Option ℕ) → slice_get listed i ≡ Some r → rule_of P n ≡ Some r → IsLeastOutside (λ k. k ≡ n) list found → IsLeastOutside (StandsFor P listed i) list found
+rule_asks P listed i n r list found is number h =
+    same_outside (λ k. k ≡ n) (StandsFor P listed i) list found
+    (λ k. (
+      λ e. (r, is, ap (rule_of P) e ∙ number),
+      λ q. one_number P k n r (q.2 ∙ ap (λ (z : Rule). Some z) (same_Some q.0 r (sym q.1 ∙ is))) number,
+    )) h
 
 -- what the search for a number outside the list says of the rules that are cited, each of which has a number
 pub found_unnamed : (P : Instance) (named : List ℕ) (Cited : Rule → Type 0) (A : ℕ → Type 0) (found : Option ℕ) → ((r : Rule) → Cited r → (k : ℕ) × (rule_of P k ≡ Some r)) → TellsCited P Cited A → IsLeastOutside A named found

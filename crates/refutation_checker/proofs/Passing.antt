@@ -1,5 +1,5 @@
 -- The lines of a log, judged one after the other.
-use Rattle.std.proofs.Common.{◌≡◌, ℕ, suc, ◌+◌, ◌<◌, List, [], ◌∷◌, ◌++◌, length, take, drop, refl, ap, sym, ◌∙◌, subst, arith, Option, Some, None, Result, Ok, Err, inl, inr, false, append_assoc}
+use Rattle.std.proofs.Common.{◌≡◌, ℕ, suc, ◌+◌, ◌<◌, List, [], ◌∷◌, ◌++◌, length, take, drop, refl, ap, sym, ◌∙◌, subst, arith, Option, Some, None, Result, Ok, Err, inl, inr, true, false, append_assoc, Bool}
 use Rattle.std.specs.Prelude.{MatchOption, IfOk, slice_get, Contains, codes}
 use Rattle.std.specs.List.{join_with_byte, flat_map}
 use Rattle.std.specs.Fmt.{decimal}
@@ -25,7 +25,7 @@ use Rattle.refutation_terms.specs.Tree.{IsTree, after_trees, lines_in, opening, 
 use Rattle.refutation_terms.specs.Log.{Log, Fits, LineFits, OpeningFits, OpeningCites, GoalFits, Passes}
 use Rattle.refutation_terms.specs.Ranges.{AreRules}
 use Rattle.refutation_terms.specs.LogText.{raw, line_text, log_text, header_text, turn_text, raw_fields, lines_text}
-use Rattle.refutation_terms.specs.Verdict.{kind_by, BeforeTurn, IsRefused, TurnCause, header_lines}
+use Rattle.refutation_terms.specs.Verdict.{kind_by, BeforeTurn, front_text, IsRefused, TurnCause, header_lines}
 use Rattle.refutation_terms.proofs.LineTables.{fitting_lines_are_spelled}
 use Rattle.refutation_terms.proofs.Trees.{part_is_not_whole, tree_is_whole}
 use Rattle.refutation_log.proofs.HeaderTexts.{turn_visible}
@@ -65,10 +65,15 @@ still_part P o lines w state part =
       | inr e ↦ e
     ]
 
+-- a line that fits the log fits its judge
+pub fits_judge : (J : Judging) (g : Log) (line : Line) → J.goal ≡ g.goal → J.counts ≡ g.counts → LineFits J.problem g.goal g.counts line → LineFits J.problem J.goal J.counts line
+fits_judge J g line goals counting fits =
+    subst (λ (m : Bool). LineFits J.problem J.goal m line) (sym counting) (subst (λ (n : Option ℕ). LineFits J.problem n g.counts line) (sym goals) fits)
+
 -- one line more
 
 pub passed_next : (J : Judging) (g : Log) (i number : ℕ) (line : Line) (w new : State) (answer : Result (Option LogRefusal) AllocError)
-    → IsTree g.lines → LineFits J.problem J.goal line → slice_get g.lines i ≡ Some line → IsPassed J g i w → number ≡ header_lines g.opening J.goal + i + 1
+    → IsTree g.lines → LineFits J.problem J.goal J.counts line → slice_get g.lines i ≡ Some line → IsPassed J g i w → number ≡ header_lines g.opening J.goal J.counts + i + 1
     → IfOk answer (λ found. MatchOption found (PassesNext J w line new) (HasCauseNext J w number line))
     → IfOk answer (λ found. MatchOption found (IsPassed J g (i + 1) new) (IsRefusedAt J g i))
 passed_next J g i number line w new (Ok None) tree fits here before is h =
@@ -119,39 +124,44 @@ refused_at P g i why limits fits tree at =
       rest = lines_text P g.goal (drop (suc i) g.lines);
       sound = at.sound;
       text = lines_cut P g.goal g.lines i at.line at.here ∙ sym (append_assoc (lines_text P g.goal front) bytes (lines_text P g.goal (drop (suc i) g.lines)));
-      is_line = inl (join_with_byte 32 (raw_fields P (raw P g.goal at.line)), body_feedless P g.goal at.line limits fit, refl);
-      cause = refused_next J g.opening front bytes at.line (header_lines g.opening g.goal + i + 1) why (fitting_lines_are_spelled P g.goal at.line (has_names P limits) fit)
-          (no_front g.lines i tree less) (ap (λ n. header_lines g.opening g.goal + n + 1) (sym long)) at.cause;
+      is_line = inl (join_with_byte 32 (raw_fields P (raw P g.goal at.line)), body_feedless P g.goal g.counts at.line limits fit, refl);
+      cause = refused_next J g.opening front bytes at.line (header_lines g.opening g.goal g.counts + i + 1) why (fitting_lines_are_spelled P g.goal g.counts at.line (has_names P limits) fit)
+          (no_front g.lines i tree less) (ap (λ n. header_lines g.opening g.goal g.counts + n + 1) (sym long)) at.cause;
     }
 
-turn_line : (P : Instance) (named : List ℕ) (t : Turn) (rest : List ℕ) (why : LogRefusal) → KeepsLimits P → AreRules P named → OpeningFits P (Turned t) → TurnCause P named (turn_text (name_of P t.x) t.day) why → IsRefused P WithoutGoal (header_text P named (Turned t) None ++ rest) why
-turn_line P named t rest why limits are fits cause =
+-- the header of a log with a turn ends with the line of the turn
+pub turned_text : (P : Instance) (named : List ℕ) (t : Turn) (counts : Bool) → header_text P named (Turned t) None counts ≡ front_text P (BeforeTurn counts named) ++ turn_text (name_of P t.x) t.day
+turned_text P named t false = refl
+turned_text P named t true = refl
+
+turn_line : (P : Instance) (counts : Bool) (named : List ℕ) (t : Turn) (rest : List ℕ) (why : LogRefusal) → KeepsLimits P → AreRules P named → OpeningFits P (Turned t) → TurnCause P counts named (turn_text (name_of P t.x) t.day) why → IsRefused P WithoutGoal (header_text P named (Turned t) None counts ++ rest) why
+turn_line P counts named t rest why limits are fits cause =
     let name = name_of P t.x in
     let words : List (List ℕ) = codes "turn" ∷ name ∷ decimal t.day ∷ [] in
-    refused_at_line P WithoutGoal (header_text P named (Turned t) None ++ rest) why
+    refused_at_line P WithoutGoal (header_text P named (Turned t) None counts ++ rest) why
     (record {
-      front = BeforeTurn named;
+      front = BeforeTurn counts named;
       line = turn_text name t.day;
       rest = rest;
       no_cause = (refl, are);
-      whole = refl;
+      whole = ap (λ h. h ++ rest) (turned_text P named t counts);
       is_line = inl (join_with_byte 32 words, feedless_words words (turn_visible P name t.day (small_from P limits) (name_there P t.x.number limits fits.1) fits.0), refl);
       cause = cause;
     })
 
-turn_fault_refused : (P : Instance) (named : List ℕ) (t : Turn) (rest : List ℕ) (why : LogRefusal) → KeepsLimits P → AreRules P named → OpeningFits P (Turned t) → TurnFault P named t why → IsRefused P WithoutGoal (header_text P named (Turned t) None ++ rest) why
-turn_fault_refused P named t rest (Refusals.Unnamed n k) limits are fits h =
-    turn_line P named t rest (Refusals.Unnamed n k) limits are fits
+turn_fault_refused : (P : Instance) (counts : Bool) (named : List ℕ) (t : Turn) (rest : List ℕ) (why : LogRefusal) → KeepsLimits P → AreRules P named → OpeningFits P (Turned t) → TurnFault P named t why → IsRefused P WithoutGoal (header_text P named (Turned t) None counts ++ rest) why
+turn_fault_refused P counts named t rest (Refusals.Unnamed n k) limits are fits h =
+    turn_line P counts named t rest (Refusals.Unnamed n k) limits are fits
     (h.0, (t.day, t.x, (name_of P t.x, (name_there P t.x.number limits fits.1, fits.0, refl), symbol_named P t.x limits fits.1), h.1))
-turn_fault_refused P named t rest (Refusals.Turn n) limits are fits h =
-    turn_line P named t rest (Refusals.Turn n) limits are fits
+turn_fault_refused P counts named t rest (Refusals.Turn n) limits are fits h =
+    turn_line P counts named t rest (Refusals.Turn n) limits are fits
     (h.0, (t.day, t.x, (name_of P t.x, (name_there P t.x.number limits fits.1, fits.0, refl), symbol_named P t.x limits fits.1), h.1, h.2))
-turn_fault_refused P named t rest why limits are fits h = absurd h
+turn_fault_refused P counts named t rest why limits are fits h = absurd h
 
-pub turn_refused : (P : Instance) (named : List ℕ) (o : Opening) (goal : Option ℕ) (rest : List ℕ) (why : LogRefusal) → KeepsLimits P → AreRules P named → OpeningFits P o → GoalIsInRange P o goal → IsTurnFault P named o why → IsRefused P (kind_by goal) (header_text P named o goal ++ rest) why
-turn_refused P named Full goal rest why limits are fits range h = absurd h
-turn_refused P named (Turned t) None rest why limits are fits range h = turn_fault_refused P named t rest why limits are fits h
-turn_refused P named (Turned t) (Some goal) rest why limits are fits range h = absurd (let e : Turned t ≡ Full = range.0 in cc)
+pub turn_refused : (P : Instance) (named : List ℕ) (o : Opening) (goal : Option ℕ) (counts : Bool) (rest : List ℕ) (why : LogRefusal) → KeepsLimits P → AreRules P named → OpeningFits P o → GoalIsInRange P o goal → IsTurnFault P named o why → IsRefused P (kind_by goal) (header_text P named o goal counts ++ rest) why
+turn_refused P named Full goal counts rest why limits are fits range h = absurd h
+turn_refused P named (Turned t) None counts rest why limits are fits range h = turn_fault_refused P counts named t rest why limits are fits h
+turn_refused P named (Turned t) (Some goal) counts rest why limits are fits range h = absurd (let e : Turned t ≡ Full = range.0 in cc)
 
 -- what the judging of all lines found
 

@@ -1,5 +1,5 @@
 -- No text is without a verdict.
-use Rattle.std.proofs.Common.{◌≡◌, ◌≢◌, ◌⊎◌, ℕ, zero, suc, ◌+◌, ◌<◌, List, [], ◌∷◌, ◌++◌, length, refl, ap, sym, ◌∙◌, subst, append_assoc, arith, inl, inr, true, false, Option, Some, None, pos, negsuc, ℤ, ◌==◌}
+use Rattle.std.proofs.Common.{◌≡◌, ◌≢◌, ◌⊎◌, ℕ, zero, suc, ◌+◌, ◌<◌, List, [], ◌∷◌, ◌++◌, length, refl, ap, sym, ◌∙◌, subst, append_assoc, arith, inl, inr, true, false, Option, Some, None, pos, negsuc, ℤ, ◌==◌, Bool}
 use Rattle.std.specs.Prelude.{Ok, Err, Result, ◌≤ℤ◌, ◌<ℤ◌}
 use Rattle.std.proofs.lemmas.Bool.{cases_Bool, eqb-true, eqb-false}
 use Rattle.std.proofs.lemmas.Int.{ints}
@@ -14,17 +14,17 @@ use Rattle.refutation_terms.specs.declared.lines.Opening.{Opening}
 use Rattle.refutation_terms.specs.declared.lines.Opening.TheVariants.{Full, Turned}
 use Rattle.refutation_terms.specs.declared.lines.Turn.{Turn}
 use Rattle.refutation_terms.specs.declared.lines.LogKind.{LogKind}
-use Rattle.refutation_terms.specs.declared.lines.LogKind.TheVariants.{WithoutGoal}
+use Rattle.refutation_terms.specs.declared.lines.LogKind.TheVariants.{WithoutGoal, WithGoal}
 use Rattle.refutation_terms.specs.declared.lines.Version.{Version}
-use Rattle.refutation_terms.specs.declared.lines.Version.TheVariants.{Version1, Version2, Free1}
+use Rattle.refutation_terms.specs.declared.lines.Version.TheVariants.{Version1, Version2, Version3, Free1, Free2}
 use Rattle.refutation_terms.specs.declared.lines.LogRefusal.{LogRefusal}
 use Rattle.refutation_terms.specs.declared.lines.LogRefusal.TheVariants as Refusals
 use Rattle.refutation_terms.specs.Tree.{IsTree, domains_at}
 use Rattle.refutation_terms.specs.Log.{Log}
 use Rattle.refutation_terms.specs.Ranges.{AreRules}
-use Rattle.refutation_terms.specs.LogText.{RawLine, IsWritten, line_of, raw, line_text, version_text, rules_text, turn_text, goal_text, lines_text}
+use Rattle.refutation_terms.specs.LogText.{RawLine, IsWritten, line_of, raw, line_text, version_text, rules_text, turn_text, no_turn_text, goal_text, header_text, lines_text}
 use Rattle.rwsp_text.specs.Lines.{IsNextLine}
-use Rattle.refutation_terms.specs.Verdict.{kind_of, Start, Versioned, BeforeTurn, BeforeGoal, header_lines, TurnCause, CauseBehind, Spells, SpellsTurn, IsUnnamed, IsVerdict}
+use Rattle.refutation_terms.specs.Verdict.{kind_of, Start, Versioned, BeforeTurn, BeforeGoal, turn_version, goal_version, header_lines, SpellsNoOpening, TurnCause, CauseBehind, Spells, SpellsTurn, IsUnnamed, IsVerdict}
 use Rattle.refutation_terms.proofs.LineTables.{spelled_lines_fit, symbol_of-name}
 use Rattle.refutation_log.specs.Headers.{BeginsWithHeader}
 use Rattle.refutation_log.specs.ReadLog.{HasLogsOf}
@@ -34,6 +34,7 @@ use Rattle.refutation_checker.specs.LineTexts.{Judging, log_of, IsSoundNext}
 use Rattle.refutation_checker.specs.Laws.{TextsHaveAVerdict}
 use Rattle.refutation_checker.proofs.HeaderFaults.{refused_at_line}
 use Rattle.refutation_checker.proofs.Judging.{refused_next}
+use Rattle.refutation_checker.proofs.Passing.{turned_text}
 use Rattle.refutation_checker.proofs.SoundLines.{lines_joined, sound_joined, HasHeader, header_judged, accepted, ends, refused}
 use Rattle.refutation_checker.proofs.Deciding.{least_number, cited_is_named, line_stands}
 
@@ -92,19 +93,19 @@ abbrev Takes : Judging → Opening → List Line → List ℕ → Line → Type 
 Takes J o lines line l = (line ≡ line_text J.problem (raw J.problem J.goal l)) × IsSoundNext J o lines l
 
 -- a line that is refused for no cause is a sound next line
-spelled_stands : (J : Judging) (o : Opening) (lines : List Line) (line : List ℕ) (written : RawLine) → RefusesNone J o lines line → ((l : Line) → Takes J o lines line l → ⊥) → (IsTree lines → ⊥) → IsWritten J.problem J.goal line written → (found : Option Line) → line_of J.problem written ≡ found → ⊥
-spelled_stands J o lines line written none goes part w None e = none (Refusals.Name (header_lines o J.goal + length lines + 1)) (inr (part, (refl, (written, w, e))))
+spelled_stands : (J : Judging) (o : Opening) (lines : List Line) (line : List ℕ) (written : RawLine) → RefusesNone J o lines line → ((l : Line) → Takes J o lines line l → ⊥) → (IsTree lines → ⊥) → IsWritten J.problem J.goal J.counts line written → (found : Option Line) → line_of J.problem written ≡ found → ⊥
+spelled_stands J o lines line written none goes part w None e = none (Refusals.Name (header_lines o J.goal J.counts + length lines + 1)) (inr (part, (refl, (written, w, e))))
 spelled_stands J o lines line written none goes part w (Some l) e =
-    let n = header_lines o J.goal + length lines + 1 in
+    let n = header_lines o J.goal J.counts + length lines + 1 in
     let D = domains_at J.problem o lines (length lines) in
-    let spells : Spells J.problem J.goal line l = (written, w, e) in
-    let fits = spelled_lines_fit J.problem J.goal line l spells in
-    line_stands J.problem J.goal J.named D n l fits.0 (λ why c. none why (refused_next J o lines line l n why spells part refl c))
+    let spells : Spells J.problem J.goal J.counts line l = (written, w, e) in
+    let fits = spelled_lines_fit J.problem J.goal J.counts line l spells in
+    line_stands J.problem J.goal J.counts J.named D n l fits.0 (λ why c. none why (refused_next J o lines line l n why spells part refl c))
     (λ sound. goes l (fits.1, record { in_tree = part; fits = fits.0; sound = sound }))
 
 line_read : (J : Judging) (o : Opening) (lines : List Line) (line : List ℕ) → RefusesNone J o lines line → ((l : Line) → Takes J o lines line l → ⊥) → ⊥
 line_read J o lines line none goes =
-    let n = header_lines o J.goal + length lines + 1 in
+    let n = header_lines o J.goal J.counts + length lines + 1 in
     let part : IsTree lines → ⊥ = λ t. none (Refusals.Extra n) (inl (t, refl)) in
     none (Refusals.Form n) (inr (part, (refl, λ written w. spelled_stands J o lines line written none goes part w (line_of J.problem written) refl)))
 
@@ -132,7 +133,7 @@ lines_on J kind text body o h none (suc n) lines (b ∷ left) few sound e =
     lines_on J kind text body o h none n (lines ++ l ∷ []) next.rest (let less = next.shorter in omega (arith, few, less)) (sound_joined J o [] lines (l ∷ []) sound (takes.1, tt))
     (text_on J.problem J.goal body (b ∷ left) next.line next.rest lines l e next.whole takes.0))
 
-body_on : (J : Judging) (kind : LogKind) (text body : List ℕ) (o : Opening) → HasLogsOf J.problem kind → BeginsWithHeader J.problem kind text J.named o J.goal body → IsSoundTurn J.problem J.named o → HasNoVerdict J.problem kind text → ⊥
+body_on : (J : Judging) (kind : LogKind) (text body : List ℕ) (o : Opening) → HasLogsOf J.problem kind → BeginsWithHeader J.problem kind text J.named o J.goal J.counts body → IsSoundTurn J.problem J.named o → HasNoVerdict J.problem kind text → ⊥
 body_on J kind text body o has begins sound none = lines_on J kind text body o (header_judged J kind text o body has (begins, sound)) none (length body + 1) [] body (omega arith) tt refl
 
 -- the header
@@ -145,11 +146,11 @@ demanded_or_not (negsuc n) = inr (omega (arith, ints))
 abbrev turn_of : ℕ → Symbol → Turn
 turn_of day x = record { day = day; x = x }
 
-abbrev judging : Instance → List ℕ → Option ℕ → Judging
-judging P R goal = record { problem = P; named = R; goal = goal }
+abbrev judging : Instance → List ℕ → Option ℕ → Bool → Judging
+judging P R goal counts = record { problem = P; named = R; goal = goal; counts = counts }
 
-abbrev RefusesTurn : Instance → List ℕ → List ℕ → Type 0
-RefusesTurn P R line = (why : LogRefusal) → TurnCause P R line why → ⊥
+abbrev RefusesTurn : Instance → Bool → List ℕ → List ℕ → Type 0
+RefusesTurn P counts R line = (why : LogRefusal) → TurnCause P counts R line why → ⊥
 
 -- the version and the rules
 abbrev two_lines : Version → List ℕ → List ℕ
@@ -158,9 +159,10 @@ two_lines v R = version_text v ++ rules_text R
 no_turn : (P : Instance) (R : List ℕ) → IsSoundTurn P R Full
 no_turn P R = record { named_day = λ r c. absurd c; allowed = tt }
 
-turn_on : (P : Instance) (kind : LogKind) (text R line rest name : List ℕ) (day : ℕ) → WithoutGoal ≡ kind → HasLogsOf P kind → HasNoVerdict P kind text → RefusesTurn P R line → AreRules P R → text ≡ two_lines Version2 R ++ (line ++ rest) → SpellsTurn P line name day → (found : Option Symbol) → symbol_of P name ≡ found → ⊥
-turn_on P kind text R line rest name day is has none refuses rules whole spells None e = refuses (Refusals.Name 3) (refl, (name, day, spells, e))
-turn_on P kind text R line rest name day is has none refuses rules whole spells (Some x) e =
+turn_on : (P : Instance) (kind : LogKind) (counts : Bool) (text R line rest name : List ℕ) (day : ℕ) → WithoutGoal ≡ kind → HasLogsOf P kind → HasNoVerdict P kind text → RefusesTurn P counts R line → AreRules P R → text ≡ two_lines (turn_version counts) R ++ (line ++ rest) → SpellsTurn P line name day → (found : Option Symbol) → symbol_of P name ≡ found → ⊥
+turn_on P kind counts text R line rest name day is has none refuses rules whole spells None e = refuses (Refusals.Name 3) (refl, (name, day, spells, e))
+turn_on P kind counts text R line rest name day is has none refuses rules whole spells (Some x) e =
+    let front = two_lines (turn_version counts) R in
     let named : Names P R (TheRules.Day day) =
     cited_is_named P R (λ r. r ≡ TheRules.Day day) (TheRules.Day day) spells.1
     (least_number (IsUnnamed P R (λ r. r ≡ TheRules.Day day)) (λ k less. refuses (Refusals.Unnamed 3 k) (refl, (day, x, (name, spells, e), less)))) refl in
@@ -169,39 +171,58 @@ turn_on P kind text R line rest name day is has none refuses rules whole spells 
     elim (demanded_or_not (least P x.number day)) [
       | inr less ↦ refuses (Refusals.Turn 3) (refl, (day, x, (name, spells, e), named, less))
       | inl allowed ↦
-          body_on (judging P R None) kind text rest (Turned (turn_of day x)) has
+          body_on (judging P R None counts) kind text rest (Turned (turn_of day x)) has
           (record {
             of_kind = is;
             rules = rules;
             fits = (spells.1, symbol.0);
             in_range = tt;
-            whole = whole ∙ ap (λ t. two_lines Version2 R ++ (t ++ rest)) own ∙ sym (append_assoc (two_lines Version2 R) (turn_text (name_of P x) day) rest);
+            whole =
+                whole ∙ ap (λ t. front ++ (t ++ rest)) own ∙ sym (append_assoc front (turn_text (name_of P x) day) rest)
+                ∙ ap (λ h. h ++ rest) (sym (turned_text P R (turn_of day x) counts));
           })
           (record { named_day = λ r c. subst (Names P R) (sym c) named; allowed = allowed }) none
     ]
 
-third_on : (P : Instance) (kind : LogKind) (text R rest : List ℕ) (v : Version) → kind_of v ≡ kind → HasLogsOf P kind → HasNoVerdict P kind text → AreRules P R → text ≡ two_lines v R ++ rest → ⊥
-third_on P kind text R rest Version1 is has none rules whole =
-    body_on (judging P R None) kind text rest Full has (record { of_kind = is; rules = rules; fits = tt; in_range = tt; whole = whole }) (no_turn P R) none
-third_on P kind text R [] Version2 is has none rules whole =
-    none (Err Refusals.Ends) (record { front = BeforeTurn R; no_cause = (is, rules); whole = whole ∙ append-nil (two_lines Version2 R); not_whole = λ t. t })
-third_on P kind text R (b ∷ rest) Version2 is has none rules whole =
+-- a line that is refused for no cause is an opening
+opening_on : (P : Instance) (kind : LogKind) (counts : Bool) (text R line rest : List ℕ) → WithoutGoal ≡ kind → HasLogsOf P kind → HasNoVerdict P kind text → RefusesTurn P counts R line → AreRules P R → text ≡ two_lines (turn_version counts) R ++ (line ++ rest) → SpellsNoOpening P counts line
+opening_on P kind false text R line rest is has none refuses rules whole = λ name day spells. turn_on P kind false text R line rest name day is has none refuses rules whole spells (symbol_of P name) refl
+opening_on P kind true text R line rest is has none refuses rules whole = (
+  λ name day spells. turn_on P kind true text R line rest name day is has none refuses rules whole spells (symbol_of P name) refl,
+  λ own.
+      let front = two_lines Version3 R in
+      body_on (judging P R None true) kind text rest Full has
+      (record { of_kind = is; rules = rules; fits = tt; in_range = tt; whole = whole ∙ ap (λ t. front ++ (t ++ rest)) own ∙ sym (append_assoc front no_turn_text rest) })
+      (no_turn P R) none,
+)
+
+before_turn : (P : Instance) (kind : LogKind) (counts : Bool) (text R rest : List ℕ) → WithoutGoal ≡ kind → HasLogsOf P kind → HasNoVerdict P kind text → AreRules P R → text ≡ two_lines (turn_version counts) R ++ rest → ⊥
+before_turn P kind counts text R [] is has none rules whole =
+    none (Err Refusals.Ends) (record { front = BeforeTurn counts R; no_cause = (is, rules); whole = whole ∙ append-nil (two_lines (turn_version counts) R); not_whole = λ t. t })
+before_turn P kind counts text R (b ∷ rest) is has none rules whole =
+    let front = two_lines (turn_version counts) R in
     let next = first_line b rest in
-    let cut : text ≡ two_lines Version2 R ++ (next.line ++ next.rest) = whole ∙ ap (λ t. two_lines Version2 R ++ t) next.whole in
-    let refuses : RefusesTurn P R next.line = λ why c.
+    let cut : text ≡ front ++ (next.line ++ next.rest) = whole ∙ ap (λ t. front ++ t) next.whole in
+    let refuses : RefusesTurn P counts R next.line = λ why c.
     none (Err why)
     (refused_at_line P kind text why
-    (record { front = BeforeTurn R; line = next.line; rest = next.rest; no_cause = (is, rules); whole = cut ∙ sym (append_assoc (two_lines Version2 R) next.line next.rest); is_line = next.is_line; cause = c })) in
-    refuses (Refusals.Form 3) (refl, λ name day spells. turn_on P kind text R next.line next.rest name day is has none refuses rules cut spells (symbol_of P name) refl)
-third_on P kind text R [] Free1 is has none rules whole =
-    none (Err Refusals.Ends) (record { front = BeforeGoal R; no_cause = (is, rules); whole = whole ∙ append-nil (two_lines Free1 R); not_whole = λ t. t })
-third_on P kind text R (b ∷ rest) Free1 is has none rules whole =
-    let front : List ℕ = two_lines Free1 R in
+    (record { front = BeforeTurn counts R; line = next.line; rest = next.rest; no_cause = (is, rules); whole = cut ∙ sym (append_assoc front next.line next.rest); is_line = next.is_line; cause = c })) in
+    refuses (Refusals.Form 3) (refl, opening_on P kind counts text R next.line next.rest is has none refuses rules cut)
+
+goal_header : (P : Instance) (R : List ℕ) (goal : ℕ) (counts : Bool) → header_text P R Full (Some goal) counts ≡ two_lines (goal_version counts) R ++ goal_text goal
+goal_header P R goal false = refl
+goal_header P R goal true = refl
+
+before_goal : (P : Instance) (kind : LogKind) (counts : Bool) (text R rest : List ℕ) → WithGoal ≡ kind → HasLogsOf P kind → HasNoVerdict P kind text → AreRules P R → text ≡ two_lines (goal_version counts) R ++ rest → ⊥
+before_goal P kind counts text R [] is has none rules whole =
+    none (Err Refusals.Ends) (record { front = BeforeGoal counts R; no_cause = (is, rules); whole = whole ∙ append-nil (two_lines (goal_version counts) R); not_whole = λ t. t })
+before_goal P kind counts text R (b ∷ rest) is has none rules whole =
+    let front = two_lines (goal_version counts) R in
     let next = first_line b rest in
     let cut : text ≡ front ++ (next.line ++ next.rest) = whole ∙ ap (λ t. front ++ t) next.whole in
     none (Err (Refusals.Form 3))
     (record {
-      front = BeforeGoal R;
+      front = BeforeGoal counts R;
       line = next.line;
       rest = next.rest;
       no_cause = (is, rules);
@@ -210,17 +231,27 @@ third_on P kind text R (b ∷ rest) Free1 is has none rules whole =
       cause = (
         refl,
         λ goal few own.
-            body_on (judging P R (Some goal)) kind text next.rest Full has
+            body_on (judging P R (Some goal) counts) kind text next.rest Full has
             (record {
               of_kind = is;
               rules = rules;
               fits = tt;
               in_range = (refl, few);
-              whole = cut ∙ ap (λ t. front ++ (t ++ next.rest)) own ∙ sym (append_assoc front (goal_text goal) next.rest);
+              whole =
+                  cut ∙ ap (λ t. front ++ (t ++ next.rest)) own ∙ sym (append_assoc front (goal_text goal) next.rest)
+                  ∙ ap (λ h. h ++ next.rest) (sym (goal_header P R goal counts));
             })
             (no_turn P R) none,
       );
     })
+
+third_on : (P : Instance) (kind : LogKind) (text R rest : List ℕ) (v : Version) → kind_of v ≡ kind → HasLogsOf P kind → HasNoVerdict P kind text → AreRules P R → text ≡ two_lines v R ++ rest → ⊥
+third_on P kind text R rest Version1 is has none rules whole =
+    body_on (judging P R None false) kind text rest Full has (record { of_kind = is; rules = rules; fits = tt; in_range = tt; whole = whole }) (no_turn P R) none
+third_on P kind text R rest Version2 is has none rules whole = before_turn P kind false text R rest is has none rules whole
+third_on P kind text R rest Version3 is has none rules whole = before_turn P kind true text R rest is has none rules whole
+third_on P kind text R rest Free1 is has none rules whole = before_goal P kind false text R rest is has none rules whole
+third_on P kind text R rest Free2 is has none rules whole = before_goal P kind true text R rest is has none rules whole
 
 version_on : (P : Instance) (kind : LogKind) (text rest : List ℕ) (v : Version) → kind_of v ≡ kind → HasLogsOf P kind → HasNoVerdict P kind text → text ≡ version_text v ++ rest → ⊥
 version_on P kind text [] v is has none whole =

@@ -45,11 +45,11 @@ sound_at J o earlier (l ∷ lines) h (suc k) line e =
 
 -- the text begins with the header of a log of this kind that is refused for no cause, and the rest is its body
 pub record HasHeader (J : Judging) (kind : LogKind) (text : List ℕ) (o : Opening) (body : List ℕ) : Type 0 where
-  pub begins : BeginsWithHeader J.problem kind text J.named o J.goal body
+  pub begins : BeginsWithHeader J.problem kind text J.named o J.goal J.counts body
   pub goal_fits : GoalFits J.problem o J.goal
   pub sound : IsSoundTurn J.problem J.named o
 
-pub header_judged : (J : Judging) (kind : LogKind) (text : List ℕ) (o : Opening) (body : List ℕ) → HasLogsOf J.problem kind → BeginsWithHeader J.problem kind text J.named o J.goal body × IsSoundTurn J.problem J.named o → HasHeader J kind text o body
+pub header_judged : (J : Judging) (kind : LogKind) (text : List ℕ) (o : Opening) (body : List ℕ) → HasLogsOf J.problem kind → BeginsWithHeader J.problem kind text J.named o J.goal J.counts body × IsSoundTurn J.problem J.named o → HasHeader J kind text o body
 header_judged J kind text o body has h = record { begins = h.0; goal_fits = goal_fits J.problem kind o J.goal has h.0.of_kind h.0.in_range; sound = h.1 }
 
 -- sound lines behind a header
@@ -76,14 +76,14 @@ passes J kind text body o lines header sound tree =
 -- the bytes of a body behind its header
 text_behind : (J : Judging) (kind : LogKind) (text body more : List ℕ) (o : Opening) (lines : List Line) → HasHeader J kind text o body → body ≡ lines_text J.problem J.goal lines ++ more → text ≡ log_text J.problem (log_of J o lines) ++ more
 text_behind J kind text body more o lines h e =
-    let header = header_text J.problem J.named o J.goal in
+    let header = header_text J.problem J.named o J.goal J.counts in
     h.begins.whole ∙ ap (λ t. header ++ t) e ∙ sym (append_assoc header (lines_text J.problem J.goal lines) more)
 
 text_of_all : (J : Judging) (kind : LogKind) (text body : List ℕ) (o : Opening) (lines : List Line) → HasHeader J kind text o body → body ≡ lines_text J.problem J.goal lines → text ≡ log_text J.problem (log_of J o lines)
-text_of_all J kind text body o lines h e = h.begins.whole ∙ ap (λ t. header_text J.problem J.named o J.goal ++ t) e
+text_of_all J kind text body o lines h e = h.begins.whole ∙ ap (λ t. header_text J.problem J.named o J.goal J.counts ++ t) e
 
 -- the answer to all lines below a header
-pub judged_below : (J : Judging) (o : Opening) (s : Start) (body : List ℕ) (answer : Result Bool (Fail LogRefusal)) → StandsBehind J.problem J.goal o [] s → s.bytes ≡ body → ((o : Opening) → StandsBehind J.problem J.goal o [] s → IsJudged J o [] s.bytes answer) → IsJudged J o [] body answer
+pub judged_below : (J : Judging) (o : Opening) (s : Start) (body : List ℕ) (answer : Result Bool (Fail LogRefusal)) → StandsBehind J.problem J.goal J.counts o [] s → s.bytes ≡ body → ((o : Opening) → StandsBehind J.problem J.goal J.counts o [] s → IsJudged J o [] s.bytes answer) → IsJudged J o [] body answer
 judged_below J o s body answer st e judged = subst (λ b. IsJudged J o [] b answer) e (judged o st)
 
 -- the verdict on the text

@@ -31,40 +31,40 @@ use Rattle.refutation_checker.proofs.Unread.{PassedSoFar, tree_passed}
 -- lines that are spelled
 
 -- the text of a split spells it
-spelled : (P : Instance) (goal : Option ℕ) (bytes : List ℕ) (p : ℕ) (x : Symbol) → KeepsLimits P → IsLineText P goal bytes (Split p x) → Spells P goal bytes (Split p x)
-spelled P goal bytes p x limits h =
-    subst (λ b. Spells P goal b (Split p x)) (sym h.text) (fitting_lines_are_spelled P goal (Split p x) (has_names P limits) h.fits)
+spelled : (P : Instance) (goal : Option ℕ) (counts : Bool) (bytes : List ℕ) (p : ℕ) (x : Symbol) → KeepsLimits P → IsLineText P goal counts bytes (Split p x) → Spells P goal counts bytes (Split p x)
+spelled P goal counts bytes p x limits h =
+    subst (λ b. Spells P goal counts b (Split p x)) (sym h.text) (fitting_lines_are_spelled P goal counts (Split p x) (has_names P limits) h.fits)
 
-same_text : (P : Instance) (goal : Option ℕ) (bytes : List ℕ) (line : Line) (p : ℕ) (x : Symbol) → KeepsLimits P → Spells P goal bytes line → IsLineText P goal bytes (Split p x) → line ≡ Split p x
-same_text P goal bytes line p x limits spells g =
-    let f = spelled_lines_fit P goal bytes line spells in
+same_text : (P : Instance) (goal : Option ℕ) (counts : Bool) (bytes : List ℕ) (line : Line) (p : ℕ) (x : Symbol) → KeepsLimits P → Spells P goal counts bytes line → IsLineText P goal counts bytes (Split p x) → line ≡ Split p x
+same_text P goal counts bytes line p x limits spells g =
+    let f = spelled_lines_fit P goal counts bytes line spells in
     let one : lines_text P goal (line ∷ []) ≡ lines_text P goal (Split p x ∷ []) =
     append-nil (line_text P (raw P goal line)) ∙ sym f.1 ∙ g.text ∙ sym (append-nil (line_text P (raw P goal (Split p x)))) in
-    let same : line ∷ [] ≡ Split p x ∷ [] = one_list P goal (line ∷ []) (Split p x ∷ []) limits (f.0, tt) (g.fits, tt) one in
+    let same : line ∷ [] ≡ Split p x ∷ [] = one_list P goal counts (line ∷ []) (Split p x ∷ []) limits (f.0, tt) (g.fits, tt) one in
     cc
 
-not_refused : (P : Instance) (goal : Option ℕ) (bytes : List ℕ) (p : ℕ) (x : Symbol) (why : LineRefusal) → KeepsLimits P → IsLineText P goal bytes (Split p x) → IsLineRefused P goal bytes why → ⊥
-not_refused P goal bytes p x Form limits h refused = let s = spelled P goal bytes p x limits h in refused s.0 s.1
-not_refused P goal bytes p x Name limits h refused = not_unknown P goal bytes (Split p x) (is_writable P limits) (spelled P goal bytes p x limits h) refused
+not_refused : (P : Instance) (goal : Option ℕ) (counts : Bool) (bytes : List ℕ) (p : ℕ) (x : Symbol) (why : LineRefusal) → KeepsLimits P → IsLineText P goal counts bytes (Split p x) → IsLineRefused P goal counts bytes why → ⊥
+not_refused P goal counts bytes p x Form limits h refused = let s = spelled P goal counts bytes p x limits h in refused s.0 s.1
+not_refused P goal counts bytes p x Name limits h refused = not_unknown P goal counts bytes (Split p x) (is_writable P limits) (spelled P goal counts bytes p x limits h) refused
 
 -- entering splits
 
-pub refused_entry : (P : Instance) (goal : Option ℕ) (u : UnreadSplit) (old new : State) (bytes : List ℕ) (why : LineRefusal) → KeepsLimits P → bytes ≡ u.line → IsLineRefused P goal bytes why → IsEntered P goal u old new false
-refused_entry P goal u old new bytes why limits is refused o lines first p x state text side =
-    absurd (not_refused P goal bytes p x why limits (subst (λ b. IsLineText P goal b (Split p x)) (sym is) text) refused)
+pub refused_entry : (P : Instance) (goal : Option ℕ) (counts : Bool) (u : UnreadSplit) (old new : State) (bytes : List ℕ) (why : LineRefusal) → KeepsLimits P → bytes ≡ u.line → IsLineRefused P goal counts bytes why → IsEntered P goal counts u old new false
+refused_entry P goal counts u old new bytes why limits is refused o lines first p x state text side =
+    absurd (not_refused P goal counts bytes p x why limits (subst (λ b. IsLineText P goal counts b (Split p x)) (sym is) text) refused)
 
-pub no_entry : (P : Instance) (goal : Option ℕ) (u : UnreadSplit) (old new : State) (bytes : List ℕ) (line : Line) → KeepsLimits P → bytes ≡ u.line → Spells P goal bytes line → ((p : ℕ) (x : Symbol) → line ≡ Split p x → ⊥) → IsEntered P goal u old new false
-no_entry P goal u old new bytes line limits is spells other o lines first p x state text side =
-    absurd (other p x (same_text P goal bytes line p x limits spells (subst (λ b. IsLineText P goal b (Split p x)) (sym is) text)))
+pub no_entry : (P : Instance) (goal : Option ℕ) (counts : Bool) (u : UnreadSplit) (old new : State) (bytes : List ℕ) (line : Line) → KeepsLimits P → bytes ≡ u.line → Spells P goal counts bytes line → ((p : ℕ) (x : Symbol) → line ≡ Split p x → ⊥) → IsEntered P goal counts u old new false
+no_entry P goal counts u old new bytes line limits is spells other o lines first p x state text side =
+    absurd (other p x (same_text P goal counts bytes line p x limits spells (subst (λ b. IsLineText P goal counts b (Split p x)) (sym is) text)))
 
 same_split : (p q : ℕ) (x y : Symbol) → Split p x ≡ Split q y → (p ≡ q) × (x ≡ y)
 same_split p q x y e = (let f : p ≡ q = cc in f, let g : x ≡ y = cc in g)
 
-pub entry : (P : Instance) (goal : Option ℕ) (u : UnreadSplit) (old new : State) (bytes : List ℕ) (line : Line) (q : ℕ) (y : Symbol) (in_second entered : Bool) → KeepsLimits P → bytes ≡ u.line → in_second ≡ u.in_second → Spells P goal bytes line → line ≡ Split q y
+pub entry : (P : Instance) (goal : Option ℕ) (counts : Bool) (u : UnreadSplit) (old new : State) (bytes : List ℕ) (line : Line) (q : ℕ) (y : Symbol) (in_second entered : Bool) → KeepsLimits P → bytes ≡ u.line → in_second ≡ u.in_second → Spells P goal counts bytes line → line ≡ Split q y
     → ((R : Instance) (o : Opening) (lines first : List Line) → IsStateOf R o lines old → IsFirstSide in_second first → MatchBool entered (IsStateOf R o (lines ++ Split q y ∷ first) new) (is_idle R (domains_at R o lines (length lines)) q y.number ≡ true))
-    → IsEntered P goal u old new entered
-entry P goal u old new bytes line q y in_second entered limits is side_is spells split goes o lines first p x state text side =
-    let same : line ≡ Split p x = same_text P goal bytes line p x limits spells (subst (λ b. IsLineText P goal b (Split p x)) (sym is) text) in
+    → IsEntered P goal counts u old new entered
+entry P goal counts u old new bytes line q y in_second entered limits is side_is spells split goes o lines first p x state text side =
+    let same : line ≡ Split p x = same_text P goal counts bytes line p x limits spells (subst (λ b. IsLineText P goal counts b (Split p x)) (sym is) text) in
     let parts = same_split q p y x (sym split ∙ same) in
     subst (λ r. MatchBool entered (IsStateOf P o (lines ++ Split r x ∷ first) new) (is_idle P (domains_at P o lines (length lines)) r x.number ≡ true)) parts.0
     (subst (λ (z : Symbol). MatchBool entered (IsStateOf P o (lines ++ Split q z ∷ first) new) (is_idle P (domains_at P o lines (length lines)) q z.number ≡ true)) parts.1
@@ -97,21 +97,21 @@ still_part false n before is some = refl
 
 -- the first splits were entered
 
-pub record IntoUpTo (P : Instance) (goal : Option ℕ) (o : Opening) (lines : List Line) (left : List UnreadSplit) (w : State) : Type 0 where
+pub record IntoUpTo (P : Instance) (goal : Option ℕ) (counts : Bool) (o : Opening) (lines : List Line) (left : List UnreadSplit) (w : State) : Type 0 where
   pub front : List Line
   pub rest : List Line
   pub both : lines ≡ front ++ rest
-  pub inside : EndInside P goal left rest
+  pub inside : EndInside P goal counts left rest
   pub state : IsStateOf P o front w
 
-pub record IntoSoFar (P : Instance) (goal : Option ℕ) (start : State) (before : List UnreadSplit) (i : ℕ) (w : State) : Type 0 where
+pub record IntoSoFar (P : Instance) (goal : Option ℕ) (counts : Bool) (start : State) (before : List UnreadSplit) (i : ℕ) (w : State) : Type 0 where
   pub state : (o : Opening) × (lines : List Line) × IsStateOf P o lines w
   pub part : w.whole ≡ false
-  pub leads : (o : Opening) (lines : List Line) → IsStateOf P o [] start → EndInside P goal before lines → IntoUpTo P goal o lines (drop i before) w
+  pub leads : (o : Opening) (lines : List Line) → IsStateOf P o [] start → EndInside P goal counts before lines → IntoUpTo P goal counts o lines (drop i before) w
 
-pub into_none : (P : Instance) (goal : Option ℕ) (start w : State) (before : List UnreadSplit) → w ≡ start → (o : Opening) × (lines : List Line) × IsStateOf P o lines start → start.whole ≡ false → IntoSoFar P goal start before 0 w
-into_none P goal start w before is state part =
-    subst (IntoSoFar P goal start before 0) (sym is)
+pub into_none : (P : Instance) (goal : Option ℕ) (counts : Bool) (start w : State) (before : List UnreadSplit) → w ≡ start → (o : Opening) × (lines : List Line) × IsStateOf P o lines start → start.whole ≡ false → IntoSoFar P goal counts start before 0 w
+into_none P goal counts start w before is state part =
+    subst (IntoSoFar P goal counts start before 0) (sym is)
     (record {
       state = state;
       part = part;
@@ -123,14 +123,14 @@ left_from before i u less is =
     let next : suc i ≡ i + 1 = omega arith in
     drop-cons before i u less ∙ ap (λ v. v ∷ drop (suc i) before) (sym is) ∙ ap (λ n. u ∷ drop n before) next
 
-pub into_more : (P : Instance) (goal : Option ℕ) (start w w' : State) (before : List UnreadSplit) (i : ℕ) (u : UnreadSplit) → i < length before → u ≡ get_or before i u → IntoSoFar P goal start before i w → (o : Opening) × (lines : List Line) × IsStateOf P o lines w' → w'.whole ≡ false
-    → IsEntered P goal u w w' true → IntoSoFar P goal start before (i + 1) w'
-into_more P goal start w w' before i u less is so state part enters = record {
+pub into_more : (P : Instance) (goal : Option ℕ) (counts : Bool) (start w w' : State) (before : List UnreadSplit) (i : ℕ) (u : UnreadSplit) → i < length before → u ≡ get_or before i u → IntoSoFar P goal counts start before i w → (o : Opening) × (lines : List Line) × IsStateOf P o lines w' → w'.whole ≡ false
+    → IsEntered P goal counts u w w' true → IntoSoFar P goal counts start before (i + 1) w'
+into_more P goal counts start w w' before i u less is so state part enters = record {
   state = state;
   part = part;
   leads = λ o lines st h.
       let up = so.leads o lines st h in
-      let inside : EndInside P goal (u ∷ drop (i + 1) before) up.rest = subst (λ o. EndInside P goal o up.rest) (left_from before i u less is) up.inside in
+      let inside : EndInside P goal counts (u ∷ drop (i + 1) before) up.rest = subst (λ o. EndInside P goal counts o up.rest) (left_from before i u less is) up.inside in
       record {
         front = up.front ++ Split inside.0 inside.1 ∷ inside.2;
         rest = inside.3;
@@ -140,10 +140,10 @@ into_more P goal start w w' before i u less is so state part enters = record {
       };
 }
 
-pub into_idle : (P : Instance) (goal : Option ℕ) (start w w' : State) (before : List UnreadSplit) (i : ℕ) (u : UnreadSplit) → i < length before → u ≡ get_or before i u → IntoSoFar P goal start before i w → IsEntered P goal u w w' false → IsInto P goal start before None
-into_idle P goal start w w' before i u less is so enters o lines st h =
+pub into_idle : (P : Instance) (goal : Option ℕ) (counts : Bool) (start w w' : State) (before : List UnreadSplit) (i : ℕ) (u : UnreadSplit) → i < length before → u ≡ get_or before i u → IntoSoFar P goal counts start before i w → IsEntered P goal counts u w w' false → IsInto P goal counts start before None
+into_idle P goal counts start w w' before i u less is so enters o lines st h =
     let up = so.leads o lines st h in
-    let inside : EndInside P goal (u ∷ drop (i + 1) before) up.rest = subst (λ o. EndInside P goal o up.rest) (left_from before i u less is) up.inside in
+    let inside : EndInside P goal counts (u ∷ drop (i + 1) before) up.rest = subst (λ o. EndInside P goal counts o up.rest) (left_from before i u less is) up.inside in
     record {
       front = up.front;
       p = inside.0;
@@ -153,10 +153,10 @@ into_idle P goal start w w' before i u less is so enters o lines st h =
       idle = enters o up.front inside.2 inside.0 inside.1 up.state inside.5 inside.6;
     }
 
-pub into_all : (P : Instance) (goal : Option ℕ) (start w : State) (before : List UnreadSplit) (i : ℕ) → length before ≤ i → IntoSoFar P goal start before i w → IsInto P goal start before (Some w)
-into_all P goal start w before i all so o lines st h =
+pub into_all : (P : Instance) (goal : Option ℕ) (counts : Bool) (start w : State) (before : List UnreadSplit) (i : ℕ) → length before ≤ i → IntoSoFar P goal counts start before i w → IsInto P goal counts start before (Some w)
+into_all P goal counts start w before i all so o lines st h =
     let up = so.leads o lines st h in
-    let none : up.rest ≡ [] = subst (λ o. EndInside P goal o up.rest) (drop_all i before all) up.inside in
+    let none : up.rest ≡ [] = subst (λ o. EndInside P goal counts o up.rest) (drop_all i before all) up.inside in
     let whole : up.front ≡ lines = sym (up.both ∙ ap (λ ls. up.front ++ ls) none ∙ append-nil up.front) in
     subst (λ ls. IsStateOf P o ls w) whole up.state
 
@@ -173,28 +173,28 @@ idle_in_all P o a b h = record {
   idle = h.idle;
 }
 
-pub passed_tree : (P : Instance) (goal : Option ℕ) (start : State) (before splits after : List UnreadSplit) (all left bytes rest : List ℕ) (count : ℕ) → KeepsLimits P → PassedSoFar P goal before splits all left count → bytes ≢ [] → left ≡ bytes ++ rest → IsNextLine bytes rest
-    → ((earlier : List Line) (l : Line) → EndInside P goal splits earlier → IsLineText P goal bytes l → IsTree (earlier ++ l ∷ [])) → ArePassed P goal start before after all None
-passed_tree P goal start before splits after all left bytes rest count limits so some e next ends o done lines st h fit text =
-    inl (tree_passed P goal before splits all left bytes rest count limits so some e next ends done lines h fit text)
+pub passed_tree : (P : Instance) (goal : Option ℕ) (counts : Bool) (start : State) (before splits after : List UnreadSplit) (all left bytes rest : List ℕ) (count : ℕ) → KeepsLimits P → PassedSoFar P goal counts before splits all left count → bytes ≢ [] → left ≡ bytes ++ rest → IsNextLine bytes rest
+    → ((earlier : List Line) (l : Line) → EndInside P goal counts splits earlier → IsLineText P goal counts bytes l → IsTree (earlier ++ l ∷ [])) → ArePassed P goal counts start before after all None
+passed_tree P goal counts start before splits after all left bytes rest count limits so some e next ends o done lines st h fit text =
+    inl (tree_passed P goal counts before splits all left bytes rest count limits so some e next ends done lines h fit text)
 
-pub passed_idle : (P : Instance) (goal : Option ℕ) (start : State) (before splits after : List UnreadSplit) (all left : List ℕ) (count : ℕ) → PassedSoFar P goal before splits all left count → IsInto P goal start splits None → ArePassed P goal start before after all None
-passed_idle P goal start before splits after all left count so idle o done lines st h fit text =
+pub passed_idle : (P : Instance) (goal : Option ℕ) (counts : Bool) (start : State) (before splits after : List UnreadSplit) (all left : List ℕ) (count : ℕ) → PassedSoFar P goal counts before splits all left count → IsInto P goal counts start splits None → ArePassed P goal counts start before after all None
+passed_idle P goal counts start before splits after all left count so idle o done lines st h fit text =
     let up = so.each done lines h fit text in
     let here = idle_in_all P o (done ++ up.done) up.rest (idle o (done ++ up.done) st up.inside) in
     inr (subst (HasIdleSplit P o) (append_assoc done up.done up.rest ∙ ap (λ ls. done ++ ls) (sym up.both)) here)
 
 -- all lines were passed, but one of the splits that are open behind them is idle
-pub behind_idle : (P : Instance) (goal : Option ℕ) (start : State) (before after : List UnreadSplit) (bytes : List ℕ) (count : ℕ) → ArePassed P goal start before after bytes (Some count) → IsInto P goal start after None → ArePassed P goal start before after bytes None
-behind_idle P goal start before after bytes count passed idle o done lines st h fit text =
+pub behind_idle : (P : Instance) (goal : Option ℕ) (counts : Bool) (start : State) (before after : List UnreadSplit) (bytes : List ℕ) (count : ℕ) → ArePassed P goal counts start before after bytes (Some count) → IsInto P goal counts start after None → ArePassed P goal counts start before after bytes None
+behind_idle P goal counts start before after bytes count passed idle o done lines st h fit text =
     inr (idle o (done ++ lines) st (passed done lines h fit text).1)
 
 -- a chunk was cut off at an end of lines
-pub cut_here : (P : Instance) (goal : Option ℕ) (size : ℕ) (start : State) (before after : List UnreadSplit) (all : Start) (w walk : State) (bytes front back : List ℕ) (first end count : ℕ) → record { walk = w; bytes = bytes; first = first } ≡ all
+pub cut_here : (P : Instance) (goal : Option ℕ) (counts : Bool) (size : ℕ) (start : State) (before after : List UnreadSplit) (all : Start) (w walk : State) (bytes front back : List ℕ) (first end count : ℕ) → record { walk = w; bytes = bytes; first = first } ≡ all
     → front ≡ take end bytes → back ≡ drop end bytes → end ≢ length bytes → end ≤ length bytes → (0 < length bytes → 0 < end) → EndsLines bytes size end → all.bytes ≢ [] → all.first + length all.bytes < 2 ^ 31 → count ≤ length (take end bytes)
-    → (o : Opening) × (lines : List Line) × IsStateOf P o lines walk → ArePassed P goal start before after (take end bytes) (Some count) → IsInto P goal start after (Some walk)
-    → IsCutOff P goal size start before after all (record { walk = w; bytes = front; first = first }) (Some (record { walk = walk; bytes = back; first = first + count }))
-cut_here P goal size start before after all w walk bytes front back first end count view is_front is_back other within some ends more few counted state passed into =
+    → (o : Opening) × (lines : List Line) × IsStateOf P o lines walk → ArePassed P goal counts start before after (take end bytes) (Some count) → IsInto P goal counts start after (Some walk)
+    → IsCutOff P goal counts size start before after all (record { walk = w; bytes = front; first = first }) (Some (record { walk = walk; bytes = back; first = first + count }))
+cut_here P goal counts size start before after all w walk bytes front back first end count view is_front is_back other within some ends more few counted state passed into =
     let same : bytes ≡ all.bytes = ap (λ (s : Start). s.bytes) view in
     let begin : first ≡ all.first = ap (λ (s : Start). s.first) view in
     let one = some_bytes bytes (λ none. more (sym same ∙ none)) in

@@ -45,7 +45,7 @@ IsJudged J o earlier bytes judged =
 -- the answer to a chunk, behind any lines behind which it begins
 abbrev pub IsAnswerTo : Judging → Start → Result Bool (Fail LogRefusal) → Type 0
 IsAnswerTo J chunk answer =
-    (o : Opening) (earlier : List Line) → StandsBehind J.problem J.goal o earlier chunk
+    (o : Opening) (earlier : List Line) → StandsBehind J.problem J.goal J.counts o earlier chunk
     → IsJudged J o earlier chunk.bytes answer
 
 -- the first failure among answers, or else the last answer

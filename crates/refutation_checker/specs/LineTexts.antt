@@ -19,15 +19,16 @@ use Rattle.domain_store.specs.Splits.{is_idle_in}
 use Rattle.domain_store.specs.States.{State, IsStateOf}
 use Rattle.refutation_checker.specs.LineVerdicts.{HoldsByWords, IsSoundLine, LineCause}
 
--- the problem of a judge, the rules that the header names, and the goal of the log if it has one
+-- the problem of a judge, the rules that the header names, the goal of the log if it has one, and whether it may count
 pub record Judging : Type 0 where
   pub problem : Instance
   pub named : List ℕ
   pub goal : Option ℕ
+  pub counts : Bool
 
 -- the log with such a header, this opening and these lines
 abbrev pub log_of : Judging → Opening → List Line → Log
-log_of J o lines = record { named = J.named; opening = o; goal = J.goal; lines = lines }
+log_of J o lines = record { named = J.named; opening = o; goal = J.goal; counts = J.counts; lines = lines }
 
 -- the line has no cause under these domains
 abbrev pub IsSoundUnder : Judging → Domains → Line → Type 0
@@ -54,7 +55,7 @@ TellsLeaf J w leaf told =
 -- the line behind these is refused for no cause
 pub record IsSoundNext (J : Judging) (o : Opening) (lines : List Line) (line : Line) : Type 0 where
   pub in_tree : IsTree lines → ⊥
-  pub fits : LineFits J.problem J.goal line
+  pub fits : LineFits J.problem J.goal J.counts line
   pub sound : IsSoundUnder J (domains_at J.problem o lines (length lines)) line
 
 -- the bytes are the text of such a line, which is this one, and the walk has read it
@@ -74,7 +75,7 @@ ReadsNext J old bytes new line =
 abbrev pub RefusesNext : Judging → State → List ℕ → ℕ → LogRefusal → Type 0
 RefusesNext J old bytes n why =
     (o : Opening) (lines : List Line) → IsStateOf J.problem o lines old
-    → n ≡ header_lines o J.goal + length lines + 1
+    → n ≡ header_lines o J.goal J.counts + length lines + 1
     → CauseBehind J.problem (log_of J o lines) bytes why
 
 -- whatever lines it had read, this line has no cause there, and the walk has read it too

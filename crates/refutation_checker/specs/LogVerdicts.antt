@@ -12,7 +12,7 @@ use Rattle.refutation_checker.specs.ChunkVerdicts.{AreSoundBehind}
 
 -- what the lines of a log are judged by
 abbrev pub judging_of : Instance → Log → Judging
-judging_of P g = record { problem = P; named = g.named; goal = g.goal }
+judging_of P g = record { problem = P; named = g.named; goal = g.goal; counts = g.counts }
 
 -- the first i lines have no cause
 abbrev pub AreSoundTo : Judging → Log → ℕ → Type 0
@@ -29,7 +29,7 @@ pub record IsRefusedAt (J : Judging) (g : Log) (i : ℕ) (why : LogRefusal) : Ty
   pub here : slice_get g.lines i ≡ Some line
   pub sound : AreSoundTo J g i
   pub cause : HasCause J (domains_at J.problem g.opening (take i g.lines) (length (take i g.lines)))
-      (header_lines g.opening J.goal + i + 1) line why
+      (header_lines g.opening J.goal J.counts + i + 1) line why
 
 -- what was found in the tree of a log: nothing, or the first line that has a cause
 abbrev pub IsTreeJudged : Instance → Log → Option LogRefusal → Type 0

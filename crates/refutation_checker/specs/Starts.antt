@@ -1,5 +1,5 @@
 -- Where some lines of a log begin.
-use Rattle.std.specs.Prelude.{◌≡◌, ℕ, ◌+◌, List, length, Option}
+use Rattle.std.specs.Prelude.{◌≡◌, ℕ, ◌+◌, List, length, Bool, Option}
 use Rattle.rwsp_terms.specs.Instance.{Instance}
 use Rattle.refutation_terms.specs.declared.lines.Line.{Line}
 use Rattle.refutation_terms.specs.declared.lines.Opening.{Opening}
@@ -12,8 +12,8 @@ pub record Start : Type 0 where
   pub bytes : List ℕ
   pub first : ℕ
 
--- the walk and the number are those behind these lines of a log with this goal or none
-pub record StandsBehind (P : Instance) (goal : Option ℕ) (o : Opening) (earlier : List Line)
+-- the walk and the number are those behind these lines of a log with this goal or none, which may count or not
+pub record StandsBehind (P : Instance) (goal : Option ℕ) (counts : Bool) (o : Opening) (earlier : List Line)
     (s : Start) : Type 0 where
   pub state : IsStateOf P o earlier s.walk
-  pub counted : s.first ≡ header_lines o goal + length earlier + 1
+  pub counted : s.first ≡ header_lines o goal counts + length earlier + 1

@@ -19,7 +19,7 @@ use crate::text_chunk::Chunk;
 use crate::unread_splits::{UnreadSplit, pass_line};
 use domain_store::Walk;
 use refutation_log::{LineReader, read_line};
-use refutation_terms::Line;
+use refutation_terms::{Line, Terms};
 use rwsp_model::{Fail, Problem};
 use rwsp_terms::Symbol;
 use rwsp_terms::limits::{MOST_CELLS, MOST_SHIFTS};
@@ -63,7 +63,7 @@ fn split_of(line: &Line) -> Option<(u32, Symbol)>
 fn enter(
     alloc: Global,
     problem: &Problem,
-    goal: Option<u32>,
+    terms: Terms,
     walk: &mut Walk,
     split: &UnreadSplit,
 ) -> Result<bool, AllocError>
@@ -72,11 +72,11 @@ fn enter(
     ensures part { IfOk result (λ entered. entered ≡ true → walk.new.whole ≡ false) }
     ensures state { IfOk result (λ entered. entered ≡ true →
         (o : Opening) × (lines : List TheLine) × IsStateOf problem.now o lines walk.new) }
-    ensures entered { IfOk result (IsEntered problem.now goal split.now walk.old walk.new) }
+    ensures entered { IfOk result (IsEntered problem.now terms.goal terms.counts split.now walk.old walk.new) }
 {
     problem.prove_limits();
     walk.domains().prove_facts();
-    let line = match read_line(alloc, problem, goal, split.line) {
+    let line = match read_line(alloc, problem, terms, split.line) {
         Ok(line) => line,
         Err(Fail::Memory) => return Err(AllocError),
         Err(Fail::Refused(_)) => return Ok(false),
@@ -94,7 +94,7 @@ fn enter(
 fn walk_into(
     alloc: Global,
     problem: &Problem,
-    goal: Option<u32>,
+    terms: Terms,
     start: &Walk,
     splits: &[UnreadSplit],
 ) -> Result<Option<Walk>, AllocError>
@@ -102,11 +102,11 @@ fn walk_into(
     requires part { start.now.whole ≡ false }
     ensures state { IfOk result (λ found. IfSome found (λ walk.
         (o : Opening) × (lines : List TheLine) × IsStateOf problem.now o lines walk)) }
-    ensures into { IfOk result (IsInto problem.now goal start.now splits.now) }
+    ensures into { IfOk result (IsInto problem.now terms.goal terms.counts start.now splits.now) }
 {
     let mut walk = start.copy()?;
     for split in splits {
-        if !enter(alloc, problem, goal, &mut walk, split)? {
+        if !enter(alloc, problem, terms, &mut walk, split)? {
             return Ok(None);
         }
     }
@@ -117,18 +117,18 @@ fn walk_into(
 fn are_too_many(
     alloc: Global,
     problem: &Problem,
-    goal: Option<u32>,
+    terms: Terms,
     start: &Walk,
     splits: &[UnreadSplit],
 ) -> Result<bool, AllocError>
     requires state { (o : Opening) × (lines : List TheLine) × IsStateOf problem.now o lines start.now }
     requires part { start.now.whole ≡ false }
-    ensures { IfOk result (λ many. many ≡ true → IsInto problem.now goal start.now splits.now None) }
+    ensures { IfOk result (λ many. many ≡ true → IsInto problem.now terms.goal terms.counts start.now splits.now None) }
 {
     if splits.len() <= MOST_OPEN {
         return Ok(false);
     }
-    let found = walk_into(alloc, problem, goal, start, splits)?;
+    let found = walk_into(alloc, problem, terms, start, splits)?;
     Ok(found.is_none())
 }
 
@@ -137,7 +137,7 @@ fn are_too_many(
 fn pass_lines<'a>(
     alloc: Global,
     problem: &Problem,
-    goal: Option<u32>,
+    terms: Terms,
     start: &Walk,
     splits: &mut Vec<UnreadSplit<'a>>,
     bytes: &'a [u8],
@@ -146,7 +146,8 @@ fn pass_lines<'a>(
     requires part { start.now.whole ≡ false }
     requires few { length bytes.now < 2 ^ 31 }
     ensures few { IfOk result (λ passed. IfSome passed (λ count. count ≤ length bytes.now)) }
-    ensures passed { IfOk result (ArePassed problem.now goal start.now splits.old.items splits.new.items bytes.now) }
+    ensures passed { IfOk result
+        (ArePassed problem.now terms.goal terms.counts start.now splits.old.items splits.new.items bytes.now) }
 {
     problem.prove_limits();
     let mut reader = LineReader::new(bytes);
@@ -155,7 +156,7 @@ fn pass_lines<'a>(
         if !pass_line(splits, line)? {
             return Ok(None);
         }
-        if are_too_many(alloc, problem, goal, start, splits)? {
+        if are_too_many(alloc, problem, terms, start, splits)? {
             return Ok(None);
         }
         count += 1;
@@ -168,7 +169,7 @@ fn pass_lines<'a>(
 fn walk_behind<'a>(
     alloc: Global,
     problem: &Problem,
-    goal: Option<u32>,
+    terms: Terms,
     start: &Walk,
     splits: &mut Vec<UnreadSplit<'a>>,
     bytes: &'a [u8],
@@ -179,12 +180,13 @@ fn walk_behind<'a>(
     ensures few { IfOk result (λ found. IfSome found (λ next. next.0 ≤ length bytes.now)) }
     ensures state { IfOk result (λ found. IfSome found (λ next.
         (o : Opening) × (lines : List TheLine) × IsStateOf problem.now o lines next.1)) }
-    ensures behind { IfOk result (IsBehind problem.now goal start.now splits.old.items splits.new.items bytes.now) }
+    ensures behind { IfOk result
+        (IsBehind problem.now terms.goal terms.counts start.now splits.old.items splits.new.items bytes.now) }
 {
-    let Some(count) = pass_lines(alloc, problem, goal, start, splits, bytes)? else {
+    let Some(count) = pass_lines(alloc, problem, terms, start, splits, bytes)? else {
         return Ok(None);
     };
-    match walk_into(alloc, problem, goal, start, splits)? {
+    match walk_into(alloc, problem, terms, start, splits)? {
         Some(walk) => Ok(Some((count, walk))),
         None => Ok(None),
     }
@@ -194,7 +196,7 @@ fn walk_behind<'a>(
 // the chunk has all lines.
 fn cut_off<'a>(
     problem: &Problem,
-    goal: Option<u32>,
+    terms: Terms,
     start: &Walk,
     splits: &mut Vec<UnreadSplit<'a>>,
     all: Chunk<'a>,
@@ -206,7 +208,8 @@ fn cut_off<'a>(
     requires some { all.bytes ≢ [] }
     requires size { 1 ≤ size }
     ensures { IfOk result
-        (λ cut. IsCutOff problem.now goal size start.now splits.old.items splits.new.items all.entry cut.0 cut.1) }
+        (λ cut. IsCutOff problem.now terms.goal terms.counts size start.now splits.old.items splits.new.items
+        all.entry cut.0 cut.1) }
 {
     let bytes = all.bytes;
     let end = lines_end(bytes, size);
@@ -214,7 +217,7 @@ fn cut_off<'a>(
         return Ok((all, None));
     }
     let alloc = *splits.allocator();
-    match walk_behind(alloc, problem, goal, start, splits, &bytes[..end])? {
+    match walk_behind(alloc, problem, terms, start, splits, &bytes[..end])? {
         None => Ok((all, None)),
         Some((count, walk)) => {
             let (lines, below) = bytes.split_at(end);
@@ -252,7 +255,7 @@ fn numbered(chunk: Chunk, number: u32) -> Chunk
 fn chunks_of<'a>(
     alloc: Global,
     problem: &Problem,
-    goal: Option<u32>,
+    terms: Terms,
     start: &Walk,
     all: Chunk<'a>,
     size: usize,
@@ -262,7 +265,7 @@ fn chunks_of<'a>(
     requires part { all.walk.whole ≡ false }
     requires some { all.bytes ≢ [] }
     requires size { 1 ≤ size }
-    ensures chunks { IfOk result (λ v. AreAllChunks problem.now goal size all.entry v.items) }
+    ensures chunks { IfOk result (λ v. AreAllChunks problem.now terms.goal terms.counts size all.entry v.items) }
     ensures each { IfOk result (λ v. All (IsJudgeable problem.now) v.items) }
     ensures few { IfOk result (λ v. IsFew (length v.items) size all.entry.bytes) }
 {
@@ -271,7 +274,7 @@ fn chunks_of<'a>(
     let mut rest = Some(all);
     while let Some(lines) = rest {
         let number = chunks.len() as u32 + 1;
-        let (chunk, below) = cut_off(problem, goal, start, &mut splits, lines, size)?;
+        let (chunk, below) = cut_off(problem, terms, start, &mut splits, lines, size)?;
         chunks.push(numbered(chunk, number))?;
         rest = below;
     }
@@ -283,7 +286,7 @@ fn chunks_of<'a>(
 pub fn chunks_for<'a>(
     alloc: Global,
     problem: &Problem,
-    goal: Option<u32>,
+    terms: Terms,
     all: Chunk<'a>,
     workers: u32,
 ) -> Result<Vec<Chunk<'a>>, AllocError>
@@ -292,11 +295,12 @@ pub fn chunks_for<'a>(
     requires some { all.bytes ≢ [] }
     requires workers { 1 ≤ workers }
     ensures chunks { IfOk result (λ v.
-        AreAllChunks problem.now goal (div_ceil (line_count all.entry.bytes) workers) all.entry v.items) }
+        AreAllChunks problem.now terms.goal terms.counts (div_ceil (line_count all.entry.bytes) workers)
+        all.entry v.items) }
     ensures each { IfOk result (λ v. All (IsJudgeable problem.now) v.items) }
     ensures few { IfOk result (λ v. length v.items ≤ workers) }
 {
     let size = count_lines(all.bytes).div_ceil(workers as usize);
     let start = all.walk.copy()?;
-    chunks_of(alloc, problem, goal, &start, all, size)
+    chunks_of(alloc, problem, terms, &start, all, size)
 }

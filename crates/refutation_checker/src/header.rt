@@ -18,7 +18,7 @@ pub fn judge_header<'a>(
     bytes: &'a [u8],
 ) -> Result<Header<'a>, Fail<LogRefusal>>
     ensures { MatchAnswer result
-        (λ h. BeginsWithHeader problem.now kind bytes.now h.named h.opening h.goal h.body.now
+        (λ h. BeginsWithHeader problem.now kind bytes.now h.named h.opening h.goal h.counts h.body.now
         × IsSoundTurn problem.now h.named h.opening)
         (IsRefused problem.now kind bytes.now) }
 {

@@ -17,19 +17,19 @@ use crate::word_leaves::{escape_of, list_of};
 use clean_words::{Automaton, TailRules};
 use domain_store::{Domains, Walk};
 use refutation_log::{LineRefusal, read_line};
-use refutation_terms::{Leaf, Line, LogRefusal, WordClaim};
+use refutation_terms::{Leaf, Line, LogRefusal, Terms, WordClaim};
 use rwsp_model::{Fail, Problem};
 use rwsp_terms::{RuleList, Word};
 use std::alloc::{AllocError, Global};
 use std::marker::Model;
 
-/// What lines are judged by: the problem, the rules that the header of their log names, and the goal of the log if it
-/// has one.
+/// What lines are judged by: the problem, the rules that the header of their log names, and what the lines of the log
+/// may be.
 #[derive(Drop)]
 pub struct Judging<'a> {
     pub problem: &'a Problem,
     pub named: &'a RuleList,
-    pub goal: Option<u32>,
+    pub terms: Terms,
 }
 
 impl<'a> Model for Judging<'a> {
@@ -39,18 +39,23 @@ impl<'a> Model for Judging<'a> {
 
     ghost Value = { Judging };
 
-    ghost view = { λ j. record { problem = j.problem.now; named = j.named.now; goal = j.goal } };
+    ghost view = { λ j. record {
+      problem = j.problem.now;
+      named = j.named.now;
+      goal = j.terms.goal;
+      counts = j.terms.counts;
+    } };
 
-    ghost invariant = { λ j. GoalFits j.problem.now Full j.goal };
+    ghost invariant = { λ j. GoalFits j.problem.now Full j.terms.goal };
 }
 
-/// Judges lines of a log with a goal or none, under the rules that its header names. What was made for the list of a
+/// Judges lines of a log of these terms, under the rules that its header names. What was made for the list of a
 /// line serves the next lines with the same list: tail rules at once, and the automaton where it was needed.
 #[derive(Drop)]
 pub struct Judge<'a> {
     problem: &'a Problem,
     named: &'a RuleList,
-    goal: Option<u32>,
+    terms: Terms,
     tails: Option<TailRules>,
     automaton: Option<Automaton>,
 }
@@ -63,10 +68,15 @@ impl<'a> Model for Judge<'a> {
 
     ghost Value = { Judging };
 
-    ghost view = { λ j. record { problem = j.problem.now; named = j.named.now; goal = j.goal } };
+    ghost view = { λ j. record {
+      problem = j.problem.now;
+      named = j.named.now;
+      goal = j.terms.goal;
+      counts = j.terms.counts;
+    } };
 
     ghost invariant = { λ j. IfSome j.tails (λ tails. tails.problem ≡ j.problem.now)
-        × GoalFits j.problem.now Full j.goal
+        × GoalFits j.problem.now Full j.terms.goal
         × IfSome j.automaton (λ automaton. automaton.problem ≡ j.problem.now) };
 }
 
@@ -78,7 +88,7 @@ impl<'a> Judge<'a> {
         Judge {
             problem: judging.problem,
             named: judging.named,
-            goal: judging.goal,
+            terms: judging.terms,
             tails: None,
             automaton: None,
         }
@@ -103,7 +113,7 @@ impl<'a> Judge<'a> {
         if walk.is_whole() {
             return Err(Fail::Refused(LogRefusal::Extra(number)));
         }
-        let line = match read_line(alloc, self.problem, self.goal, bytes) {
+        let line = match read_line(alloc, self.problem, self.terms, bytes) {
             Ok(line) => line,
             Err(Fail::Memory) => return Err(Fail::Memory),
             Err(Fail::Refused(why)) => return Err(Fail::Refused(spelling_refusal(why, number))),
@@ -132,7 +142,7 @@ impl<'a> Judge<'a> {
     ) -> Result<Option<LogRefusal>, AllocError>
         requires state { (o : Opening) × (lines : List Line) × IsStateOf self.old.problem o lines walk.old }
         requires part { walk.old.whole ≡ false }
-        requires line { LineFits self.old.problem self.old.goal line.now }
+        requires line { LineFits self.old.problem self.old.goal self.old.counts line.now }
         ensures same { self.new ≡ self.old }
         ensures passed { IfOk result (λ found. MatchOption found
             (PassesNext self.old walk.old line.now walk.new)
@@ -156,13 +166,13 @@ impl<'a> Judge<'a> {
         number: u32,
     ) -> Result<Option<LogRefusal>, AllocError>
         requires domains { BelongsTo self.old.problem doms.now }
-        requires line { LineFits self.old.problem self.old.goal line.now }
+        requires line { LineFits self.old.problem self.old.goal self.old.counts line.now }
         ensures same { self.new ≡ self.old }
         ensures cause { IfOk result (λ found. MatchOption found
             (IsSoundUnder self.old (has_domain doms.now) line.now)
             (HasCause self.old (has_domain doms.now) number line.now)) }
     {
-        if let Some(why) = plain_refusal(self.problem, self.named, self.goal, doms, line, number) {
+        if let Some(why) = plain_refusal(self.problem, self.named, self.terms, doms, line, number) {
             return Ok(Some(why));
         }
         match self.leaf_escape(alloc, doms, line)? {
@@ -179,7 +189,7 @@ impl<'a> Judge<'a> {
         line: &Line,
     ) -> Result<Option<Word>, AllocError>
         requires domains { BelongsTo self.old.problem doms.now }
-        requires line { LineFits self.old.problem self.old.goal line.now }
+        requires line { LineFits self.old.problem self.old.goal self.old.counts line.now }
         requires short { ListsShortOnly self.old.problem line.now }
         ensures same { self.new ≡ self.old }
         ensures escape { IfOk result (λ found. MatchOption found
@@ -193,7 +203,7 @@ impl<'a> Judge<'a> {
             return Ok(None);
         }
         let automaton = automaton_of(alloc, self.problem, self.automaton.take(), list)?;
-        let found = escape_of(alloc, &automaton, doms, self.goal, line);
+        let found = escape_of(alloc, &automaton, doms, self.terms, line);
         self.keep(automaton);
         found
     }
@@ -207,7 +217,7 @@ impl<'a> Judge<'a> {
         line: &Line,
     ) -> Result<bool, AllocError>
         requires domains { BelongsTo self.old.problem doms.now }
-        requires line { LineFits self.old.problem self.old.goal line.now }
+        requires line { LineFits self.old.problem self.old.goal self.old.counts line.now }
         requires short { ListsShortOnly self.old.problem line.now }
         ensures same { self.new ≡ self.old }
         ensures plain { IfOk result (λ plain. IsTrue plain

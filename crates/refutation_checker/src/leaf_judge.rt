@@ -1,5 +1,5 @@
 // Single lines of a log whose other lines are known to hold.
-ghost use Rattle.std.specs.Prelude.{◌≡◌, ◌∷◌, [], ◌++◌, ℕ, List, length, Option, false, IfOk};
+ghost use Rattle.std.specs.Prelude.{◌≡◌, ◌∷◌, [], ◌++◌, ℕ, List, length, Bool, Option, false, IfOk};
 ghost use Rattle.refutation_terms.specs.declared.lines.Line.{Line};
 ghost use Rattle.refutation_terms.specs.declared.lines.Opening.{Opening};
 ghost use Rattle.refutation_terms.specs.declared.lines.Opening.TheVariants.{Full};
@@ -11,13 +11,13 @@ ghost use Rattle.refutation_checker.specs.LineTexts.{TellsLeaf};
 use crate::judge::{Judge, Judging};
 use crate::line_walk::step;
 use domain_store::Walk;
-use refutation_terms::Line;
+use refutation_terms::{Line, Terms};
 use rwsp_model::Problem;
 use rwsp_terms::RuleList;
 use std::alloc::{AllocError, Global};
 use std::marker::Model;
 
-/// Judges leaves of words apart from the other lines of their log, which has a goal or none. What was made for the list
+/// Judges leaves of words apart from the other lines of their log, which is of some terms. What was made for the list
 /// of one leaf serves the next leaves with the same list.
 #[derive(Drop)]
 pub struct LeafJudge<'a> {
@@ -37,15 +37,16 @@ impl<'a> Model for LeafJudge<'a> {
 }
 
 impl<'a> LeafJudge<'a> {
-    /// A judge of leaves of a log for this problem that names these rules, with this goal or none.
-    pub fn new(problem: &'a Problem, named: &'a RuleList, goal: Option<u32>) -> LeafJudge<'a>
-        requires { GoalFits problem.now Full goal }
-        ensures { result ≡ record { problem = problem.now; named = named.now; goal = goal } }
+    /// A judge of leaves of a log for this problem that names these rules, of these terms.
+    pub fn new(problem: &'a Problem, named: &'a RuleList, terms: Terms) -> LeafJudge<'a>
+        requires { GoalFits problem.now Full terms.goal }
+        ensures { result
+            ≡ record { problem = problem.now; named = named.now; goal = terms.goal; counts = terms.counts } }
     {
         let judging = Judging {
             problem,
             named,
-            goal,
+            terms,
         };
         let judge = Judge::new(&judging);
         drop(judging);
@@ -56,7 +57,7 @@ impl<'a> LeafJudge<'a> {
     /// this says nothing.
     pub fn holds(&mut self, alloc: Global, walk: &Walk, leaf: &Line) -> Result<bool, AllocError>
         requires state { (o : Opening) × (lines : List Line) × IsStateOf self.old.problem o lines walk.now }
-        requires fits { LineFits self.old.problem self.old.goal leaf.now }
+        requires fits { LineFits self.old.problem self.old.goal self.old.counts leaf.now }
         requires short { ListsShortOnly self.old.problem leaf.now }
         ensures same { self.new ≡ self.old }
         ensures holds { IfOk result (TellsLeaf self.old walk.now leaf.now) }
@@ -71,7 +72,7 @@ impl<'a> LeafJudge<'a> {
 /// The walk reads a line that is known to hold there, which isn't judged.
 pub fn go_past(walk: &mut Walk, problem: &Problem, line: &Line) -> Result<(), AllocError>
     requires part { walk.old.whole ≡ false }
-    requires holds { (goal : Option ℕ) × LineFits problem.now goal line.now
+    requires holds { (goal : Option ℕ) × (counts : Bool) × LineFits problem.now goal counts line.now
         × ((o : Opening) × (lines : List Line) × IsStateOf problem.now o lines walk.old
         × Holds problem.now goal (domains_at problem.now o lines (length lines)) line.now) }
     ensures { IfOk result (λ _. (o : Opening) (lines : List Line) →

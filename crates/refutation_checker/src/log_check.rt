@@ -62,7 +62,7 @@ fn tree_refusal(
     let judging = Judging {
         problem,
         named: log.named(),
-        goal: log.goal(),
+        terms: log.terms(),
     };
     let mut judge = Judge::new(&judging);
     drop(judging);
@@ -83,6 +83,7 @@ fn first_refusal(
     requires count { count ≤ length log.now.lines }
     requires fits { Fits judge.old.problem log.now }
     requires goal { judge.old.goal ≡ log.now.goal }
+    requires counts { judge.old.counts ≡ log.now.counts }
     requires before { IsPassed judge.old log.now 0 walk.old }
     ensures { IfOk result (λ found. MatchOption found
         (AreSoundTo judge.old log.now count)
@@ -107,6 +108,7 @@ fn pass_at(
     requires place { i < length log.now.lines }
     requires fits { Fits judge.old.problem log.now }
     requires goal { judge.old.goal ≡ log.now.goal }
+    requires counts { judge.old.counts ≡ log.now.counts }
     requires before { IsPassed judge.old log.now i walk.old }
     ensures same { judge.new ≡ judge.old }
     ensures passed { IfOk result (λ found. MatchOption found
@@ -114,6 +116,6 @@ fn pass_at(
         (IsRefusedAt judge.old log.now i)) }
 {
     let lines = log.lines();
-    let number = lines_of_header(log.opening(), log.goal()) + i as u32 + 1;
+    let number = lines_of_header(log.opening(), log.terms()) + i as u32 + 1;
     judge.pass(alloc, walk, &lines[i], number)
 }

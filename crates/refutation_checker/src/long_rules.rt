@@ -1,5 +1,5 @@
 // The rules of a line's list whose windows are too long for layers.
-ghost use Rattle.std.specs.Prelude.{◌≡◌, ◌≤◌, ◌<◌, ◌↔◌, ℕ, length, Option, IsTrue, MatchOption};
+ghost use Rattle.std.specs.Prelude.{◌≡◌, ◌≤◌, ◌<◌, ◌↔◌, ℕ, length, Bool, Option, IsTrue, MatchOption};
 ghost use Rattle.rwsp_terms.specs.Rules.{rules, NamesShortOnly};
 ghost use Rattle.rwsp_model.specs.RuleNumbers.{IsShortNumber};
 ghost use Rattle.refutation_terms.specs.Ranges.{AreRules};
@@ -38,7 +38,7 @@ fn least_long(problem: &Problem, list: &RuleList) -> Option<u32>
 /// The number of the least rule in the list of a leaf that isn't short; None where all are short, and for
 /// lines without a list. Goes along the list once.
 pub fn long_rule(problem: &Problem, line: &Line) -> Option<u32>
-    requires { (goal : Option ℕ) × LineFits problem.now goal line.now }
+    requires { (goal : Option ℕ) × (counts : Bool) × LineFits problem.now goal counts line.now }
     ensures { MatchOption result
         (ListsShortOnly problem.now line.now)
         (λ k. IsLeast (ListsLong problem.now line.now) k) }

@@ -1,20 +1,16 @@
-// The least rule that a line cites and the header doesn't name.
-ghost use Rattle.std.specs.Prelude.{◌≡◌, ◌⊎◌, ℕ, Contains, Option, MatchOption};
+// The least of some numbers that a list doesn't hold.
+ghost use Rattle.std.specs.Prelude.{◌≡◌, Contains, All, Option};
 ghost use Rattle.rwsp_terms.specs.Instance.{IsDay};
-ghost use Rattle.refutation_terms.specs.Leaves.{LeafFits, LeafCites};
-ghost use Rattle.refutation_terms.specs.WordsLeaf.{WordsFit, WordsCite};
-ghost use Rattle.refutation_terms.specs.Log.{Cites, CitesOnlyNamed, LineFits};
+ghost use Rattle.rwsp_terms.specs.Roster.{IsRule};
 ghost use Rattle.refutation_terms.specs.Ranges.{WeightsFit};
-ghost use Rattle.refutation_terms.specs.Verdict.{IsLeast, IsUnnamed};
-ghost use Rattle.refutation_log.specs.Cited.{IsDayRule, IsWeighedDayRule};
-ghost use Rattle.refutation_checker.specs.Outside.{IsLeastOutside, IsLeastUnnamed, lesser};
+ghost use Rattle.refutation_log.specs.Cited.{IsCited, IsDayRule, IsSomeDay, IsWeighedDayRule};
+ghost use Rattle.refutation_checker.specs.Outside.{IsLeastOutside, lesser};
 
-use refutation_terms::{Leaf, Line, WordClaim};
 use rwsp_model::{Problem, number_of};
 use rwsp_terms::{Rule, RuleList, Weights};
 
-// The number, if the list doesn't hold it.
-fn outside(number: u32, named: &RuleList) -> Option<u32>
+/// The number, if the list doesn't hold it.
+pub fn outside(number: u32, named: &RuleList) -> Option<u32>
     ensures { IsLeastOutside (λ k. k ≡ number) named.now result }
 {
     if named.holds(number) {
@@ -24,17 +20,17 @@ fn outside(number: u32, named: &RuleList) -> Option<u32>
     }
 }
 
-// The number of the day's rule, if the list doesn't hold it.
+/// The number of the day's rule, if the list doesn't hold it.
 #[tactic(auto, using(crate::proofs::Lists::day_outside))]
-fn day_outside(problem: &Problem, day: u32, named: &RuleList) -> Option<u32>
+pub fn day_outside(problem: &Problem, day: u32, named: &RuleList) -> Option<u32>
     requires { IsDay problem.now day }
     ensures { IsLeastOutside (IsDayRule problem.now day) named.now result }
 {
     outside(number_of(problem, Rule::Day(day)), named)
 }
 
-// The least number of the first list that the second doesn't hold.
-fn least_outside(cited: &RuleList, named: &RuleList) -> Option<u32>
+/// The least number of the first list that the second doesn't hold.
+pub fn least_outside(cited: &RuleList, named: &RuleList) -> Option<u32>
     ensures { IsLeastOutside (Contains cited.now) named.now result }
 {
     for number in cited.numbers() {
@@ -45,8 +41,8 @@ fn least_outside(cited: &RuleList, named: &RuleList) -> Option<u32>
     None
 }
 
-// The lesser of the numbers that are there.
-fn lesser(a: Option<u32>, b: Option<u32>) -> Option<u32>
+/// The lesser of the numbers that are there.
+pub fn lesser(a: Option<u32>, b: Option<u32>) -> Option<u32>
     ensures { result ≡ lesser a b }
 {
     match (a, b) {
@@ -56,8 +52,8 @@ fn lesser(a: Option<u32>, b: Option<u32>) -> Option<u32>
     }
 }
 
-// The least rule of a day with a weight that the list doesn't hold.
-fn least_day_outside(problem: &Problem, weights: &Weights, named: &RuleList) -> Option<u32>
+/// The least rule of a day with a weight that the list doesn't hold.
+pub fn least_day_outside(problem: &Problem, weights: &Weights, named: &RuleList) -> Option<u32>
     requires { WeightsFit problem.now weights.now }
     ensures { IsLeastOutside (IsWeighedDayRule problem.now weights.now) named.now result }
 {
@@ -68,62 +64,25 @@ fn least_day_outside(problem: &Problem, weights: &Weights, named: &RuleList) -> 
     least
 }
 
-// The least rule of the list or of a day with a weight that isn't named.
-fn least_of_words(
-    problem: &Problem,
-    rules: &RuleList,
-    weights: &Weights,
-    named: &RuleList,
-) -> Option<u32>
-    requires { WeightsFit problem.now weights.now }
-    ensures { IsLeastOutside (λ k. Contains rules.now k ⊎ IsWeighedDayRule problem.now weights.now k) named.now result }
+/// The least of the numbers of these rules that the list doesn't hold.
+pub fn rules_outside(problem: &Problem, rules: &[Rule], named: &RuleList) -> Option<u32>
+    requires { All (IsRule problem.now) rules.now }
+    ensures { IsLeastOutside (IsCited problem.now (Contains rules.now)) named.now result }
 {
-    lesser(
-        least_outside(rules, named),
-        least_day_outside(problem, weights, named),
-    )
+    let mut least = None;
+    for rule in rules {
+        least = lesser(least, outside(number_of(problem, *rule), named));
+    }
+    least
 }
 
-/// The number of the least rule that the line cites and the list doesn't name; None where it names them all.
-///
-/// Each number that the line cites is looked up in the list, which costs the logarithm of the list's length.
-pub fn unnamed_rule(problem: &Problem, named: &RuleList, line: &Line) -> Option<u32>
-    requires { (goal : Option ℕ) × LineFits problem.now goal line.now }
-    ensures { MatchOption result
-        (CitesOnlyNamed problem.now named.now line.now)
-        (λ k. IsLeast (IsUnnamed problem.now named.now (Cites problem.now line.now)) k) }
+/// The least rule of a day that the list doesn't hold. Looks up each day of the cycle.
+pub fn each_day_outside(problem: &Problem, named: &RuleList) -> Option<u32>
+    ensures { IsLeastOutside (IsCited problem.now (IsSomeDay problem.now)) named.now result }
 {
-    match line {
-        Line::Split { .. } | Line::Unfinished => None,
-        Line::Closing(leaf) => unnamed_in_leaf(problem, named, leaf),
+    let mut least = None;
+    for day in 0..problem.days() {
+        least = lesser(least, day_outside(problem, day + 1, named));
     }
-}
-
-// The same of a leaf.
-fn unnamed_in_leaf(problem: &Problem, named: &RuleList, leaf: &Leaf) -> Option<u32>
-    requires { (goal : Option ℕ) × LeafFits problem.now goal leaf.now }
-    ensures { IsLeastUnnamed problem.now named.now (LeafCites problem.now leaf.now) result }
-{
-    match leaf {
-        Leaf::Few => None,
-        Leaf::Window { rule, .. } => outside(*rule, named),
-        Leaf::Day { day, .. } => day_outside(problem, *day, named),
-        Leaf::Words { rules, claim, .. } => unnamed_in_words(problem, named, rules, claim),
-    }
-}
-
-// The same of the list and the claim of a leaf of words.
-fn unnamed_in_words(
-    problem: &Problem,
-    named: &RuleList,
-    rules: &RuleList,
-    claim: &WordClaim,
-) -> Option<u32>
-    requires { (goal : Option ℕ) × (p : ℕ) × WordsFit problem.now goal p rules.now claim.now }
-    ensures { IsLeastUnnamed problem.now named.now (WordsCite problem.now rules.now claim.now) result }
-{
-    match claim {
-        WordClaim::Dead { .. } => least_outside(rules, named),
-        WordClaim::Light { weights, .. } => least_of_words(problem, rules, weights, named),
-    }
+    least
 }

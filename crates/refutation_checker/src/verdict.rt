@@ -68,7 +68,7 @@ pub fn check_with<R: Threads + Sync, G: Gate>(
     let judging = Judging {
         problem,
         named: &header.named,
-        goal: header.goal,
+        terms: header.terms(),
     };
     let judged = judge_by_workers(rt, alloc, &judging, lines, workers, gate);
     drop(judging);
@@ -106,7 +106,7 @@ pub fn check(
     let judging = Judging {
         problem,
         named: &header.named,
-        goal: header.goal,
+        terms: header.terms(),
     };
     let judged = judge_chunk(alloc, &judging, lines);
     drop(judging);
@@ -127,7 +127,8 @@ fn lines_below<'a>(
     header: &Header<'a>,
 ) -> Result<Chunk<'a>, AllocError>
     requires fits { OpeningFits problem.now header.now.opening }
-    ensures start { IfOk result (λ lines. StandsBehind problem.now header.now.goal header.now.opening [] lines) }
+    ensures start { IfOk result (λ lines. StandsBehind problem.now header.now.goal header.now.counts
+        header.now.opening [] lines) }
     ensures part { IfOk result (λ lines. lines.walk.whole ≡ false) }
     ensures bytes { IfOk result (λ lines. lines.bytes ≡ header.now.body.now) }
     ensures first { IfOk result (λ lines. lines.first ≤ 4) }
@@ -137,6 +138,6 @@ fn lines_below<'a>(
         number: 1,
         walk,
         bytes: header.body,
-        first: lines_of_header(header.opening, header.goal) + 1,
+        first: lines_of_header(header.opening, header.terms()) + 1,
     })
 }

@@ -13,7 +13,7 @@ ghost use Rattle.refutation_checker.specs.LineVerdicts.{HasNoList, HasList, Hold
 use clean_words::{Automaton, CleanWords, escape};
 use domain_store::Domains;
 use potential_bounds::{Claim, claim_escape};
-use refutation_terms::{Leaf, Line, WordClaim};
+use refutation_terms::{Leaf, Line, Terms, WordClaim};
 use rwsp_terms::{RuleList, Word};
 use std::alloc::{AllocError, Global};
 
@@ -27,28 +27,28 @@ pub fn list_of(line: &Line) -> Option<&RuleList>
     }
 }
 
-/// The word that escapes a leaf of a log with this goal or none, whose list is that of the automaton; None exactly
-/// where the leaf holds.
+/// The word that escapes a leaf of a log of these terms, whose list is that of the automaton; None exactly where the
+/// leaf holds.
 pub fn escape_of(
     alloc: Global,
     automaton: &Automaton,
     doms: &Domains,
-    goal: Option<u32>,
+    terms: Terms,
     line: &Line,
 ) -> Result<Option<Word>, AllocError>
     requires domains { BelongsTo automaton.now.problem doms.now }
-    requires goal { GoalFits automaton.now.problem Full goal }
-    requires line { LineFits automaton.now.problem goal line.now }
+    requires goal { GoalFits automaton.now.problem Full terms.goal }
+    requires line { LineFits automaton.now.problem terms.goal terms.counts line.now }
     requires list { HasList line.now automaton.now.rules }
     ensures { IfOk result (λ found. MatchOption found
-        (HoldsByWords automaton.now.problem goal (has_domain doms.now) line.now)
-        (Escapes automaton.now.problem goal (has_domain doms.now) line.now)) }
+        (HoldsByWords automaton.now.problem terms.goal (has_domain doms.now) line.now)
+        (Escapes automaton.now.problem terms.goal (has_domain doms.now) line.now)) }
 {
     let Line::Closing(leaf) = line else {
         return Ok(None);
     };
     match leaf {
-        Leaf::Words { p, claim, .. } => words_escape(alloc, automaton, doms, goal, *p, claim),
+        Leaf::Words { p, claim, .. } => words_escape(alloc, automaton, doms, terms.goal, *p, claim),
         _ => Ok(None),
     }
 }

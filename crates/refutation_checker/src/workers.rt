@@ -30,7 +30,7 @@ pub fn judge_by_workers<R: Threads + Sync, G: Gate>(
     requires start { IsJudgeable judging.now.problem all }
     requires part { all.walk.whole ≡ false }
     requires workers { (1 ≤ workers) × (workers ≤ MOST_WORKERS) }
-    ensures { (o : Opening) → StandsBehind judging.now.problem judging.now.goal o [] all.entry →
+    ensures { (o : Opening) → StandsBehind judging.now.problem judging.now.goal judging.now.counts o [] all.entry →
         IsJudged judging.now o [] all.entry.bytes result }
 {
     if all.bytes.is_empty() {
@@ -39,7 +39,7 @@ pub fn judge_by_workers<R: Threads + Sync, G: Gate>(
     if workers == 1 {
         return judge_behind_gate(alloc, judging, gate, all);
     }
-    let Ok(chunks) = chunks_for(alloc, judging.problem, judging.goal, all, workers) else {
+    let Ok(chunks) = chunks_for(alloc, judging.problem, judging.terms, all, workers) else {
         return Err(Fail::Memory);
     };
     let answers = thread::map_vec(

@@ -24,5 +24,5 @@ returns c =
     let read = c.in-Ok.ensures in
     let why = c.in-Some.why in
     subst (λ text. IsRefused P c.args.kind text why) (sym read.whole)
-    (subst (λ kind. IsRefused P kind (header_text P h.named h.opening h.goal ++ h.body.now) why) read.of_kind
-    (turn_refused P h.named h.opening h.goal h.body.now why c.prove_limits.ensures read.rules read.fits read.in_range c.in-Some.ensures))
+    (subst (λ kind. IsRefused P kind (header_text P h.named h.opening h.goal h.counts ++ h.body.now) why) read.of_kind
+    (turn_refused P h.named h.opening h.goal h.counts h.body.now why c.prove_limits.ensures read.rules read.fits read.in_range c.in-Some.ensures))

@@ -3,7 +3,7 @@ use Rattle.std.specs.Prelude.{Contains}
 use Rattle.refutation_log.specs.Cited.{IsWeighedDayRule}
 use Rattle.refutation_checker.specs.Outside.{IsLeastOutside}
 use Rattle.refutation_checker.proofs.Lists.{lesser_outside}
-use Rattle.refutation_checker.proofs.unnamed_rules.least_of_words.Goals as goal
+use Rattle.refutation_checker.proofs.leaf.least_of_words.Goals as goal
 
 pub returns : goal.returns
 returns c =

@@ -16,9 +16,10 @@ step-requires-clause-useful c =
     let now : IsStore S = subst IsStore here c.prove_facts.ensures.now in
     let tests : HasDomains S = subst HasDomains here c.prove_facts.ensures.tests in
     let goal = c.requires.holds.0 in
-    let o = c.requires.holds.2.0 in
-    let lines = c.requires.holds.2.1 in
-    let state = c.requires.holds.2.2 in
+    let counts = c.requires.holds.1 in
+    let o = c.requires.holds.3.0 in
+    let lines = c.requires.holds.3.1 in
+    let state = c.requires.holds.3.2 in
     let E = domains_at P o lines (length lines) in
     let same : AreSame P E (has_domain S) = subst (λ (T : Store). AreSame P E (has_domain T)) here (turned_round P (has_domain c.domains.result.now) E (c.domains.ensures.has P o lines state)) in
-    passed_by P goal E S c.args.line.now (some_cells P c.prove_limits.ensures) now tests state.belongs same c.requires.holds.1 c.requires.holds.2.3
+    passed_by P goal counts E S c.args.line.now (some_cells P c.prove_limits.ensures) now tests state.belongs same c.requires.holds.2 c.requires.holds.3.3

@@ -6,7 +6,7 @@ pub returns-in-Some : goal.returns-in-Some
 returns-in-Some c =
     let P = c.args.problem.now in
     let g = c.args.log.now in
-    turn_refused P g.named g.opening g.goal (lines_text P g.goal g.lines) c.in-Some.why c.prove_limits.ensures c.requires.named c.requires.opening (in_range P g.opening g.goal c.requires.goal)
+    turn_refused P g.named g.opening g.goal g.counts (lines_text P g.goal g.lines) c.in-Some.why c.prove_limits.ensures c.requires.named c.requires.opening (in_range P g.opening g.goal c.requires.goal)
     (rw (c.named.ensures, c.opening.ensures, c.in-Some.is) at c.turn_refusal.ensures)
 
 pub returns : goal.returns

@@ -14,5 +14,5 @@ returns-clause-refusal c =
     let found = c.first_refusal-found.result in
     let counted : IfOk found (λ found. MatchOption found (AreSoundTo J g (length g.lines)) (λ why. (i : ℕ) × IsRefusedAt J g i why)) =
     subst (λ (n : ℕ). IfOk found (λ found. MatchOption found (AreSoundTo J g n) (λ why. (i : ℕ) × IsRefusedAt J g i why))) (ap length c.lines-lines.ensures.value)
-    (rw (c.new-judge.ensures, c.named.ensures, c.goal.ensures) at c.first_refusal-found.ensures) in
+    (rw (c.new-judge.ensures, c.named.ensures, c.terms.ensures.goal, c.terms.ensures.counts) at c.first_refusal-found.ensures) in
     subst (λ (ls : List Line). IfOk found (λ found. MatchOption found (AreSoundBehind J g.opening [] ls) (λ why. (i : ℕ) × IsRefusedAt J g i why))) (take_all (length g.lines) g.lines (omega arith)) counted

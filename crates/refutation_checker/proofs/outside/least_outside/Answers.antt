@@ -1,6 +1,6 @@
 use Rattle.std.proofs.Common.{refl, below_more}
 use Rattle.refutation_checker.proofs.Lists.{least_of, holds_all, not_so, is_so}
-use Rattle.refutation_checker.proofs.unnamed_rules.least_outside.Goals as goal
+use Rattle.refutation_checker.proofs.outside.least_outside.Goals as goal
 
 pub returns-then-not-holds : goal.returns-then-not-holds
 returns-then-not-holds c =

@@ -11,6 +11,6 @@ returns-clause-escape c =
     let D = has_domain c.args.doms.now in
     let line = c.args.line.now in
     let found = c.escape_of-found.result in
-    let here : IsAnswered c.self.inside.problem.now c.self.inside.goal D line found =
-    subst (λ (P : Instance). IsAnswered P c.self.inside.goal D line found) c.in_ok-automaton.ensures.problem c.escape_of-found.ensures in
+    let here : IsAnswered c.self.inside.problem.now c.self.inside.terms.goal D line found =
+    subst (λ (P : Instance). IsAnswered P c.self.inside.terms.goal D line found) c.in_ok-automaton.ensures.problem c.escape_of-found.ensures in
     subst (λ (j : Judging). IsAnswered j.problem j.goal D line found) (c.self.view_is ∙ c.in_ok-holds_plainly.ensures.same) here

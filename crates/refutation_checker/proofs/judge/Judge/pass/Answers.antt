@@ -22,7 +22,7 @@ returns-in-Some-clause-passed c =
     let same : AreSame P D E = c.domains-2.ensures.has P o lines state in
     let some : 0 < cells P = subst (λ (j : Judging). 0 < cells j.problem) c.self.view_is (some_cells c.self.inside.problem.now c.prove_limits.ensures) in
     let weeks : GoalFits P Full c.args.self.now.goal = subst (λ (j : Judging). GoalFits j.problem Full j.goal) c.self.view_is c.self.invariant.1 in
-    same_cause P c.args.self.now.goal c.args.self.now.named D E c.args.number c.args.line.now c.in-Some.why some weeks c.requires.line same (rw c.in-Some.is at c.in_ok-why.ensures.cause)
+    same_cause P c.args.self.now.goal c.args.self.now.counts c.args.self.now.named D E c.args.number c.args.line.now c.in-Some.why some weeks c.requires.line same (rw c.in-Some.is at c.in_ok-why.ensures.cause)
 
 pub step-requires-clause-useful : goal.step-requires-clause-useful
 step-requires-clause-useful c =
@@ -34,7 +34,7 @@ step-requires-clause-useful c =
     let state = c.requires.state.2 in
     let sound : IsSoundLine P c.args.self.now.goal c.args.self.now.named (has_domain S) c.args.line.now =
     subst (λ (T : Store). IsSoundLine P c.args.self.now.goal c.args.self.now.named (has_domain T) c.args.line.now) c.domains-2.ensures.value (rw c.in_default.is at c.in_ok-why.ensures.cause) in
-    may_step P c.args.self.now.goal S c.args.line.now now tests state.belongs (positions_of P S now state.belongs) c.requires.line sound.holds
+    may_step P c.args.self.now.goal c.args.self.now.counts S c.args.line.now now tests state.belongs (positions_of P S now state.belongs) c.requires.line sound.holds
 
 pub returns-clause-passed : goal.returns-clause-passed
 returns-clause-passed c =
@@ -45,6 +45,6 @@ returns-clause-passed c =
     let same : AreSame P D E = c.domains-2.ensures.has P o lines state in
     let some : 0 < cells P = subst (λ (j : Judging). 0 < cells j.problem) c.self.view_is (some_cells c.self.inside.problem.now c.prove_limits.ensures) in
     let weeks : GoalFits P Full c.args.self.now.goal = subst (λ (j : Judging). GoalFits j.problem Full j.goal) c.self.view_is c.self.invariant.1 in (
-      same_sound P c.args.self.now.goal c.args.self.now.named D E c.args.line.now some weeks c.requires.line same (rw c.in_default.is at c.in_ok-why.ensures.cause),
+      same_sound P c.args.self.now.goal c.args.self.now.counts c.args.self.now.named D E c.args.line.now some weeks c.requires.line same (rw c.in_default.is at c.in_ok-why.ensures.cause),
       c.in_ok-step.ensures P o lines state,
     )

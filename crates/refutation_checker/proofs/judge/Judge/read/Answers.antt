@@ -11,8 +11,8 @@ pass-requires-clause-line c =
     let j = c.args.self.now in
     let bytes = c.args.bytes.now in
     let line = c.in-Ok.line in
-    let spelled : Spells j.problem j.goal bytes line = subst (λ (j : Judging). Spells j.problem j.goal bytes line) c.self.view_is c.in-Ok.ensures in
-    (spelled_lines_fit j.problem j.goal bytes line spelled).0
+    let spelled : Spells j.problem j.goal j.counts bytes line = subst (λ (j : Judging). Spells j.problem j.goal j.counts bytes line) c.self.view_is c.in-Ok.ensures in
+    (spelled_lines_fit j.problem j.goal j.counts bytes line spelled).0
 
 pub returns-in-Ok-None-clause-read : goal.returns-in-Ok-None-clause-read
 returns-in-Ok-None-clause-read c =
@@ -20,7 +20,7 @@ returns-in-Ok-None-clause-read c =
     let j = c.args.self.now in
     let bytes = c.args.bytes.now in
     let line = c.in-Ok.line in
-    let spelled : Spells j.problem j.goal bytes line = subst (λ (j : Judging). Spells j.problem j.goal bytes line) c.self.view_is c.in-Ok.ensures in
+    let spelled : Spells j.problem j.goal j.counts bytes line = subst (λ (j : Judging). Spells j.problem j.goal j.counts bytes line) c.self.view_is c.in-Ok.ensures in
     read_next j o lines bytes line c.pass.new.walk spelled
     (λ tree. absurd (false≢true (sym c.if-is_whole.false ∙ (c.is_whole.ensures.tree j.problem o lines state).1 tree)))
     ((rw c.in-Ok-None.field-0-is at c.in-Ok-None.ensures.passed) o lines state)
@@ -31,7 +31,7 @@ returns-in-Ok-Some-clause-read c =
     let j = c.args.self.now in
     let bytes = c.args.bytes.now in
     let line = c.in-Ok.line in
-    let spelled : Spells j.problem j.goal bytes line = subst (λ (j : Judging). Spells j.problem j.goal bytes line) c.self.view_is c.in-Ok.ensures in
+    let spelled : Spells j.problem j.goal j.counts bytes line = subst (λ (j : Judging). Spells j.problem j.goal j.counts bytes line) c.self.view_is c.in-Ok.ensures in
     refused_next j o lines bytes line c.args.number c.in-Ok-Some.why spelled
     (λ tree. absurd (false≢true (sym c.if-is_whole.false ∙ (c.is_whole.ensures.tree j.problem o lines state).1 tree)))
     is

@@ -16,7 +16,7 @@ returns-in-Some-clause-holds c =
     let leaf = c.args.leaf.now in
     let word = c.in-Some._word in
     let weeks : GoalFits J.problem Full J.goal = subst (λ (j : Judging). GoalFits j.problem Full j.goal) c.self.view_is c.self.invariant in
-    fails_there J.problem J.goal D (domains_at J.problem o lines (length lines)) leaf word weeks c.requires.fits (c.domains.ensures.has J.problem o lines state)
+    fails_there J.problem J.goal J.counts D (domains_at J.problem o lines (length lines)) leaf word weeks c.requires.fits (c.domains.ensures.has J.problem o lines state)
     (subst (λ (j : Judging). EscapesUnder j D leaf word) c.self.view_is (rw c.in-Some.is at c.in_ok-_word.ensures.escape))
 
 pub returns-clause-holds : goal.returns-clause-holds
@@ -26,5 +26,5 @@ returns-clause-holds c =
     let D = has_domain c.domains.result.now in
     let leaf = c.args.leaf.now in
     let weeks : GoalFits J.problem Full J.goal = subst (λ (j : Judging). GoalFits j.problem Full j.goal) c.self.view_is c.self.invariant in
-    holds_there J.problem J.goal D (domains_at J.problem o lines (length lines)) leaf weeks c.requires.fits (c.domains.ensures.has J.problem o lines state)
+    holds_there J.problem J.goal J.counts D (domains_at J.problem o lines (length lines)) leaf weeks c.requires.fits (c.domains.ensures.has J.problem o lines state)
     (subst (λ (j : Judging). HoldsByWordsUnder j D leaf) c.self.view_is (rw c.in_default.is at c.in_ok-_word.ensures.escape))
