@@ -11,9 +11,9 @@ use commands::{
     SecondKind, best, check, check_free, check_staff, crew, ics, on, page, plan, reduce, rest,
     roster, staff, verify,
 };
+use made_problems::LeastRest;
 use potential_bounds::Gate;
 use refutation_log::{BestFound, Found};
-use made_problems::LeastRest;
 use rwsp_file::print_problem;
 use rwsp_model::Problem;
 use rwsp_terms::limits::DAYS_OF_WEEK;

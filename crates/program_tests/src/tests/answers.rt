@@ -18,8 +18,7 @@ const BREAKS: &str =
 const NONE: &str = "no roster in the answer\n";
 
 // A shift with the name that begins a free log.
-const LOG_AS_NAME: &str =
-    "7\n2\n1\n1 1 1 1 1 1 1\nrwsp-free 0 480 1 7\n1 7\n1 7\n0 0\n";
+const LOG_AS_NAME: &str = "7\n2\n1\n1 1 1 1 1 1 1\nrwsp-free 0 480 1 7\n1 7\n1 7\n0 0\n";
 
 const LOG_AS_NAME_ROSTER: &str =
     "- - - - - - -\nrwsp-free rwsp-free rwsp-free rwsp-free rwsp-free rwsp-free rwsp-free\n";
