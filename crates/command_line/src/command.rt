@@ -33,11 +33,17 @@ pub enum Command<'a> {
 #[derive(Clone, Copy)]
 pub enum ProblemTask {
     /// A roster, or the log of a refutation of at most `budget` lines, which may count blocks where it says so.
-    Plan { budget: u32, counts: bool },
+    Plan {
+        budget: u32,
+        counts: bool,
+    },
     /// The canonical text.
     Show,
     /// A roster with the most free weekends, and a free log for one more; for each goal at most `budget` lines.
-    Best { budget: u32, counts: bool },
+    Best {
+        budget: u32,
+        counts: bool,
+    },
     /// The least number of weeks, from the first to the last, for which the problem has a roster; for each lesser
     /// one a log of at most this many lines.
     Staff {
@@ -47,7 +53,9 @@ pub enum ProblemTask {
         counts: bool,
     },
     /// The problem with at least this many minutes between shifts.
-    Rest { minutes: u32 },
+    Rest {
+        minutes: u32,
+    },
 }
 
 /// A task on a problem and a second file.

@@ -88,10 +88,7 @@ const REFUSALS: [(&[u8], LogRefusal); 41] = [
         b"rwsp-log 2\nrules\nturn D 1\nblocks D\n",
         LogRefusal::Form(4),
     ),
-    (
-        b"rwsp-log 3\nrules\nturn\nblocks Q\n",
-        LogRefusal::Name(4),
-    ),
+    (b"rwsp-log 3\nrules\nturn\nblocks Q\n", LogRefusal::Name(4)),
     (
         b"rwsp-log 3\nrules\nturn\nblocks D D\n",
         LogRefusal::Form(4),

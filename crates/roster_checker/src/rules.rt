@@ -9,9 +9,9 @@ ghost use Rattle.roster_checker.specs.Places.{IsFirstPlace};
 
 use crate::days::day_is_met;
 use crate::place::Place;
+use plain_leaves::first_bad_window;
 use rwsp_model::{Problem, Roster};
 use rwsp_terms::Rule;
-use plain_leaves::first_bad_window;
 
 // The first window that breaks the rule.
 fn first_window(problem: &Problem, roster: &Roster, rule: Rule) -> Option<Place>

@@ -59,8 +59,7 @@ same_plain P D E leaf some same h = (
 
 same_no_plain : (P : Instance) (D E : Domains) → 0 < cells P → AreSame P D E → NoPlainLeafHolds P D → NoPlainLeafHolds P E
 same_no_plain P D E some same none =
-    let back = turned_round P D E same in
-    (
+    let back = turned_round P D E same in (
       λ h. none.0 (h.0, h.1, h.2, h.3, same_holds P None false E D (Closing (Window h.0 h.1 h.2)) some tt h.3 back h.4),
       λ h. none.1 (h.0, h.1, h.2, h.3, same_holds P None false E D (Closing (Day h.0 h.1 h.2)) some tt h.3 back h.4),
     )

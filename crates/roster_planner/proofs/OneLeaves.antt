@@ -69,8 +69,7 @@ if_one_proof P budget goal leaf (Err e) some lines passes same cited = tt
 -- and one with the first turn is a plan
 pub one_plan : (P : Instance) (budget : ℕ) (o : Opening) (g : Log) → 1 ≤ budget → IsFirstTurn P o → IsCountedProof P o None g → IsPlanned P budget (NoRoster g)
 one_plan P budget o g some first h =
-    let few = one_line g h.one_leaf in
-    (
+    let few = one_line g h.one_leaf in (
       h.passes,
       omega (arith, few, some),
       record {

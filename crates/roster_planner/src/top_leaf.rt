@@ -78,7 +78,13 @@ fn log_of_top(alloc: Global, automaton: &Automaton, goal: u32) -> Result<Log, Al
         goal: Some(goal),
         counts: false,
     };
-    one_leaf_log(alloc, problem, Opening::Full, terms, light_leaf(alloc, rules))
+    one_leaf_log(
+        alloc,
+        problem,
+        Opening::Full,
+        terms,
+        light_leaf(alloc, rules),
+    )
 }
 
 // The leaf by these rules.

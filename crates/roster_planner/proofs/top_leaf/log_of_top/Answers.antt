@@ -24,7 +24,7 @@ returns-clause-proof c =
     let limits = rw c.problem-problem.ensures at c.prove_limits.ensures in
     let is : c.light_leaf.result ≡ top_leaf R = c.light_leaf.ensures ∙ ap top_leaf (c.in_ok-rules.ensures ∙ c.rules.ensures) in
     let closes : ClosesAll P Full (Some c.args.goal) c.light_leaf.result = subst (ClosesAll P Full (Some c.args.goal)) (sym is)
-        (top_closes P c.args.goal R limits (refl, c.requires.week, c.requires.goal) c.requires.short.are_rules c.requires.short.all_short c.requires.holds) in
+    (top_closes P c.args.goal R limits (refl, c.requires.week, c.requires.goal) c.requires.short.are_rules c.requires.short.all_short c.requires.holds) in
     let same : c.problem-problem.result.now ≡ P = c.problem-problem.ensures in
     let made = c.one_leaf_log.ensures in
     let passes = made.passes (subst (λ (Q : Instance). ClosesAll Q Full (Some c.args.goal) c.light_leaf.result) (sym same) closes) in
