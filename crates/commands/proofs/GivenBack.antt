@@ -31,7 +31,8 @@ use Rattle.roster_print.specs.RosterText.{weeks_of, week_at, roster_text, Spells
 use Rattle.roster_print.proofs.Printed.{printed_is_spelled, printed_is_short}
 use Rattle.refutation_terms.specs.FreeWeekends.{free_weekends, is_free_weekend}
 use Rattle.refutation_terms.specs.Log.{Log, Fits}
-use Rattle.refutation_terms.specs.LogText.{log_text}
+use Rattle.refutation_terms.specs.declared.lines.Opening.{Opening}
+use Rattle.refutation_terms.specs.LogText.{log_text, header_text, lines_text}
 use Rattle.refutation_log.specs.declared.best_found.BestFound.TheVariants.{Best, NoRoster, Undecided}
 use Rattle.crew_size.specs.Sizes.{with_weeks, IsSize}
 use Rattle.crew_size.specs.Texts.{Staff, staff_text, sections_text, end_text, next_size, roster_line, refuted_line}
@@ -44,7 +45,7 @@ use Rattle.crew_size.proofs.Decided.{sized_keeps}
 use Rattle.crew_size.proofs.Fronts.{size_is_short}
 use Rattle.crew_size.proofs.Headings.{heading_fields, heading_written, heading_words}
 use Rattle.crew_size.proofs.LogCuts.{logs_are_cut_whole}
-use Rattle.commands.specs.AnswerParts.{Numbered, behind_digits, digits_before, closed, number_at, behind_heading, found_or, heading_here, behind_first_heading, lines_len, lines_up_to, part_of_best, best_part, staff_part}
+use Rattle.commands.specs.AnswerParts.{Numbered, behind_digits, digits_before, closed, number_at, behind_heading, found_or, heading_here, behind_first_heading, lines_len, before_log, part_of_best, best_part, staff_part}
 use Rattle.commands.specs.Best.{counted_text, IsWeeklyRoster}
 use Rattle.commands.specs.Roster.{SaysOf, SpellsNone, SaysOfWeeks, SaysOfStaff, SaysBehindWhole, IsRosterAnswer}
 use Rattle.commands.specs.RosterLaws.{GivesBack, PlansAreGivenBack, BestsAreGivenBack, StaffsAreGivenBack, StaffsSpellNoRoster}
@@ -191,12 +192,29 @@ names_blankless P (x ∷ week) limits known = (
 )
 
 -- the text of a roster has a line for each week
-roster_lines : (P : Instance) (s : List Symbol) (rest : List ℕ) → KeepsLimits P → IsRoster P s → lines_up_to P.weeks (roster_text P s ++ rest) ≡ roster_text P s
+roster_lines : (P : Instance) (s : List Symbol) (rest : List ℕ) → KeepsLimits P → IsRoster P s → lines_len P.weeks (roster_text P s ++ rest) ≡ length (roster_text P s)
 roster_lines P s rest limits roster =
     let known = λ (k : ℕ). All-take (IsSymbol P) P.days (drop (k * P.days) s) (All-drop (IsSymbol P) (k * P.days) s roster.symbols) in
     let none = λ (k : ℕ) (less : k < 0 + P.weeks). join_no_feed (map (name_of P) (week_at P s k)) (names_blankless P (week_at P s k) limits (known k)) in
-    ap (λ n. take n (roster_text P s ++ rest)) (lines_counted (λ k. join_with_byte 32 (map (name_of P) (week_at P s k))) rest 0 P.weeks none)
-    ∙ take-append_seam (roster_text P s) rest
+    lines_counted (λ k. join_with_byte 32 (map (name_of P) (week_at P s k))) rest 0 P.weeks none
+
+-- bytes in front of a log
+abbrev pub BeginsAsLog : List ℕ → Type 0
+BeginsAsLog log = starts_with nat_eq log (codes "rwsp-free ") ≡ true
+
+cut_before : (text log : List ℕ) → BeginsAsLog log → before_log (length text) (text ++ log) ≡ Some text
+cut_before text log begins =
+    ap (λ rest. cond (starts_with nat_eq rest (codes "rwsp-free ")) (Some (take (length text) (text ++ log))) None) (drop-append_seam text log)
+    ∙ ap (λ t. cond t (Some (take (length text) (text ++ log))) None) begins
+    ∙ ap Some (take-append_seam text log)
+
+free_header : (P : Instance) (named : List ℕ) (o : Opening) (goal : ℕ) (counts : Bool) (lines : List ℕ) → BeginsAsLog (header_text P named o (Some goal) counts ++ lines)
+free_header P named o goal false lines = refl
+free_header P named o goal true lines = refl
+
+free_begins : (P : Instance) (g : Log) (goal : ℕ) → g.goal ≡ Some goal → BeginsAsLog (log_text P g)
+free_begins P g goal is =
+    subst (λ (o : Option ℕ). BeginsAsLog (header_text P g.named g.opening o g.counts ++ lines_text P o g.lines)) (sym is) (free_header P g.named g.opening goal g.counts (lines_text P (Some goal) g.lines))
 
 -- Answers of `best`.
 
@@ -204,9 +222,9 @@ few_free : (P : Instance) (s : List Symbol) → KeepsLimits P → IsRoster P s �
 few_free P s limits roster =
     omega (arith, count_by-le-length (is_free_weekend s) (range_with_len 0 (length s)), length-range_with_len 0 (length s), roster.long, limits.few_cells)
 
--- what is behind the roster of an answer
-best_given : (P : Instance) (s : Roster) (log : List ℕ) → KeepsLimits P → IsWeeklyRoster P s → MeetsAll P s.cells → GivesBack P (counted_text P s ++ log) (roster_text P s.cells)
-best_given P s log limits weekly meets answer h =
+-- a roster with a free log behind it
+best_given : (P : Instance) (s : Roster) (log : List ℕ) → KeepsLimits P → IsWeeklyRoster P s → MeetsAll P s.cells → BeginsAsLog log → GivesBack P (counted_text P s ++ log) (roster_text P s.cells)
+best_given P s log limits weekly meets begins answer h =
     let text = roster_text P s.cells in
     let n = free_weekends s.cells in
     let small = few_free P s.cells limits weekly.2 in
@@ -218,18 +236,19 @@ best_given P s log limits weekly meets answer h =
     let found : best_part P.weeks (counted_text P s ++ log) ≡ Some text =
     ap (best_part P.weeks) shape
     ∙ ap (part_of_best P.weeks) (closed_by (decimal n) (codes "\n") (text ++ log) 10 (digits_decimal ascii_digits_model n small) refl refl)
-    ∙ ap Some (roster_lines P s.cells log limits weekly.2) in
+    ∙ ap (λ n. before_log n (text ++ log)) (roster_lines P s.cells log limits weekly.2)
+    ∙ cut_before text log begins in
     one_taken P (counted_text P s ++ log) answer (Shown text) h (inr (none, subst (λ part. SaysBehindWhole P (counted_text P s ++ log) part (Shown text)) (sym found) (inl (shown P s.cells limits meets))))
 
 pub bests_given_back : BestsAreGivenBack
-bests_given_back P (Best t g) s limits own is meets =
+bests_given_back P budget (Best t g) s limits own says is =
     let same : t ≡ s = cc in
-    subst (λ (r : Roster). GivesBack P (counted_text P t ++ log_text P g) (roster_text P r.cells)) same (best_given P t (log_text P g) limits own.0 (subst (λ (r : Roster). MeetsAll P r.cells) (sym same) meets))
-bests_given_back P (NoRoster g) s limits own is meets = absurd (cc)
-bests_given_back P (Undecided None g) s limits own is meets = absurd (cc)
-bests_given_back P (Undecided (Some t) g) s limits own is meets =
+    subst (λ (r : Roster). GivesBack P (counted_text P t ++ log_text P g) (roster_text P r.cells)) same (best_given P t (log_text P g) limits own.0 says.0.1 (free_begins P g (free_weekends t.cells + 1) says.1.1))
+bests_given_back P budget (NoRoster g) s limits own says is = absurd (cc)
+bests_given_back P budget (Undecided None g) s limits own says is = absurd (cc)
+bests_given_back P budget (Undecided (Some t) g) s limits own says is =
     let same : t ≡ s = cc in
-    subst (λ (r : Roster). GivesBack P (counted_text P t ++ log_text P g) (roster_text P r.cells)) same (best_given P t (log_text P g) limits own.0 (subst (λ (r : Roster). MeetsAll P r.cells) (sym same) meets))
+    subst (λ (r : Roster). GivesBack P (counted_text P t ++ log_text P g) (roster_text P r.cells)) same (best_given P t (log_text P g) limits own.0 says.0.1 (free_begins P g (free_weekends t.cells + 1) says.1.1))
 
 -- Answers of `staff`.
 

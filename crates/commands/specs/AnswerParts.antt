@@ -56,14 +56,14 @@ lines_len n [] = 0
 lines_len zero (b ∷ bytes) = 0
 lines_len (suc n) (b ∷ bytes) = lines_len (left_behind (suc n) b) bytes + 1
 
--- the first n lines
-abbrev pub lines_up_to : (n : ℕ) → List ℕ → List ℕ
-lines_up_to n bytes = take (lines_len n bytes) bytes
+-- the first n bytes, where a free log begins behind them
+abbrev pub before_log : (n : ℕ) → List ℕ → Option (List ℕ)
+before_log n bytes = if starts_with nat_eq (drop n bytes) (codes "rwsp-free ") then Some (take n bytes) else None
 
--- in an answer of `best`: as many lines behind its first one as there are weeks
+-- in an answer of `best`: between its first line and the log, as many lines as there are weeks
 abbrev pub part_of_best : (weeks : ℕ) → Option Numbered → Option (List ℕ)
 part_of_best weeks None = None
-part_of_best weeks (Some found) = Some (lines_up_to weeks found.1)
+part_of_best weeks (Some found) = before_log (lines_len weeks found.1) found.1
 
 abbrev pub best_part : (weeks : ℕ) → List ℕ → Option (List ℕ)
 best_part weeks answer = part_of_best weeks (behind_word (codes "free ") (codes "\n") answer)

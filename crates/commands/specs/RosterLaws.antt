@@ -6,6 +6,7 @@ use Rattle.rwsp_model.specs.Validity.{KeepsLimits}
 use Rattle.rwsp_model.specs.declared.roster.Roster.{Roster}
 use Rattle.roster_print.specs.RosterText.{roster_text}
 use Rattle.refutation_log.specs.declared.found.Found.TheVariants as Founds
+use Rattle.refutation_log.specs.Bests.{IsBestFound}
 use Rattle.refutation_log.specs.declared.best_found.BestFound.{BestFound}
 use Rattle.crew_size.specs.Sizes.{with_weeks}
 use Rattle.crew_size.specs.Texts.{Staff, staff_text, next_size}
@@ -30,8 +31,9 @@ PlansAreGivenBack =
 -- and that of `best`, also where the budget was spent
 abbrev pub BestsAreGivenBack : Type 0
 BestsAreGivenBack =
-    (P : Instance) (found : BestFound) (s : Roster) → KeepsLimits P → IsBestOf P found → best_roster found ≡ Some s
-    → MeetsAll P s.cells → GivesBack P (best_text P found) (roster_text P s.cells)
+    (P : Instance) (budget : ℕ) (found : BestFound) (s : Roster) → KeepsLimits P → IsBestOf P found
+    → IsBestFound P budget found → best_roster found ≡ Some s
+    → GivesBack P (best_text P found) (roster_text P s.cells)
 
 -- and that of `staff`, where its text isn't itself a roster's
 abbrev pub StaffsAreGivenBack : Type 0

@@ -37,8 +37,8 @@ pub enum Answer {
 }
 
 /// The answer to the bytes of an answer. First all of them are taken for a roster, as `plan` prints one; then what
-/// stands behind the first line of an answer of `best`, a line for each week; then what is behind the heading of a
-/// roster in one of `staff`. The first that spells a roster is judged.
+/// stands between the first line and the free log of an answer of `best`, a line for each week; then what is behind
+/// the heading of a roster in one of `staff`. The first that spells a roster is judged.
 pub fn job(alloc: Global, problem: &Problem, bytes: &[u8]) -> Result<Answer, AllocError>
     requires { IsWithinLimit Kinds.Log bytes.now }
     ensures { IfOk result (IsRosterAnswer problem.now bytes.now) }

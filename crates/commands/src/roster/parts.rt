@@ -1,6 +1,6 @@
 // The parts of an answer of `best` or `staff` that may be a roster's text.
 ghost use Rattle.std.specs.Prelude.{◌≡◌, ◌≤◌, ◌<◌, length, Some, None, true, MatchOption, IsTrue};
-ghost use Rattle.commands.specs.AnswerParts.{behind_heading, heading_here, behind_first_heading, left_behind, lines_len, lines_up_to, best_part, staff_part};
+ghost use Rattle.commands.specs.AnswerParts.{behind_heading, heading_here, behind_first_heading, left_behind, lines_len, before_log, best_part, staff_part};
 
 use super::scan::behind_word;
 
@@ -54,11 +54,25 @@ fn lines_len(weeks: u32, bytes: &[u8]) -> usize
     bytes.len()
 }
 
-/// In an answer of `best`: as many lines behind its first one as there are weeks. It takes time by the bytes.
+// The first bytes, as many as these, where a free log begins behind them.
+fn before_log(len: usize, bytes: &[u8]) -> Option<&[u8]>
+    requires { len ≤ length bytes.now }
+    ensures { MatchOption result (before_log len bytes.now ≡ None)
+        (λ part. before_log len bytes.now ≡ Some part.now) }
+{
+    if bytes[len..].starts_with(b"rwsp-free ".as_slice()) {
+        Some(&bytes[..len])
+    } else {
+        None
+    }
+}
+
+/// In an answer of `best`: between its first line and the log, as many lines as there are weeks. It takes time by the
+/// bytes.
 pub fn best_part(weeks: u32, answer: &[u8]) -> Option<&[u8]>
     ensures { MatchOption result (best_part weeks answer.now ≡ None)
         (λ part. best_part weeks answer.now ≡ Some part.now) }
 {
     let (_, rest) = behind_word(b"free ".as_slice(), b"\n".as_slice(), answer)?;
-    Some(&rest[..lines_len(weeks, rest)])
+    before_log(lines_len(weeks, rest), rest)
 }
