@@ -1,5 +1,6 @@
 // Command lines over files in memory: what is printed, to the byte, and the status.
 mod answers;
+mod blocks;
 mod crews;
 mod dates;
 mod decided;

@@ -184,7 +184,8 @@ fn logs_with_a_turn_that_are_refused(rt: HostRuntime) -> Result<(), Fail> {
             "rwsp-log 2\nrules 1 2 3 4 7\ndead 1 1 7 rules 1 2 3 4\n",
             "log refused: form line 3\n",
         ),
-        ("rwsp-log 3\nrules 1\nopen\n", "log refused: form line 1\n"),
+        ("rwsp-log 3\nrules 1\nopen\n", "log refused: form line 3\n"),
+        ("rwsp-log 4\nrules 1\nopen\n", "log refused: form line 1\n"),
         (
             "rwsp-log 1\nrules 2 1\nopen\n",
             "log refused: form line 2\n",

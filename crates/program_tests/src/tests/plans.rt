@@ -65,7 +65,7 @@ fn is_refuted<R: Threads + Sync>(rt: &R, alloc: Global, problem: &str) -> Result
 }
 
 // The nine weeks with at most four days of work in seven.
-const FOUR_OF_SEVEN: &str =
+pub const FOUR_OF_SEVEN: &str =
     "7\n9\n3\n2 2 2 2 2 2 2\n2 2 2 2 2 2 2\n2 2 2 2 2 2 2\nD 360 480 2 7\nA 840 480 2 6\nN 1320 480 2 5\n3 4\n4 4\n3 0\nN D\nN A\nA D\n";
 
 // Whether the log has a turn and one line behind it.
@@ -76,7 +76,7 @@ fn is_one_leaf(log: &str) -> bool {
         && log.lines().count() == 4
 }
 
-// A day leaf, a dead leaf, or a bound at the top is enough.
+// A day leaf, a leaf of blocks, a dead leaf, or a bound at the top is enough.
 #[test]
 fn one_leaf_is_enough(rt: HostRuntime) -> Result<(), Fail> {
     let alloc = rt.alloc();
@@ -86,6 +86,7 @@ fn one_leaf_is_enough(rt: HostRuntime) -> Result<(), Fail> {
         (BOTH_DAYS, whole),
         (TOO_MANY, whole),
         (FOUR_OF_SEVEN, whole),
+        (FOUR_OF_SEVEN, least),
         (TWOS, whole),
         (TWOS, least),
     ] {
@@ -99,10 +100,11 @@ fn one_leaf_is_enough(rt: HostRuntime) -> Result<(), Fail> {
     Ok(())
 }
 
-// Two chunks of the bounds are tried at once.
+// Two chunks of the bounds are tried at once, in a search that doesn't count blocks first.
 #[test]
 fn bounds_are_shared_out(rt: HostRuntime) -> Result<(), Fail> {
-    assert!(rt; they_meet(&rt, rt.alloc(), &["plan", "F"], &[("F", TWOS)], 1)?);
+    let words = ["plan", "F", "--budget", "2000"];
+    assert!(rt; they_meet(&rt, rt.alloc(), &words, &[("F", TWOS)], 1)?);
     Ok(())
 }
 
