@@ -143,7 +143,7 @@ cited_once P n plain g r fits c =
       old.0,
       old.1,
       sym (plain_stays P n old.0) ∙ ap is_plain old.2 ∙ c.3,
-      cited_before P n g.goal old.0 r (fits.lines c.0 old.0 old.1) (subst (λ l. Cites P l r) (sym old.2) c.4),
+      cited_before P n g.goal g.counts old.0 r (fits.lines c.0 old.0 old.1) (subst (λ l. Cites P l r) (sym old.2) c.4),
     )
 
 pub cited_still : (P : Instance) (n : ℕ) (g : Log) (a b : List ℕ) → Fits P g → AreCited P g a b → AreCited P (strip P n g) a b

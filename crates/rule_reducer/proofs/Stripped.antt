@@ -13,9 +13,9 @@ use Rattle.rwsp_terms.specs.Weights.{AreWeights, IsWeight}
 use Rattle.rwsp_terms.proofs.Ascending.{Contains-first, Contains-later}
 use Rattle.rwsp_model.proofs.Numbering.{one_number}
 use Rattle.refutation_terms.specs.declared.lines.Line.{Line}
-use Rattle.refutation_terms.specs.declared.lines.Line.TheVariants.{Split, Unfinished, Closing}
+use Rattle.refutation_terms.specs.declared.lines.Line.TheVariants.{Closing}
 use Rattle.refutation_terms.specs.declared.lines.Leaf.{Leaf}
-use Rattle.refutation_terms.specs.declared.lines.Leaf.TheVariants.{Window, Day, Few, Words}
+use Rattle.refutation_terms.specs.declared.lines.Leaf.TheVariants.{Words}
 use Rattle.refutation_terms.specs.declared.lines.WordClaim.{WordClaim}
 use Rattle.refutation_terms.specs.declared.lines.WordClaim.TheVariants.{Dead, Light}
 use Rattle.refutation_terms.specs.Word.{Domains}
@@ -96,40 +96,37 @@ weighed_before P (Some (TheRules.Day j)) y i are h = (weight_left y j i are h).0
 weighed_before P other y i are h = h
 
 -- a rule that a stripped line cites was cited before
-pub cited_before : (P : Instance) (n : ℕ) (goal : Option ℕ) (line : Line) (r : Rule) → LineFits P goal line → Cites P (strip_line P n line) r → Cites P line r
-cited_before P n goal (Closing (Words p R (Dead len))) r fits c = (c.0, (was_listed n R c.0 c.1).0, c.2)
-cited_before P n goal (Closing (Words p R (Light turns reward y))) r fits (inl c) = inl (c.0, (was_listed n R c.0 c.1).0, c.2)
-cited_before P n goal (Closing (Words p R (Light turns reward y))) r fits (inr c) = inr (c.0, weighed_before P (rule_of P n) y c.0 fits.3.0 c.1, c.2)
-cited_before P n goal line r fits c = c
+pub cited_before : (P : Instance) (n : ℕ) (goal : Option ℕ) (counts : Bool) (line : Line) (r : Rule) → LineFits P goal counts line → Cites P (strip_line P n line) r → Cites P line r
+cited_before P n goal counts (Closing (Words p R (Dead len))) r fits c = (c.0, (was_listed n R c.0 c.1).0, c.2)
+cited_before P n goal counts (Closing (Words p R (Light turns reward y))) r fits (inl c) = inl (c.0, (was_listed n R c.0 c.1).0, c.2)
+cited_before P n goal counts (Closing (Words p R (Light turns reward y))) r fits (inr c) = inr (c.0, weighed_before P (rule_of P n) y c.0 fits.3.0 c.1, c.2)
+cited_before P n goal counts line r fits c = c
 
 not_in_list : (P : Instance) (n : ℕ) (r : Rule) (R : List ℕ) → rule_of P n ≡ Some r → Names P (without_rule n R) r → ⊥
 not_in_list P n r R is named = (was_listed n R named.0 named.1).1 (one_number P named.0 n r named.2 is)
 
 -- a line that is no plain leaf doesn't cite the rule once it was stripped
-stripped_cites_not : (P : Instance) (n : ℕ) (goal : Option ℕ) (line : Line) (r : Rule) → rule_of P n ≡ Some r → LineFits P goal line → is_plain line ≡ false → Cites P (strip_line P n line) r → ⊥
-stripped_cites_not P n goal (Split p x) r is fits other c = c
-stripped_cites_not P n goal (Closing (Window number p len)) r is fits other c = cc
-stripped_cites_not P n goal (Closing (Day j x over)) r is fits other c = cc
-stripped_cites_not P n goal (Closing (Words p R (Dead len))) r is fits other c = not_in_list P n r R is c
-stripped_cites_not P n goal (Closing (Words p R (Light turns reward y))) r is fits other (inl c) = not_in_list P n r R is c
-stripped_cites_not P n goal (Closing (Words p R (Light turns reward y))) r is fits other (inr c) =
+stripped_cites_not : (P : Instance) (n : ℕ) (goal : Option ℕ) (counts : Bool) (line : Line) (r : Rule) → rule_of P n ≡ Some r → LineFits P goal counts line → is_plain line ≡ false → Cites P (strip_line P n line) r → ⊥
+stripped_cites_not P n goal counts (Closing (Words p R (Dead len))) r is fits other c = not_in_list P n r R is c
+stripped_cites_not P n goal counts (Closing (Words p R (Light turns reward y))) r is fits other (inl c) = not_in_list P n r R is c
+stripped_cites_not P n goal counts (Closing (Words p R (Light turns reward y))) r is fits other (inr c) =
     let day : rule_of P n ≡ Some (TheRules.Day c.0) = is ∙ ap (λ (z : Rule). Some z) c.2 in
     let has : HasWeight (without_day (Some (TheRules.Day c.0)) y) c.0 = subst (λ o. HasWeight (without_day o y) c.0) day c.1 in
     (weight_left y c.0 c.0 fits.3.0 has).1 refl
-stripped_cites_not P n goal (Closing Few) r is fits other c = c
-stripped_cites_not P n goal Unfinished r is fits other c = c
+stripped_cites_not P n goal counts (Closing leaf) r is fits other c = cc
+stripped_cites_not P n goal counts line r is fits other c = c
 
 same_weights_for : (r : Rule) (y : List Weight) → AreWeights y → ((j : ℕ) → HasWeight y j → r ≡ TheRules.Day j → ⊥) → without_day (Some r) y ≡ y
 same_weights_for (TheRules.Day j) y are none = no_day_lost y j are (λ has. none j has refl)
 same_weights_for other y are none = refl
 
 -- a line that doesn't cite the rule is the same without it
-pub same_stripped : (P : Instance) (n : ℕ) (goal : Option ℕ) (line : Line) (r : Rule) → rule_of P n ≡ Some r → LineFits P goal line → (Cites P line r → ⊥) → strip_line P n line ≡ line
-same_stripped P n goal (Closing (Words p R (Dead len))) r is fits none = ap (λ a. Closing (Words p a (Dead len))) (none_left_out n R (λ c. none (n, c, is)))
-same_stripped P n goal (Closing (Words p R (Light turns reward y))) r is fits none =
+pub same_stripped : (P : Instance) (n : ℕ) (goal : Option ℕ) (counts : Bool) (line : Line) (r : Rule) → rule_of P n ≡ Some r → LineFits P goal counts line → (Cites P line r → ⊥) → strip_line P n line ≡ line
+same_stripped P n goal counts (Closing (Words p R (Dead len))) r is fits none = ap (λ a. Closing (Words p a (Dead len))) (none_left_out n R (λ c. none (n, c, is)))
+same_stripped P n goal counts (Closing (Words p R (Light turns reward y))) r is fits none =
     ap (λ l. Closing (Words p l (Light turns reward (without_day (rule_of P n) y)))) (none_left_out n R (λ c. none (inl (n, c, is))))
     ∙ ap (λ a. Closing (Words p R (Light turns reward a))) (ap (λ o. without_day o y) is ∙ same_weights_for r y fits.3.0 (λ j has e. none (inr (j, has, e))))
-same_stripped P n goal line r is fits none = refl
+same_stripped P n goal counts line r is fits none = refl
 
 -- what tells that a strip can't change a line
 
@@ -174,9 +171,9 @@ short_still P n (Closing (Words p R claim)) h = λ r c. h r (c.0, (was_listed n 
 short_still P n line h = h
 
 -- a plain leaf of the log isn't cited, or the line is no plain leaf
-cites_other : (P : Instance) (n k : ℕ) (r : Rule) (g : Log) (line : Line) → rule_of P n ≡ Some r → (CitesForGood P g r → ⊥) → slice_get g.lines k ≡ Some line → LineFits P g.goal line → (b : Bool) → is_plain line ≡ b → Cites P (strip_line P n line) r → ⊥
-cites_other P n k r g line is free got fits true e c = free (inr (k, line, got, e, cited_before P n g.goal line r fits c))
-cites_other P n k r g line is free got fits false e c = stripped_cites_not P n g.goal line r is fits e c
+cites_other : (P : Instance) (n k : ℕ) (r : Rule) (g : Log) (line : Line) → rule_of P n ≡ Some r → (CitesForGood P g r → ⊥) → slice_get g.lines k ≡ Some line → LineFits P g.goal g.counts line → (b : Bool) → is_plain line ≡ b → Cites P (strip_line P n line) r → ⊥
+cites_other P n k r g line is free got fits true e c = free (inr (k, line, got, e, cited_before P n g.goal g.counts line r fits c))
+cites_other P n k r g line is free got fits false e c = stripped_cites_not P n g.goal g.counts line r is fits e c
 
 pub passes_without : (P : Instance) (n : ℕ) (r : Rule) (g : Log) → rule_of P n ≡ Some r → Passes P g → (CitesForGood P g r → ⊥) → HoldsWithout P n g → Passes P (strip P n g)
 passes_without P n r g is passes free holds = record {
@@ -190,7 +187,7 @@ passes_without P n r g is passes free holds = record {
         let cites : Cites P (strip_line P n old.0) z = subst (λ l. Cites P l z) (sym old.2) c in
         still_named P n r z g.named is
         (λ e. cites_other P n k r g old.0 is free old.1 fits (is_plain old.0) refl (subst (Cites P (strip_line P n old.0)) e cites))
-        (passes.grounded.named k old.0 z old.1 (cited_before P n g.goal old.0 z fits cites));
+        (passes.grounded.named k old.0 z old.1 (cited_before P n g.goal g.counts old.0 z fits cites));
     short = λ k line got.
         let old = line_before P n g.lines k line got in
         subst (ListsShortOnly P) old.2 (short_still P n old.0 (passes.grounded.short k old.0 old.1));
@@ -222,7 +219,7 @@ cites_none P r g k line free none got false e c = none (k, line, got, e, c)
 -- a rule that nothing cites is dropped without judging anything
 pub uncited : (P : Instance) (n : ℕ) (r : Rule) (g : Log) → rule_of P n ≡ Some r → Passes P g → (CitesForGood P g r → ⊥) → (OneCites P false g.lines r → ⊥) → HoldsWithout P n g
 uncited P n r g is passes free none = λ k line got.
-    let same = same_stripped P n g.goal line r is (passes.grounded.fits.lines k line got) (cites_none P r g k line free none got (is_plain line) refl) in
+    let same = same_stripped P n g.goal g.counts line r is (passes.grounded.fits.lines k line got) (cites_none P r g k line free none got (is_plain line) refl) in
     subst (HoldsAt P g k) (sym same) (passes.holds k line got)
 
 -- what the tries of a rule tell

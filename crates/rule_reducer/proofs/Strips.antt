@@ -125,10 +125,10 @@ weights_stay : (P : Instance) (r : Option Rule) (y : List Weight) → AreWeights
 weights_stay P (Some (TheRules.Day j)) y are = weights_filtered P (λ (e : Weight). not (e.day == j)) y are
 weights_stay P other y are = are
 
-pub line_fits_still : (P : Instance) (n : ℕ) (goal : Option ℕ) (line : Line) → LineFits P goal line → LineFits P goal (strip_line P n line)
-line_fits_still P n goal (Closing (Words p R (Dead len))) h = (h.0, h.1, rules_stay P n R h.2)
-line_fits_still P n goal (Closing (Words p R (Light turns reward y))) h = (h.0, h.1, rules_stay P n R h.2, weights_stay P (rule_of P n) y h.3, h.4)
-line_fits_still P n goal line h = h
+pub line_fits_still : (P : Instance) (n : ℕ) (goal : Option ℕ) (counts : Bool) (line : Line) → LineFits P goal counts line → LineFits P goal counts (strip_line P n line)
+line_fits_still P n goal counts (Closing (Words p R (Dead len))) h = (h.0, h.1, rules_stay P n R h.2)
+line_fits_still P n goal counts (Closing (Words p R (Light turns reward y))) h = (h.0, h.1, rules_stay P n R h.2, weights_stay P (rule_of P n) y h.3, h.4)
+line_fits_still P n goal counts line h = h
 
 pub fits_still : (P : Instance) (n : ℕ) (g : Log) → Fits P g → Fits P (strip P n g)
 fits_still P n g fits = record {
@@ -137,5 +137,5 @@ fits_still P n g fits = record {
   goal = fits.goal;
   lines = λ k line got.
       let old = line_before P n g.lines k line got in
-      subst (LineFits P g.goal) old.2 (line_fits_still P n g.goal old.0 (fits.lines k old.0 old.1));
+      subst (LineFits P g.goal g.counts) old.2 (line_fits_still P n g.goal g.counts old.0 (fits.lines k old.0 old.1));
 }

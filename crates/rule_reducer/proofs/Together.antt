@@ -1,5 +1,5 @@
 -- A log that passes without some window rules passes without the first of them alone.
-use Rattle.std.proofs.Common.{◌≡◌, ◌≢◌, ℕ, ◌<◌, ◌≤◌, List, [], ◌∷◌, length, refl, sym, subst, inl, inr, Some, Option}
+use Rattle.std.proofs.Common.{◌≡◌, ◌≢◌, ℕ, ◌<◌, ◌≤◌, List, [], ◌∷◌, length, refl, sym, subst, inl, inr, Some, Option, Bool}
 use Rattle.std.specs.Prelude.{All, Contains, slice_get}
 use Rattle.std.proofs.lemmas.List.Elements.{All-contains, All-head, All-tail, All-weaker}
 use Rattle.rwsp_terms.specs.declared.data.Weight.{Weight}
@@ -9,8 +9,8 @@ use Rattle.rwsp_terms.specs.Instance.{Instance}
 use Rattle.rwsp_terms.specs.Rules.{rule_of, rules, Names, NamesShortOnly}
 use Rattle.rwsp_model.proofs.Numbering.{one_number}
 use Rattle.refutation_terms.specs.declared.lines.Line.{Line}
-use Rattle.refutation_terms.specs.declared.lines.Line.TheVariants.{Split, Unfinished, Closing}
-use Rattle.refutation_terms.specs.declared.lines.Leaf.TheVariants.{Window, Day, Few, Words}
+use Rattle.refutation_terms.specs.declared.lines.Line.TheVariants.{Closing}
+use Rattle.refutation_terms.specs.declared.lines.Leaf.TheVariants.{Words}
 use Rattle.refutation_terms.specs.declared.lines.WordClaim.TheVariants.{Dead, Light}
 use Rattle.refutation_terms.specs.Word.{Domains}
 use Rattle.refutation_terms.specs.WordsLeaf.{IsTooLight}
@@ -71,17 +71,17 @@ list_named P named R are h k c =
     let m = h r.0 (k, c, r.1) in
     subst (Contains named) (one_number P m.0 k r.0 m.2 r.1) m.1
 
-lists_named : (P : Instance) (named : List ℕ) (goal : Option ℕ) (line : Line) → LineFits P goal line → ((r : Rule) → Cites P line r → Names P named r) → ListsShortOnly P line → ListsAreNamed P named line
-lists_named P named goal (Closing (Words p R (Dead len))) fits h short = (list_named P named R fits.2 h, short)
-lists_named P named goal (Closing (Words p R (Light turns reward y))) fits h short = (list_named P named R fits.2 (λ r c. h r (inl c)), short)
-lists_named P named goal line fits h short = tt
+lists_named : (P : Instance) (named : List ℕ) (goal : Option ℕ) (counts : Bool) (line : Line) → LineFits P goal counts line → ((r : Rule) → Cites P line r → Names P named r) → ListsShortOnly P line → ListsAreNamed P named line
+lists_named P named goal counts (Closing (Words p R (Dead len))) fits h short = (list_named P named R fits.2 h, short)
+lists_named P named goal counts (Closing (Words p R (Light turns reward y))) fits h short = (list_named P named R fits.2 (λ r c. h r (inl c)), short)
+lists_named P named goal counts line fits h short = tt
 
 passing_laid_out : (P : Instance) (g : Log) → Passes P g → IsLaidOut P g
 passing_laid_out P g passes = record {
   fits = passes.grounded.fits;
   tree = passes.tree;
   listed = λ k line got.
-      lists_named P g.named g.goal line (passes.grounded.fits.lines k line got) (λ r c. passes.grounded.named k line r got c) (passes.grounded.short k line got);
+      lists_named P g.named g.goal g.counts line (passes.grounded.fits.lines k line got) (λ r c. passes.grounded.named k line r got c) (passes.grounded.short k line got);
 }
 
 -- a window rule takes no weights along
@@ -91,15 +91,11 @@ no_day other y h = refl
 
 -- the rules that a line cites are named where those are that it cites without one rule
 line_named : (P : Instance) (n : ℕ) (named : List ℕ) (line : Line) → IsWindowRule P n → ListsAreNamed P named line → ((r : Rule) → Cites P (strip_line P n line) r → Names P (without_rule n named) r) → (r : Rule) → Cites P line r → Names P named r
-line_named P n named (Split p x) window lists h r c = absurd c
-line_named P n named (Closing (Window number p len)) window lists h r c = more_named P n named r (h r c)
-line_named P n named (Closing (Day j x over)) window lists h r c = more_named P n named r (h r c)
 line_named P n named (Closing (Words p R (Dead len))) window lists h r c = (c.0, lists.0 c.0 c.1, c.2)
 line_named P n named (Closing (Words p R (Light turns reward y))) window lists h r (inl c) = (c.0, lists.0 c.0 c.1, c.2)
 line_named P n named (Closing (Words p R (Light turns reward y))) window lists h r (inr c) =
     more_named P n named r (h r (inr (c.0, subst (λ z. HasWeight z c.0) (sym (no_day (rule_of P n) y window)) c.1, c.2)))
-line_named P n named (Closing Few) window lists h r c = absurd c
-line_named P n named Unfinished window lists h r c = absurd c
+line_named P n named line window lists h r c = more_named P n named r (h r c)
 
 lists_short : (P : Instance) (named : List ℕ) (line : Line) → ListsAreNamed P named line → ListsShortOnly P line
 lists_short P named (Closing (Words p R claim)) h = h.1

@@ -42,12 +42,13 @@ pub goal_fits : (P : Instance) (o : Opening) (goal : Option ℕ) → GoalFits P 
 goal_fits P o None fits = tt
 goal_fits P o (Some goal) fits = (refl, fits.1, fits.2)
 
--- a judge of the rules and of the goal of a log
-pub same_judging : (P : Instance) (g : Log) (J : Judging) (named : List ℕ) (goal : Option ℕ) → J ≡ record { problem = P; named = named; goal = goal } → named ≡ g.named → goal ≡ g.goal → J ≡ judging P g
-same_judging P g J named goal is rules goals =
-    let with_rules : List ℕ → Judging = λ R. record { problem = P; named = R; goal = goal } in
-    let with_goal : Option ℕ → Judging = λ o. record { problem = P; named = g.named; goal = o } in
-    is ∙ ap with_rules rules ∙ ap with_goal goals
+-- a judge of the rules and of the terms of a log
+pub same_judging : (P : Instance) (g : Log) (J : Judging) (named : List ℕ) (goal : Option ℕ) (counts : Bool) → J ≡ record { problem = P; named = named; goal = goal; counts = counts } → named ≡ g.named → goal ≡ g.goal → counts ≡ g.counts → J ≡ judging P g
+same_judging P g J named goal counts is rules goals counting =
+    let with_rules : List ℕ → Judging = λ R. record { problem = P; named = R; goal = goal; counts = counts } in
+    let with_goal : Option ℕ → Judging = λ o. record { problem = P; named = g.named; goal = o; counts = counts } in
+    let with_counts : Bool → Judging = λ b. record { problem = P; named = g.named; goal = g.goal; counts = b } in
+    is ∙ ap with_rules rules ∙ ap with_goal goals ∙ ap with_counts counting
 
 -- the walk isn't whole in front of a line
 pub not_whole : (P : Instance) (g : Log) (k : ℕ) (w : State) → Passes P g → k < length g.lines → IsStateOf P g.opening (take k g.lines) w → w.whole ≡ false

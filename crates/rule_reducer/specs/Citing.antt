@@ -5,13 +5,13 @@ use Rattle.rwsp_terms.specs.Instance.{Instance}
 use Rattle.rwsp_terms.specs.Rules.{Names}
 use Rattle.refutation_terms.specs.declared.lines.Line.{Line}
 use Rattle.refutation_terms.specs.declared.lines.Line.TheVariants.{Closing}
-use Rattle.refutation_terms.specs.declared.lines.Leaf.TheVariants.{Window, Day, Words}
+use Rattle.refutation_terms.specs.declared.lines.Leaf.TheVariants.{Words}
 use Rattle.refutation_terms.specs.Log.{Log, Cites, OpeningCites}
 
--- a window or a day leaf, which rests on one rule by itself and not by a list
+-- a leaf that isn't one of words: what it rests on is in no list, and a strip leaves it as it is
 abbrev pub is_plain : Line → Bool
-is_plain (Closing (Window number p len)) = true
-is_plain (Closing (Day j x over)) = true
+is_plain (Closing (Words p R claim)) = false
+is_plain (Closing leaf) = true
 is_plain line = false
 
 -- one of the lines, a plain leaf or another line, cites the rule

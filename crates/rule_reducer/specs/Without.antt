@@ -13,4 +13,4 @@ HoldsWithout P number g =
 
 -- what the lines of the log are judged by
 abbrev pub judging : Instance → Log → Judging
-judging P g = record { problem = P; named = g.named; goal = g.goal }
+judging P g = record { problem = P; named = g.named; goal = g.goal; counts = g.counts }

@@ -1,5 +1,5 @@
 // Which rules the lines of a log cite, and which of them no strip takes out.
-ghost use Rattle.std.specs.Prelude.{◌≡◌, ◌↔◌, ◌⊎◌, ℕ, slice_get, Some, Option, IfOk, OnOk, true, false};
+ghost use Rattle.std.specs.Prelude.{◌≡◌, ◌↔◌, ◌⊎◌, ℕ, slice_get, Some, Option, Bool, IfOk, OnOk, true, false};
 ghost use Rattle.rwsp_terms.specs.declared.data.Rule.{Rule};
 ghost use Rattle.rwsp_terms.specs.Rules.{Names};
 ghost use Rattle.refutation_terms.specs.declared.lines.Line.{Line};
@@ -16,25 +16,26 @@ use std::alloc::{AllocError, Global};
 /// The rules that the lines of a log cite.
 #[derive(Drop)]
 pub struct Citations {
-    /// Those that the turn or a window or a day leaf cites: no strip takes them out there.
+    /// Those that the turn or a leaf that isn't one of words cites: no strip takes them out there.
     pub for_good: RuleList,
     /// Those that leaves of words cite by their lists and their weights.
     pub in_lists: RuleList,
 }
 
-// Whether the line is a window or a day leaf.
+// Whether the line is a leaf that isn't one of words.
 fn is_plain(line: &Line) -> bool
     ensures { result ≡ is_plain line.now }
 {
     match line {
-        Line::Closing(Leaf::Window { .. }) | Line::Closing(Leaf::Day { .. }) => true,
+        Line::Closing(Leaf::Words { .. }) => false,
+        Line::Closing(_) => true,
         _ => false,
     }
 }
 
-// Puts the rule that a plain leaf cites into the list.
+// Puts the rules that a plain leaf cites into the list.
 fn put_plain(rules: &mut RuleList, problem: &Problem, line: &Line) -> Result<(), AllocError>
-    requires { (goal : Option ℕ) × LineFits problem.now goal line.now }
+    requires { (goal : Option ℕ) × (counts : Bool) × LineFits problem.now goal counts line.now }
     ensures { OnOk result ((r : Rule) →
         Names problem.now rules.new r ↔
         (Names problem.now rules.old r ⊎ ((is_plain line.now ≡ true) × Cites problem.now line.now r))) }
@@ -47,7 +48,7 @@ fn put_plain(rules: &mut RuleList, problem: &Problem, line: &Line) -> Result<(),
 
 // Puts the rules that a line cites which is no plain leaf into the list.
 fn put_listed(rules: &mut RuleList, problem: &Problem, line: &Line) -> Result<(), AllocError>
-    requires { (goal : Option ℕ) × LineFits problem.now goal line.now }
+    requires { (goal : Option ℕ) × (counts : Bool) × LineFits problem.now goal counts line.now }
     ensures { OnOk result ((r : Rule) →
         Names problem.now rules.new r ↔
         (Names problem.now rules.old r ⊎ ((is_plain line.now ≡ false) × Cites problem.now line.now r))) }
@@ -65,8 +66,8 @@ fn put_all(
     problem: &Problem,
     lines: &[Line],
 ) -> Result<(), AllocError>
-    requires { (goal : Option ℕ)
-        × ((k : ℕ) (line : Line) → slice_get lines.now k ≡ Some line → LineFits problem.now goal line) }
+    requires { (goal : Option ℕ) × (counts : Bool)
+        × ((k : ℕ) (line : Line) → slice_get lines.now k ≡ Some line → LineFits problem.now goal counts line) }
     ensures plain { OnOk result ((r : Rule) →
         Names problem.now plain.new r ↔ (Names problem.now plain.old r ⊎ OneCites problem.now true lines.now r)) }
     ensures listed { OnOk result ((r : Rule) →

@@ -55,10 +55,10 @@ fn descend_all(
 /// wherever the log then still passes: a log that needs each rule that it names. A log that doesn't
 /// pass is refused, with the cause that checking its text gives.
 ///
-/// A strip leaves the domains at each line as they are. So a rule that no line cites is dropped, and one that a window
-/// or a day leaf or the turn cites is kept, without judging anything; for each other rule the leaves of words that list
-/// it are judged without it, up to the first that doesn't hold. The log loses its rules in place, so beside
-/// it there is memory for a line at a time.
+/// A strip leaves the domains at each line as they are. So a rule that no line cites is dropped, and one that the turn
+/// or a leaf that isn't one of words cites is kept, without judging anything; for each other rule the leaves of words
+/// that list it are judged without it, up to the first that doesn't hold. The log loses its rules in place, so beside it
+/// there is memory for a line at a time.
 pub fn reduce_in_place(alloc: Global, problem: &Problem, log: Log) -> Result<Log, Fail<LogRefusal>>
     requires { Fits problem.now log }
     ensures reduced { MatchAnswer result

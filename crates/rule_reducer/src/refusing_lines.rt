@@ -29,7 +29,7 @@ fn refuses(
     rule: Rule,
 ) -> Result<bool, AllocError>
     requires state { (o : Opening) × (lines : List Line) × IsStateOf judge.old.problem o lines walk.now }
-    requires fits { LineFits judge.old.problem judge.old.goal line.now }
+    requires fits { LineFits judge.old.problem judge.old.goal judge.old.counts line.now }
     requires short { ListsShortOnly judge.old.problem line.now }
     requires rule { rule_of judge.old.problem number ≡ Some rule }
     ensures same { judge.new ≡ judge.old }
@@ -56,7 +56,7 @@ fn judge_of<'a>(problem: &'a Problem, log: &'a ShrinkingLog) -> LeafJudge<'a>
     requires { Fits problem.now log.now }
     ensures { result ≡ judging problem.now log.now }
 {
-    LeafJudge::new(problem, log.named(), log.goal())
+    LeafJudge::new(problem, log.named(), log.terms())
 }
 
 // The walk to a place among the lines of a log that passes, without judging any.

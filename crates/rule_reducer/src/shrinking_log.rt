@@ -8,7 +8,7 @@ ghost use Rattle.refutation_terms.specs.Strip.{strip, strip_line};
 use crate::lists::without;
 use crate::stripped_lines::strip_lines;
 use refutation_log::Log;
-use refutation_terms::{Line, Opening};
+use refutation_terms::{Line, Opening, Terms};
 use rwsp_terms::{Rule, RuleList};
 use std::alloc::{AllocError, Global};
 use std::marker::Model;
@@ -20,6 +20,7 @@ pub struct ShrinkingLog {
     named: RuleList,
     opening: Opening,
     goal: Option<u32>,
+    counts: bool,
     lines: Vec<Line>,
 }
 
@@ -30,7 +31,13 @@ impl Model for ShrinkingLog {
 
     ghost Value = { LogValue };
 
-    ghost view = { λ g. record { named = g.named; opening = g.opening; goal = g.goal; lines = g.lines.items } };
+    ghost view = { λ g. record {
+      named = g.named;
+      opening = g.opening;
+      goal = g.goal;
+      counts = g.counts;
+      lines = g.lines.items;
+    } };
 
     ghost invariant = { λ g. length g.lines.items ≤ MOST_LINES };
 }
@@ -40,11 +47,12 @@ impl ShrinkingLog {
     pub fn of(log: Log) -> ShrinkingLog
         ensures { result ≡ log }
     {
-        let (named, opening, goal, lines) = log.into_parts();
+        let (named, opening, goal, counts, lines) = log.into_parts();
         ShrinkingLog {
             named,
             opening,
             goal,
+            counts,
             lines,
         }
     }
@@ -63,11 +71,15 @@ impl ShrinkingLog {
         self.opening
     }
 
-    /// Its goal, if it has one.
-    pub fn goal(&self) -> Option<u32>
-        ensures { result ≡ self.now.goal }
+    /// What its lines may be, by its goal and by whether they may count blocks.
+    pub fn terms(&self) -> Terms
+        ensures goal { result.goal ≡ self.now.goal }
+        ensures counts { result.counts ≡ self.now.counts }
     {
-        self.goal
+        Terms {
+            goal: self.goal,
+            counts: self.counts,
+        }
     }
 
     /// Its lines.
@@ -92,6 +104,6 @@ impl ShrinkingLog {
         requires { IsTree self.lines }
         ensures { result ≡ self }
     {
-        Log::new(self.named, self.opening, self.goal, self.lines)
+        Log::new(self.named, self.opening, self.goal, self.counts, self.lines)
     }
 }

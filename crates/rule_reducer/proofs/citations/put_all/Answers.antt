@@ -10,10 +10,10 @@ loop-line-init c = record {
 }
 
 pub put_plain-requires : goal.put_plain-requires
-put_plain-requires c = (c.requires.0, c.requires.1 c.loop-line.line-index _ (line_read c.args.lines.now c.args.lines.now c.loop-line.line-index c.line-item.result refl (omega arith) c.line-item.is))
+put_plain-requires c = (c.requires.0, c.requires.1, c.requires.2 c.loop-line.line-index _ (line_read c.args.lines.now c.args.lines.now c.loop-line.line-index c.line-item.result refl (omega arith) c.line-item.is))
 
 pub put_listed-requires : goal.put_listed-requires
-put_listed-requires c = (c.requires.0, c.requires.1 c.loop-line.line-index _ (line_read c.args.lines.now c.args.lines.now c.loop-line.line-index c.line-item.result refl (omega arith) c.line-item.is))
+put_listed-requires c = (c.requires.0, c.requires.1, c.requires.2 c.loop-line.line-index _ (line_read c.args.lines.now c.args.lines.now c.loop-line.line-index c.line-item.result refl (omega arith) c.line-item.is))
 
 pub loop-line-preserved : goal.loop-line-preserved
 loop-line-preserved c =

@@ -17,7 +17,7 @@ pub refuses-requires-clause-fits : goal.refuses-requires-clause-fits
 refuses-requires-clause-fits c =
     let g = c.args.log.now in
     let line = c.index-lines-i.result in
-    subst (λ (J : Judging). LineFits J.problem J.goal line) (sym c.loop-i.invariant.same)
+    subst (λ (J : Judging). LineFits J.problem J.goal J.counts line) (sym c.loop-i.invariant.same)
     (c.requires.passes.grounded.fits.lines c.loop-i.i line (line_read g.lines _ c.loop-i.i line c.lines-lines.ensures (omega (arith, ap length c.lines-lines.ensures)) c.index-lines-i.is))
 
 pub refuses-requires-clause-short : goal.refuses-requires-clause-short
@@ -52,6 +52,7 @@ go_past-requires-clause-holds c =
     let line = c.index-lines-i.result in
     let here = line_read g.lines _ i line c.lines-lines.ensures (omega (arith, ap length c.lines-lines.ensures)) c.index-lines-i.is in (
       g.goal,
+      g.counts,
       c.requires.passes.grounded.fits.lines i line here,
       (g.opening, take i g.lines, c.loop-i.invariant.walked, line_at c.args.problem.now g i line here c.requires.passes),
     )

@@ -7,7 +7,7 @@ use Rattle.rule_reducer.proofs.refusing_lines.judge_of.Goals as goal
 pub new-requires : goal.new-requires
 new-requires c =
     let g = c.args.log.now in
-    subst (GoalFits c.args.problem.now Full) (sym c.goal.ensures) (goal_fits c.args.problem.now g.opening g.goal c.requires.goal)
+    subst (GoalFits c.args.problem.now Full) (sym c.terms.ensures.goal) (goal_fits c.args.problem.now g.opening g.goal c.requires.goal)
 
 pub returns : goal.returns
-returns c = same_judging c.args.problem.now c.args.log.now c.new.result _ _ c.new.ensures c.named.ensures c.goal.ensures
+returns c = same_judging c.args.problem.now c.args.log.now c.new.result _ _ _ c.new.ensures c.named.ensures c.terms.ensures.goal c.terms.ensures.counts

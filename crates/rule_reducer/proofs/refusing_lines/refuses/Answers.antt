@@ -9,7 +9,7 @@ use Rattle.rule_reducer.proofs.refusing_lines.refuses.Goals as goal
 pub holds-judged-requires-clause-fits : goal.holds-judged-requires-clause-fits
 holds-judged-requires-clause-fits c =
     let J = c.args.judge.now in
-    subst (LineFits J.problem J.goal) (sym (c.in_ok-stripped.ensures J.problem c.requires.rule)) (line_fits_still J.problem c.args.number J.goal c.args.line.now c.requires.fits)
+    subst (LineFits J.problem J.goal J.counts) (sym (c.in_ok-stripped.ensures J.problem c.requires.rule)) (line_fits_still J.problem c.args.number J.goal J.counts c.args.line.now c.requires.fits)
 
 pub holds-judged-requires-clause-short : goal.holds-judged-requires-clause-short
 holds-judged-requires-clause-short c =

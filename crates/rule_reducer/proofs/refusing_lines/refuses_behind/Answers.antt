@@ -20,7 +20,7 @@ refuses-refused-requires-clause-state c =
 pub refuses-refused-requires-clause-fits : goal.refuses-refused-requires-clause-fits
 refuses-refused-requires-clause-fits c =
     let line = c.index-lines-place.result in
-    subst (λ (J : Judging). LineFits J.problem J.goal line) (sym c.judge_of-judge.ensures)
+    subst (λ (J : Judging). LineFits J.problem J.goal J.counts line) (sym c.judge_of-judge.ensures)
     (c.requires.passes.grounded.fits.lines c.args.place line (line_read c.args.log.now.lines _ c.args.place line c.lines-lines.ensures c.requires.place c.index-lines-place.is))
 
 pub refuses-refused-requires-clause-short : goal.refuses-refused-requires-clause-short

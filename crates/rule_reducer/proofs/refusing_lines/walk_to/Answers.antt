@@ -13,6 +13,7 @@ go_past-requires-clause-holds c =
     let line = c.index-lines-i.result in
     let here = line_read g.lines _ i line c.lines-lines.ensures (omega (arith, c.requires.place)) c.index-lines-i.is in (
       g.goal,
+      g.counts,
       c.requires.passes.grounded.fits.lines i line here,
       (g.opening, take i g.lines, c.loop-i.invariant, line_at c.args.problem.now g i line here c.requires.passes),
     )
