@@ -1,6 +1,6 @@
 -- What is found where blocks are counted.
 use Rattle.std.proofs.Common.{◌≡◌, ℕ, ◌<◌, [], ◌∷◌, Bool, true, false, Option, Some, None, refl, sym, ◌∙◌, subst}
-use Rattle.std.specs.Prelude.{IsTrue, MatchOption, Result, Ok, Err, IfOk}
+use Rattle.std.specs.Prelude.{◌↔◌, IsTrue, MatchOption, Result, Ok, Err, IfOk}
 use Rattle.std.specs.declared.alloc.AllocError.{AllocError}
 use Rattle.rwsp_terms.specs.declared.data.Symbol.{Symbol}
 use Rattle.rwsp_terms.specs.Instance.{Instance, cells}
@@ -26,9 +26,10 @@ use Rattle.refutation_log.specs.declared.best_found.BestFound.TheVariants as Bes
 use Rattle.refutation_log.specs.Planned.{IsBlocksTree, NoPlainLeafHolds, IsCountingLog, IsCountedLog, IsCounted}
 use Rattle.refutation_log.specs.Bests.{IsBestCounted}
 use Rattle.refutation_log.specs.OneLeaf.{ClosesAll}
+use Rattle.propagators.specs.Days.{IsDaySpent}
 use Rattle.roster_search.proofs.Reaching.{unweighed_leaf}
 use Rattle.roster_search.specs.Founds.{IsFound}
-use Rattle.roster_planner.specs.CaseReasons.{WeighNoWords}
+use Rattle.roster_planner.specs.CaseReasons.{AreCaseReasons, WeighNoWords}
 use Rattle.roster_planner.specs.Counted.{IsCountedProof, IsPlainLeaf, IsPlainLook}
 use Rattle.roster_planner.proofs.OneLeaves.{closed_at_top}
 
@@ -45,10 +46,10 @@ plain_look P leaves spent S Quiet plain light h = no_plain P leaves S plain h.0
 plain_look P leaves spent S (Closed line) plain light h = (h.1, light S line h.0)
 plain_look P leaves spent S (Cut p x line) plain light h = no_plain P leaves S plain h.0
 
--- what is said of each problem that is served is said of this one
-pub if_plain_look : (P : Instance) (serves : Instance → Type 0) (leaves : Store → Line → Type 0) (spent : Store → ℕ → Symbol → Type 0) (S : Store) (r : Result Look AllocError) → HasPlainLeaves P leaves → WeighNoWords leaves → serves P → IfOk r (λ look. (Q : Instance) → serves Q → IsLook Q (leaves S) (spent S) S look) → IfOk r (IsPlainLook P S)
-if_plain_look P serves leaves spent S (Ok look) plain light served h = plain_look P leaves (spent S) S look plain light (h P served)
-if_plain_look P serves leaves spent S (Err e) plain light served h = tt
+-- what is said of each problem that is served is said of this one. Symbols are spent for days alone
+pub if_plain_look : (P : Instance) (serves : Instance → Type 0) (leaves : Store → Line → Type 0) (spent : Store → ℕ → Symbol → Type 0) (S : Store) (r : Result Look AllocError) → HasPlainLeaves P leaves → WeighNoWords leaves → ((T : Store) (p : ℕ) (x : Symbol) → spent T p x ↔ IsDaySpent P (has_domain T) p x) → serves P → IfOk r (λ look. (Q : Instance) → serves Q → IsLook Q (leaves S) (spent S) S look) → IfOk r (IsPlainLook P S)
+if_plain_look P serves leaves spent S (Ok look) plain light days served h = plain_look P leaves (spent S) S look plain light (h P served)
+if_plain_look P serves leaves spent S (Err e) plain light days served h = tt
 
 -- under equal domains the same leaves hold
 same_plain : (P : Instance) (D E : Domains) (leaf : Leaf) → 0 < cells P → AreSame P D E → IsPlainLeaf P D leaf → IsPlainLeaf P E leaf
@@ -135,15 +136,15 @@ uncounted P start goal budget leaves spent (Roster s) h = tt
 uncounted P start goal budget leaves spent (NoRoster g) h = h.2.is_log.no_blocks
 uncounted P start goal budget leaves spent (Undecided g) h = h.1.is_log.no_blocks
 
-pub if_uncounted : (P : Instance) (start : Opening) (goal : Option ℕ) (budget : ℕ) (leaves : Store → Line → Type 0) (spent : Store → ℕ → Symbol → Type 0) (r : Result Found AllocError) → IfOk r (IsFound P start goal budget leaves spent) → IfOk r (IsCounted P false)
-if_uncounted P start goal budget leaves spent (Ok found) h = uncounted P start goal budget leaves spent found h
-if_uncounted P start goal budget leaves spent (Err e) h = tt
+pub if_uncounted : (P : Instance) (start : Opening) (goal : Option ℕ) (budget : ℕ) (leaves : Store → Line → Type 0) (spent : Store → ℕ → Symbol → Type 0) (r : Result Found AllocError) → AreCaseReasons P leaves spent → IfOk r (IsFound P start goal budget leaves spent) → IfOk r (IsCounted P false)
+if_uncounted P start goal budget leaves spent (Ok found) reasons h = uncounted P start goal budget leaves spent found h
+if_uncounted P start goal budget leaves spent (Err e) reasons h = tt
 
 -- where no leaf of blocks holds, a log that may not count is as one of a search that counts
 search_counts : (P : Instance) (counts : Bool) (g : Log) → NoBlocksHold P → g.counts ≡ false → IsCountedLog P counts g
-search_counts P false g none no = no
-search_counts P true g none no = record {
-  may_count = (λ may. let never : IsTrue false = subst IsTrue no may in absurd (cc never), λ h. absurd (none h.0 h.1.symbol h.1.holds));
+search_counts P false g none uncounts = uncounts
+search_counts P true g none uncounts = record {
+  may_count = (λ may. let never : IsTrue false = subst IsTrue uncounts may in absurd (cc never), λ h. absurd (none h.0 h.1.symbol h.1.holds));
   no_plain = λ h. absurd (none h.0 h.1.symbol h.1.holds);
   no_blocks = λ h. none;
 }

@@ -8,6 +8,9 @@ use Rattle.roster_planner.proofs.of_cases.plain_reasons.Goals as goal
 pub returns-clause-serves : goal.returns-clause-serves
 returns-clause-serves c = (c.new-3.ensures.serves c.args.problem.now).1 (c.in_ok-windows.ensures.serves, c.in_ok-days.ensures.serves)
 
+pub returns-clause-tracks : goal.returns-clause-tracks
+returns-clause-tracks c = (c.new-3.ensures.tracks c.args.doms.now).1 (c.in_ok-windows.ensures.tracks, c.in_ok-days.ensures.tracks)
+
 pub returns-clause-leaves : goal.returns-clause-leaves
 returns-clause-leaves c = record {
   windows = λ S number p len fits. (c.new-3.ensures.leaves S (Closing (Window number p len))).1 (inl (c.in_ok-windows.ensures.leaves S number p len fits));

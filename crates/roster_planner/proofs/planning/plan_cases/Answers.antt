@@ -1,4 +1,5 @@
 -- What the search finds is a plan, by the reasons, and its log may not count.
+use Rattle.std.specs.Prelude.{None}
 use Rattle.roster_planner.proofs.Sharpness.{plan_found}
 use Rattle.roster_planner.proofs.Counting.{if_uncounted}
 use Rattle.roster_planner.proofs.planning.plan_cases.Goals as goal
@@ -24,4 +25,4 @@ returns-clause-planned g c =
     c.planner_search-found.ensures.complete
 
 pub returns-clause-counted : goal.returns-clause-counted
-returns-clause-counted g c = if_uncounted c.args.automaton.now.problem _ _ _ _ _ c.planner_search-found.result c.planner_search-found.ensures.found
+returns-clause-counted g c = if_uncounted c.args.automaton.now.problem c.first_turn-opening.result None c.args.budget _ _ c.planner_search-found.result c.in_ok-reasons.ensures.reasons.cases c.planner_search-found.ensures.found
