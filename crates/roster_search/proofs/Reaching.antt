@@ -2,9 +2,9 @@
 use Rattle.std.proofs.Common.{◌≡◌, ℕ, ◌+◌, ◌*◌, ◌<◌, Option, Some, None, false, refl, sym, subst, arith}
 use Rattle.rwsp_terms.specs.Instance.{Instance, cells}
 use Rattle.refutation_terms.specs.declared.lines.Line.{Line}
-use Rattle.refutation_terms.specs.declared.lines.Line.TheVariants.{Split, Unfinished, Closing}
-use Rattle.refutation_terms.specs.declared.lines.Leaf.TheVariants.{Window, Day, Few, Words, Blocks}
-use Rattle.refutation_terms.specs.declared.lines.WordClaim.TheVariants.{Dead, Light}
+use Rattle.refutation_terms.specs.declared.lines.Line.TheVariants.{Closing}
+use Rattle.refutation_terms.specs.declared.lines.Leaf.TheVariants.{Few, Words}
+use Rattle.refutation_terms.specs.declared.lines.WordClaim.TheVariants.{Light}
 use Rattle.refutation_terms.specs.declared.lines.Opening.{Opening}
 use Rattle.refutation_terms.specs.declared.lines.Opening.TheVariants.{Full}
 use Rattle.refutation_terms.specs.Word.{Domains, AreSame}
@@ -18,14 +18,9 @@ use Rattle.roster_search.specs.Guides.{AreUnweighed}
 
 -- a line that weighs no words fits and holds for any goal
 unweighed_stands : (P : Instance) (goal : Option ℕ) (D : Domains) (line : Line) → IsUnweighed line → LineFits P None false line → Holds P None D line → LineFits P goal false line × Holds P goal D line
-unweighed_stands P goal D (Split p x) light fits h = (fits, h)
-unweighed_stands P goal D (Closing (Window number p len)) light fits h = (fits, h)
-unweighed_stands P goal D (Closing (Day j x over)) light fits h = (fits, h)
-unweighed_stands P goal D (Closing (Words p R (Dead len))) light fits h = (fits, h)
 unweighed_stands P goal D (Closing (Words p R (Light turns reward y))) light fits h = absurd light
 unweighed_stands P goal D (Closing Few) light fits h = absurd fits
-unweighed_stands P goal D (Closing (Blocks x)) light fits h = (fits, h)
-unweighed_stands P goal D Unfinished light fits h = (fits, h)
+unweighed_stands P goal D line light fits h = (fits, h)
 
 pub unweighed_leaf : (P : Instance) (goal : Option ℕ) (D : Domains) (line : Line) → IsHoldingLeaf P None D line → IsUnweighed line → IsHoldingLeaf P goal D line
 unweighed_leaf P goal D line h light =
