@@ -47,15 +47,15 @@ escaping P goal D (Closing (Words p R (Dead len))) w known h = symbols_over P D 
 escaping P goal D (Closing (Words p R (Light turns reward y))) w known h = symbols_over P D known p w h.0.heavy.clean.over
 escaping P goal D line w known h = absurd h
 
-tree_caused : (P : Instance) (g : Log) (bytes : List ℕ) (n i : ℕ) (w : List Symbol) → TreeCause P g.goal g.named (domains_at P g.opening g.lines (length g.lines)) n bytes (Refusals.Escape i w) → All (IsSymbol P) w
+tree_caused : (P : Instance) (g : Log) (bytes : List ℕ) (n i : ℕ) (w : List Symbol) → TreeCause P g.goal g.counts g.named (domains_at P g.opening g.lines (length g.lines)) n bytes (Refusals.Escape i w) → All (IsSymbol P) w
 tree_caused P g bytes n i w h =
     escaping P g.goal (domains_at P g.opening g.lines (length g.lines)) h.1.0 w (λ p z k. known_at P g.opening g.lines (length g.lines) p z k) h.1.3
 
 caused : (P : Instance) (kind : LogKind) (front : Front) (bytes : List ℕ) (n : ℕ) (w : List Symbol) → Cause P kind front bytes (Refusals.Escape n w) → All (IsSymbol P) w
 caused P kind Start bytes n w h = absurd h
 caused P kind (Versioned v) bytes n w h = absurd h
-caused P kind (BeforeTurn named) bytes n w h = absurd h
-caused P kind (BeforeGoal named) bytes n w h = absurd h
+caused P kind (BeforeTurn counts named) bytes n w h = absurd h
+caused P kind (BeforeGoal counts named) bytes n w h = absurd h
 caused P kind (Reading g) bytes n w (inl h) = absurd h.1
 caused P kind (Reading g) bytes n w (inr h) = tree_caused P g bytes _ n w h.1
 
