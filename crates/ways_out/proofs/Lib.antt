@@ -1,0 +1,13 @@
+pub mod Edited
+pub mod Pieces
+pub mod Rows
+pub mod AllChanges
+pub mod Valid
+pub mod Easier
+pub mod Staying
+pub mod Helping
+pub mod Reaching
+pub mod Columns
+pub mod Agreeing
+pub mod AllOutcomes
+pub mod Reduced

@@ -1,0 +1,16 @@
+use Rattle.std.proofs.Common.{◌-◌, ◌<◌}
+use Rattle.ways_out.specs.Loosened.{loosened, IsStep}
+use Rattle.ways_out.specs.Helping.{HasRoster}
+use Rattle.ways_out.specs.Reached.{HasReached}
+use Rattle.ways_out.proofs.nearest.narrow.Given as goal
+
+abbrev pub invariant-loop-reached : goal.invariant-loop-reached
+invariant-loop-reached g l = record {
+  reached : HasReached l.problem l.effort l.change l.reached;
+  order : l.reached.tried < l.nearest;
+  step : IsStep l.problem l.change l.nearest;
+  roster : HasRoster (loosened l.problem l.change l.nearest);
+}
+
+abbrev pub decreases-loop-reached : goal.decreases-loop-reached
+decreases-loop-reached g l = l.nearest - l.reached.tried

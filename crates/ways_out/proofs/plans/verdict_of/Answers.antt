@@ -1,0 +1,8 @@
+use Rattle.ways_out.proofs.Helping.{log_refutes, none_meets}
+use Rattle.ways_out.proofs.plans.verdict_of.Goals as goal
+
+pub returns-in-NoRoster : goal.returns-in-NoRoster
+returns-in-NoRoster c = λ P effort planned.
+    let log = c.in-NoRoster.field-0 in
+    let is = rw c.in-NoRoster.is at planned in
+    none_meets P log.named (log_refutes P log is.0.0 is.0.2.no_goal)

@@ -1,0 +1,10 @@
+pub mod Loosened
+pub mod Changes
+pub mod Laws
+pub mod Helping
+pub mod Answers
+pub mod Texts
+pub mod Agreement
+pub mod Verdicts
+pub mod Reached
+pub mod Columns

@@ -1,0 +1,20 @@
+//! Ways out of a problem without a roster: which numbers of it to change, each by itself, so that it has one.
+#![tactic(auto)]
+
+mod answer;
+mod change;
+mod laws;
+mod listed;
+mod loosening;
+mod nearest;
+mod parts;
+mod plans;
+mod print;
+mod side_by_side;
+mod ways;
+
+pub use answer::WaysOut;
+pub use change::{Change, Outcome};
+pub use laws::{changes_are_listed, other_rules_stay, rosters_stay, ways_agree};
+pub use print::{print_ways, status_of_ways};
+pub use ways::ways_out;

@@ -1,0 +1,168 @@
+// A problem with one thing loosened.
+ghost use Rattle.std.specs.Prelude.{◌≡◌, ◌+◌, ◌<◌, ◌≤◌, IfOk, length, remove, set};
+ghost use Rattle.rwsp_terms.specs.declared.limits.TheConstants.{GREATEST_BOUND, MOST_WEEKS};
+ghost use Rattle.rwsp_terms.specs.Instance.{IsShift, IsDay, IsClass};
+ghost use Rattle.rwsp_model.specs.Parts.{instance_of};
+ghost use Rattle.rwsp_model.specs.Validity.{AreSmall, IsSmallRange};
+ghost use Rattle.ways_out.specs.Loosened.{loosened, most_steps, with_bounds, with_demand, IsChange, IsStep};
+
+use crate::change::Change;
+use crate::parts::{demand_of, demand_ranges, parts_of};
+use rwsp_model::{Parts, Problem};
+use rwsp_terms::limits::{GREATEST_SHORT_BOUND, MOST_WEEKS};
+use rwsp_terms::{Bounds, Class, DemandRow, Symbol};
+use std::alloc::{AllocError, Global};
+
+/// How many steps a change has; none where it can't be loosened any more.
+pub fn most_steps(problem: &Problem, change: Change) -> u32
+    requires { IsChange problem.now change }
+    ensures value { result ≡ most_steps problem.now change }
+    ensures few { result ≤ GREATEST_BOUND }
+{
+    problem.prove_limits();
+    match change {
+        Change::LongerBlocks(class) => problem
+            .cells()
+            .max(GREATEST_SHORT_BOUND)
+            .saturating_sub(problem.bounds(class).greatest),
+        Change::ShorterBlocks(class) => problem.bounds(class).least.saturating_sub(1),
+        Change::LowerDemand { day, shift } => demand_of(problem, shift, day).least,
+        Change::HigherDemand { day, shift } => problem
+            .weeks()
+            .saturating_sub(demand_of(problem, shift, day).greatest),
+        Change::DroppedPair(_) | Change::DroppedTriple(_) => 1,
+    }
+}
+
+// Sets the bounds of the blocks of a class.
+fn set_bounds(parts: &mut Parts, class: Class, bounds: Bounds)
+    requires { IsClass (instance_of parts.old) class }
+    ensures { instance_of parts.new ≡ with_bounds (instance_of parts.old) class (λ _. bounds) }
+{
+    match class {
+        Class::Shift(shift) => parts.shifts[shift.number as usize - 1].bounds = bounds,
+        Class::Off => parts.off = bounds,
+        Class::Work => parts.work = bounds,
+    }
+}
+
+// The problem with these bounds for the blocks of a class.
+fn with_bounds(
+    alloc: Global,
+    problem: &Problem,
+    class: Class,
+    bounds: Bounds,
+) -> Result<Problem, AllocError>
+    requires class { IsClass problem.now class }
+    requires small { AreSmall bounds }
+    ensures { IfOk result (λ P. P ≡ with_bounds problem.now class (λ _. bounds)) }
+{
+    problem.prove_limits();
+    let mut parts = parts_of(alloc, problem)?;
+    set_bounds(&mut parts, class, bounds);
+    Ok(Problem::of_valid(parts))
+}
+
+// Sets the demand of the shift at a place.
+fn set_demand(parts: &mut Parts, place: usize, ranges: Vec<Bounds>)
+    requires { place < length (instance_of parts.old).demand }
+    ensures { instance_of parts.new
+        ≡ record (instance_of parts.old) { demand = set (instance_of parts.old).demand place ranges.items } }
+{
+    parts.demand[place] = DemandRow::of(ranges);
+}
+
+// The problem with this demand of a shift on a day.
+fn with_demand(
+    alloc: Global,
+    problem: &Problem,
+    shift: Symbol,
+    day: u32,
+    demand: Bounds,
+) -> Result<Problem, AllocError>
+    requires shift { IsShift problem.now shift }
+    requires day { IsDay problem.now day }
+    requires small { IsSmallRange demand }
+    ensures { IfOk result (λ P. P ≡ with_demand problem.now shift.number day (λ _. demand)) }
+{
+    problem.prove_limits();
+    let mut ranges = demand_ranges(alloc, problem, shift)?;
+    ranges[day as usize - 1] = demand;
+    let mut parts = parts_of(alloc, problem)?;
+    set_demand(&mut parts, shift.number as usize - 1, ranges);
+    Ok(Problem::of_valid(parts))
+}
+
+// The problem without the forbidden pair at a place.
+fn without_pair(alloc: Global, problem: &Problem, place: u32) -> Result<Problem, AllocError>
+    requires { place < length problem.now.pairs }
+    ensures { IfOk result (λ P. P ≡ record problem.now { pairs = remove problem.now.pairs place }) }
+{
+    problem.prove_limits();
+    let mut pairs = Vec::from_slice(alloc, problem.pairs())?;
+    pairs.remove(place as usize);
+    let triples = Vec::from_slice(alloc, problem.triples())?;
+    problem.with_sequences(pairs, triples)
+}
+
+// The problem without the forbidden triple at a place.
+fn without_triple(alloc: Global, problem: &Problem, place: u32) -> Result<Problem, AllocError>
+    requires { place < length problem.now.triples }
+    ensures { IfOk result (λ P. P ≡ record problem.now { triples = remove problem.now.triples place }) }
+{
+    problem.prove_limits();
+    let pairs = Vec::from_slice(alloc, problem.pairs())?;
+    let mut triples = Vec::from_slice(alloc, problem.triples())?;
+    triples.remove(place as usize);
+    problem.with_sequences(pairs, triples)
+}
+
+/// The problem with so many steps of a change, and all else as it is.
+pub fn loosen(
+    alloc: Global,
+    problem: &Problem,
+    change: Change,
+    steps: u32,
+) -> Result<Problem, AllocError>
+    requires change { IsChange problem.now change }
+    requires step { IsStep problem.now change steps }
+    ensures { IfOk result (λ P. P ≡ loosened problem.now change steps) }
+{
+    problem.prove_limits();
+    match change {
+        Change::LongerBlocks(class) => {
+            let Bounds { least, greatest } = problem.bounds(class);
+            let bounds = Bounds {
+                least,
+                greatest: greatest + steps,
+            };
+            with_bounds(alloc, problem, class, bounds)
+        }
+        Change::ShorterBlocks(class) => {
+            let Bounds { least, greatest } = problem.bounds(class);
+            let bounds = Bounds {
+                least: least - steps,
+                greatest,
+            };
+            with_bounds(alloc, problem, class, bounds)
+        }
+        Change::LowerDemand { day, shift } => {
+            let Bounds { least, greatest } = demand_of(problem, shift, day);
+            let demand = Bounds {
+                least: least - steps,
+                greatest,
+            };
+            with_demand(alloc, problem, shift, day, demand)
+        }
+        Change::HigherDemand { day, shift } => {
+            let Bounds { least, greatest } = demand_of(problem, shift, day);
+            let demand = Bounds {
+                least,
+                greatest: greatest + steps,
+            };
+            with_demand(alloc, problem, shift, day, demand)
+        }
+        Change::DroppedPair(place) => without_pair(alloc, problem, place),
+        Change::DroppedTriple(place) => without_triple(alloc, problem, place),
+    }
+}

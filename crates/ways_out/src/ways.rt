@@ -1,0 +1,88 @@
+// The ways out of a problem.
+ghost use Rattle.std.specs.Prelude.{◌≡◌, ◌≤◌, None, IfOk};
+ghost use Rattle.rwsp_terms.specs.declared.limits.TheConstants.{GREATEST_BUDGET, MOST_WORKERS};
+ghost use Rattle.refutation_terms.specs.Log.{Passes};
+ghost use Rattle.ways_out.specs.Answers.{AreWaysOut, AreWaysOf};
+
+use crate::answer::WaysOut;
+use crate::listed::changes_in;
+use crate::plans::plan_within;
+use crate::side_by_side::{Refuted, outcomes_of};
+use potential_bounds::Gate;
+use refutation_log::{Found, Log};
+use roster_planner::Effort;
+use rule_reducer::reduce_in_place;
+use rwsp_model::{Fail, Problem};
+use std::alloc::{AllocError, Global};
+use std::thread::Threads;
+
+// A log that passes without the rules that it can do without.
+fn reduced(alloc: Global, problem: &Problem, log: Log) -> Result<Log, AllocError>
+    requires passes { Passes problem.now log }
+    requires no_goal { log.goal ≡ None }
+    ensures passes { IfOk result (Passes problem.now) }
+    ensures no_goal { IfOk result (λ g. g.goal ≡ None) }
+{
+    problem.prove_limits();
+    match reduce_in_place(alloc, problem, log) {
+        Ok(reduced) => Ok(reduced),
+        Err(Fail::Refused(_)) => unreachable!(),
+        Err(Fail::Memory) => Err(AllocError),
+    }
+}
+
+// The outcome of each change where the log shows that there is no roster.
+fn outcomes_by_log<R: Threads + Sync, G: Gate>(
+    rt: &R,
+    alloc: Global,
+    problem: &Problem,
+    log: &Log,
+    effort: Effort,
+    workers: u32,
+    gate: &G,
+) -> Result<WaysOut, AllocError>
+    requires passes { Passes problem.now log.now }
+    requires no_goal { log.now.goal ≡ None }
+    requires budget { (1 ≤ effort.budget) × (effort.budget ≤ GREATEST_BUDGET) }
+    requires workers { (1 ≤ workers) × (workers ≤ MOST_WORKERS) }
+    ensures says { IfOk result (AreWaysOut problem.now effort) }
+    ensures own { IfOk result (AreWaysOf problem.now) }
+{
+    let changes = changes_in(alloc, problem)?;
+    let refuted = Refuted {
+        problem,
+        named: log.named(),
+        effort,
+    };
+    let outcomes = outcomes_of(rt, alloc, &refuted, &changes, workers, gate)?;
+    Ok(WaysOut::Changes(outcomes))
+}
+
+/// Whether the problem has a roster, and if it has none, which numbers of it to change, each by itself, so that it has
+/// one. Each plan has the whole effort. Changes of rules that the refutation can do without are no way out; those of the
+/// others are planned by the workers side by side, who pass the gate, as those of each plan do.
+///
+/// What is said doesn't depend on the number of workers, and where no plan spends its budget nothing else can be said
+/// (`ways_agree`).
+pub fn ways_out<R: Threads + Sync, G: Gate>(
+    rt: &R,
+    alloc: Global,
+    problem: &Problem,
+    effort: Effort,
+    workers: u32,
+    gate: &G,
+) -> Result<WaysOut, AllocError>
+    requires budget { (1 ≤ effort.budget) × (effort.budget ≤ GREATEST_BUDGET) }
+    requires workers { (1 ≤ workers) × (workers ≤ MOST_WORKERS) }
+    ensures says { IfOk result (AreWaysOut problem.now effort) }
+    ensures own { IfOk result (AreWaysOf problem.now) }
+{
+    let log = match plan_within(rt, alloc, problem, effort, gate)? {
+        Found::Roster(roster) => return Ok(WaysOut::NoNeed(roster)),
+        Found::Undecided(log) => return Ok(WaysOut::Undecided(log)),
+        Found::NoRoster(log) => reduced(alloc, problem, log)?,
+    };
+    let ways = outcomes_by_log(rt, alloc, problem, &log, effort, workers, gate);
+    drop(log);
+    ways
+}
