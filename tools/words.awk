@@ -207,6 +207,25 @@ function rests_on(day,    i) {
     return 0
 }
 
+# What a line `rule R ..: .. to ..` says may be changed. No name has a blank.
+function tell_change(line,    nearer, rule, place, from_to, text) {
+    nearer = sub(/ or nearer$/, "", line)
+    rule = $2
+    place = rule - 2 * shifts - 4
+    from_to = line
+    sub(/^.*: /, "", from_to)
+    if (place <= 0) text = "change the " (rule % 2 == 1 ? "greatest" : "least") " block of days" days_of(int((rule + 1) / 2)) " from " from_to
+    else if (place <= sequences) text = "allow " substr(sequence_words(sequence[place]), 7)
+    else text = "change the demand of " quoted(substr($5, 1, length($5) - 1)) " on day " $4 " from " from_to
+    print "rwsp: " text (nearer ? ", or less far" : "")
+}
+
+# What is said below the ways out.
+function tell_others() {
+    if ($0 == "no other") print "rwsp: " (ways ? (ways == 1 ? "it gives a roster" : "each by itself gives a roster") ", and no other single change does" : "no single change gives a roster: two or more must go together")
+    else print "rwsp: of " $2 (ways ? " other" : "") " changes nothing is known; a greater budget may tell"
+}
+
 # Where the first line is no number, the problem could not be read again.
 NR == 1 && !/^[0-9]+$/ {
     exit
@@ -214,6 +233,18 @@ NR == 1 && !/^[0-9]+$/ {
 
 !is_read {
     read_problem(NR)
+    next
+}
+
+command == "mend" && !ways && $0 == "no change is needed" {
+    exit
+}
+
+command == "mend" {
+    if ($1 == "rule") {
+        ways++
+        tell_change($0)
+    } else if ($0 == "no other" || ($1 == "open" && NF == 2)) tell_others()
     next
 }
 
@@ -263,11 +294,15 @@ turn && rests_on(turn) {
 }
 
 END {
+    if (command == "mend") exit
     if (command == "staff") tell_sizes()
     else if (command == "best") tell_weekends()
     else if (list != "") {
         count = tell_rules(with_free(goal))
         tell_count()
-        if (command == "plan" && counted == "" && count > 1) print "rwsp: `reduce` may find that the log needs fewer of them"
+        if (command == "plan") {
+            if (counted == "" && count > 1) print "rwsp: `reduce` may find that the log needs fewer of them"
+            print "rwsp: `mend` looks for single changes that give a roster"
+        }
     }
 }

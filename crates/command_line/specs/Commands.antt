@@ -6,11 +6,11 @@ use Rattle.rwsp_terms.specs.declared.limits.TheConstants.{MOST_WEEKS, USUAL_BUDG
 use Rattle.rwsp_terms.specs.Instance.{Instance}
 use Rattle.crew_calendar.specs.Calendar.{FitsDates, IsNotBefore}
 use Rattle.command_line.specs.Forms.{Field, File, Number, Day, Range, Setting, Perhaps, Form, said_by, forms_text}
-use Rattle.command_line.specs.declared.command.TheConstants.{GREATEST_NUMBER}
+use Rattle.command_line.specs.declared.command.TheConstants.{GREATEST_NUMBER, USUAL_MEND_BUDGET}
 use Rattle.command_line.specs.declared.command.Command.{Command}
 use Rattle.command_line.specs.declared.command.Command.TheVariants.{Trial, OnProblem, OnFiles}
 use Rattle.command_line.specs.declared.command.ProblemTask.{ProblemTask}
-use Rattle.command_line.specs.declared.command.ProblemTask.TheVariants.{Plan, Show, Best, Staff, Rest}
+use Rattle.command_line.specs.declared.command.ProblemTask.TheVariants.{Plan, Show, Best, Staff, Mend, Rest}
 use Rattle.command_line.specs.declared.command.FilesTask.{FilesTask}
 use Rattle.command_line.specs.declared.command.FilesTask.TheVariants.{Check, Verify, Reduce, CheckFree, CheckStaff, Crew, Page, Ics, On, Roster}
 
@@ -80,6 +80,13 @@ crew_form = record {
   make = λ v. OnFiles v.0 v.1.0 (Crew v.1.1.0 v.1.1.1.0 v.1.1.1.1.0);
 }
 
+abbrev pub mend_form : Form Command
+mend_form = record {
+  word = codes "mend";
+  fields = problem_file ∷ budget USUAL_MEND_BUDGET GREATEST_BUDGET ∷ [];
+  make = λ v. OnProblem v.0 (Mend v.1.0.0 v.1.0.1);
+}
+
 abbrev pub rest_form : Form Command
 rest_form = record {
   word = codes "rest";
@@ -110,7 +117,7 @@ forms =
     ∷ files_form (codes "reduce") (codes "LOG") Reduce ∷ show_form ∷ trial_form ∷ best_form
     ∷ files_form (codes "check-free") (codes "LOG") CheckFree ∷ staff_form
     ∷ files_form (codes "check-staff") (codes "TEXT") CheckStaff ∷ crew_form
-    ∷ rest_form ∷ files_form (codes "page") (codes "ROSTER") Page
+    ∷ mend_form ∷ rest_form ∷ files_form (codes "page") (codes "ROSTER") Page
     ∷ ics_form ∷ on_form ∷ files_form (codes "roster") (codes "ANSWER") Roster ∷ []
 
 -- the words are a form of the command
@@ -159,6 +166,7 @@ abbrev pub IsProblemTaskInRange : ProblemTask → Type 0
 IsProblemTaskInRange Show = Unit {0}
 IsProblemTaskInRange (Plan budget counts) = IsUpTo GREATEST_BUDGET budget
 IsProblemTaskInRange (Best budget counts) = IsUpTo GREATEST_BUDGET budget
+IsProblemTaskInRange (Mend budget counts) = IsUpTo GREATEST_BUDGET budget
 IsProblemTaskInRange (Rest minutes) = minutes ≤ LONGEST_REST
 IsProblemTaskInRange (Staff low high budget counts) =
     (1 ≤ low) × (low ≤ high) × (high ≤ MOST_WEEKS) × (high < low + MOST_SIZES) × IsUpTo GREATEST_STAFF_BUDGET budget

@@ -8,6 +8,9 @@ use crew_calendar::{CivilDate, fits, is_not_before};
 /// The greatest number that nine digits spell.
 pub const GREATEST_NUMBER: u32 = 999_999_999;
 
+/// The lines of the log of each plan of a search for numbers to change, where no budget is given.
+pub const USUAL_MEND_BUDGET: u32 = 2_000;
+
 /// What is to be done, and the files that it reads.
 #[derive(Drop)]
 pub enum Command<'a> {
@@ -49,6 +52,11 @@ pub enum ProblemTask {
     Staff {
         low: u32,
         high: u32,
+        budget: u32,
+        counts: bool,
+    },
+    /// Which numbers to change so that there is a roster; each plan has a log of at most `budget` lines.
+    Mend {
         budget: u32,
         counts: bool,
     },

@@ -2,9 +2,9 @@
 ghost use Rattle.std.specs.Prelude.{◌≡◌, [], IfSome};
 ghost use Rattle.rwsp_text.specs.Reads.{Reads};
 ghost use Rattle.command_line.specs.Forms.{form_at, named_at};
-ghost use Rattle.command_line.specs.Commands.{IsCommandOf, IsInRange, IsFilesTaskInRange, usage_text, forms, plan_form, check_form, files_form, show_form, trial_form, best_form, staff_form, crew_form, rest_form, ics_form, on_form};
+ghost use Rattle.command_line.specs.Commands.{IsCommandOf, IsInRange, IsFilesTaskInRange, usage_text, forms, plan_form, check_form, files_form, show_form, trial_form, best_form, staff_form, crew_form, mend_form, rest_form, ics_form, on_form};
 
-use crate::command::{Command, FilesTask, GREATEST_NUMBER, ProblemTask};
+use crate::command::{Command, FilesTask, GREATEST_NUMBER, ProblemTask, USUAL_MEND_BUDGET};
 use crate::words::Words;
 use rwsp_terms::limits::{
     GREATEST_BUDGET, GREATEST_STAFF_BUDGET, LONGEST_CALENDAR, LONGEST_REST, MOST_SIZES, MOST_WEEKS,
@@ -12,7 +12,7 @@ use rwsp_terms::limits::{
 };
 
 const USAGE: &str =
-    "usage: rwsp plan FILE [--budget B] | check FILE LOG [--workers N] | verify FILE ROSTER | reduce FILE LOG | show FILE | trial NUMBER WEEKS | best FILE [--budget B] | check-free FILE LOG | staff FILE LOW HIGH [--budget B] | check-staff FILE TEXT | crew FILE ROSTER DATE DAYS [EMPLOYEE] | rest FILE MINUTES | page FILE ROSTER | ics FILE ROSTER DATE DAYS EMPLOYEE | on FILE ROSTER START DATE | roster FILE ANSWER";
+    "usage: rwsp plan FILE [--budget B] | check FILE LOG [--workers N] | verify FILE ROSTER | reduce FILE LOG | show FILE | trial NUMBER WEEKS | best FILE [--budget B] | check-free FILE LOG | staff FILE LOW HIGH [--budget B] | check-staff FILE TEXT | crew FILE ROSTER DATE DAYS [EMPLOYEE] | mend FILE [--budget B] | rest FILE MINUTES | page FILE ROSTER | ics FILE ROSTER DATE DAYS EMPLOYEE | on FILE ROSTER START DATE | roster FILE ANSWER";
 
 /// The line that lists all forms, without its LF.
 #[tactic(auto, unfolding(crate::specs::Commands::usage_text))]
@@ -55,6 +55,7 @@ fn form_of<'a>(word: &str, words: &mut Words<'a>) -> Option<Command<'a>>
         "staff" => staff(words),
         "check-staff" => on_files(words, FilesTask::CheckStaff),
         "crew" => crew(words),
+        "mend" => mend(words),
         "rest" => rest(words),
         "page" => on_files(words, FilesTask::Page),
         "ics" => ics(words),
@@ -159,6 +160,16 @@ fn crew<'a>(words: &mut Words<'a>) -> Option<Command<'a>>
         employee,
     };
     Some(Command::OnFiles { file, second, task })
+}
+
+fn mend<'a>(words: &mut Words<'a>) -> Option<Command<'a>>
+    ensures form { Reads (form_at mend_form words.old) result words.new }
+    ensures range { IfSome result IsInRange }
+{
+    let file = words.file()?;
+    let (budget, counts) = words.setting("--budget", USUAL_MEND_BUDGET, GREATEST_BUDGET)?;
+    let task = ProblemTask::Mend { budget, counts };
+    Some(Command::OnProblem { file, task })
 }
 
 fn rest<'a>(words: &mut Words<'a>) -> Option<Command<'a>>

@@ -11,6 +11,7 @@ pub mod Logs
 pub mod Bests
 pub mod Staffs
 pub mod Calendars
+pub mod Mends
 pub mod Rests
 pub mod Pages
 pub mod RosterAnswers

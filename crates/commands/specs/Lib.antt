@@ -7,6 +7,7 @@ pub mod Verify
 pub mod Check
 pub mod Reduce
 pub mod Crew
+pub mod Mend
 pub mod Rest
 pub mod Page
 pub mod Ics

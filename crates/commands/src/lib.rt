@@ -9,6 +9,7 @@ pub mod check_staff;
 pub mod crew;
 pub mod ics;
 mod log_refusal;
+pub mod mend;
 pub mod on;
 pub mod page;
 pub mod plan;

@@ -13,6 +13,7 @@ use Rattle.commands.proofs.Logs.{one_checked, one_reduction, plans_agree}
 use Rattle.commands.proofs.Staffs.{one_checked_staff, staffs_agree}
 use Rattle.commands.proofs.Bests.{bests_agree}
 use Rattle.commands.proofs.Calendars.{one_crew, one_ics, one_on_date}
+use Rattle.commands.proofs.Mends.{mends_agree}
 use Rattle.commands.proofs.Rests.{one_rest}
 use Rattle.commands.proofs.Pages.{one_page}
 use Rattle.commands.proofs.RosterAnswers.{one_taken}
@@ -35,6 +36,9 @@ one_on_problem (ProblemTasks.Best budget counts) P a b h k = absurd h
 one_on_problem (ProblemTasks.Staff low high budget counts) P (Jobs.Staff x) (Jobs.Staff y) h k = inr (staffs_agree P low high budget counts x y h k)
 one_on_problem (ProblemTasks.Staff low high budget counts) P (Jobs.Staff x) b h k = absurd k
 one_on_problem (ProblemTasks.Staff low high budget counts) P a b h k = absurd h
+one_on_problem (ProblemTasks.Mend budget counts) P (Jobs.Mend x) (Jobs.Mend y) h k = inr (mends_agree P budget counts x y h k)
+one_on_problem (ProblemTasks.Mend budget counts) P (Jobs.Mend x) b h k = absurd k
+one_on_problem (ProblemTasks.Mend budget counts) P a b h k = absurd h
 one_on_problem (ProblemTasks.Rest minutes) P (Jobs.Rest x) (Jobs.Rest y) h k = inl (ap Jobs.Rest (one_rest P minutes x y h k))
 one_on_problem (ProblemTasks.Rest minutes) P (Jobs.Rest x) b h k = absurd k
 one_on_problem (ProblemTasks.Rest minutes) P a b h k = absurd h

@@ -15,6 +15,9 @@ use Rattle.commands.specs.Check.{IsChecked, check_text, check_status, IsCheckedO
 use Rattle.commands.specs.CheckStaff.{IsCheckedStaff, check_staff_text, check_staff_status, IsCheckedStaffOf}
 use Rattle.commands.specs.Reduce.{IsReduction, reduce_text, reduce_status, IsReductionOf}
 use Rattle.commands.specs.Crew.{IsCrewAnswer, crew_text, crew_status, IsCrewAnswerOf}
+use Rattle.commands.specs.Mend.{IsMendAnswer}
+use Rattle.ways_out.specs.Answers.{AreWaysOf}
+use Rattle.ways_out.specs.Texts.{ways_text, ways_status}
 use Rattle.commands.specs.Rest.{IsRestAnswer, rest_text, rest_status}
 use Rattle.commands.specs.Page.{IsPageAnswer, page_answer_text, page_status, IsPageAnswerOf}
 use Rattle.commands.specs.Ics.{IsIcsAnswer, ics_text, ics_status, IsIcsAnswerOf}
@@ -40,6 +43,7 @@ IsProblemAnswer ProblemTasks.Show P Jobs.Show = Unit {0}
 IsProblemAnswer (ProblemTasks.Plan budget counts) P (Jobs.Plan found) = IsPlanAnswer P budget counts found
 IsProblemAnswer (ProblemTasks.Best budget counts) P (Jobs.Best found) = IsBestAnswer P budget counts found
 IsProblemAnswer (ProblemTasks.Staff low high budget counts) P (Jobs.Staff a) = IsStaffAnswer P low high budget counts a
+IsProblemAnswer (ProblemTasks.Mend budget counts) P (Jobs.Mend ways) = IsMendAnswer P budget counts ways
 IsProblemAnswer (ProblemTasks.Rest minutes) P (Jobs.Rest a) = IsRestAnswer P minutes a
 IsProblemAnswer task P answer = ⊥
 
@@ -68,6 +72,7 @@ job_text P (Jobs.Check a) = check_text P a
 job_text P (Jobs.CheckStaff a) = check_staff_text P a
 job_text P (Jobs.Reduce a) = reduce_text P a
 job_text P (Jobs.Crew a) = crew_text P a
+job_text P (Jobs.Mend ways) = ways_text P ways
 job_text P (Jobs.Rest a) = rest_text a
 job_text P (Jobs.Page a) = page_answer_text P a
 job_text P (Jobs.Ics a) = ics_text P a
@@ -85,6 +90,7 @@ IsPrintable P (Jobs.Check a) = IsCheckedOf P a
 IsPrintable P (Jobs.CheckStaff a) = IsCheckedStaffOf P a
 IsPrintable P (Jobs.Reduce a) = IsReductionOf P a
 IsPrintable P (Jobs.Crew a) = IsCrewAnswerOf P a
+IsPrintable P (Jobs.Mend ways) = AreWaysOf P ways
 IsPrintable P (Jobs.Rest a) = Unit {0}
 IsPrintable P (Jobs.Page a) = IsPageAnswerOf P a
 IsPrintable P (Jobs.Ics a) = IsIcsAnswerOf P a
@@ -102,6 +108,7 @@ job_status (Jobs.Check a) = check_status a
 job_status (Jobs.CheckStaff a) = check_staff_status a
 job_status (Jobs.Reduce a) = reduce_status a
 job_status (Jobs.Crew a) = crew_status a
+job_status (Jobs.Mend ways) = ways_status ways
 job_status (Jobs.Rest a) = rest_status a
 job_status (Jobs.Page a) = page_status a
 job_status (Jobs.Ics a) = ics_status a

@@ -29,6 +29,7 @@ use Rattle.commands.specs.ProblemFile.{IsShortFile}
 use Rattle.commands.specs.Plan.{PlansAgree}
 use Rattle.commands.specs.Best.{BestsAgree, best_roster}
 use Rattle.commands.specs.Staff.{StaffsAgree}
+use Rattle.ways_out.specs.Agreement.{WaysAgree}
 use Rattle.commands.specs.declared.second_file.SecondKind.TheVariants as Kinds
 use Rattle.commands.specs.declared.staff.Answer.TheVariants as Staffs
 use Rattle.commands.specs.declared.verify.Answer.TheVariants as Verifies
@@ -59,6 +60,7 @@ abbrev pub JobsAgree : JobAnswer → JobAnswer → Type 0
 JobsAgree (Jobs.Plan a) (Jobs.Plan b) = PlansAgree a b
 JobsAgree (Jobs.Best a) (Jobs.Best b) = BestsAgree a b
 JobsAgree (Jobs.Staff a) (Jobs.Staff b) = StaffsAgree a b
+JobsAgree (Jobs.Mend a) (Jobs.Mend b) = WaysAgree a b
 JobsAgree a b = ⊥
 
 -- the same of whole answers; and trials are of one problem

@@ -8,8 +8,8 @@ use command_line::{FilesTask, ProblemTask};
 use commands::plan::Effort;
 use commands::staff::Sizes;
 use commands::{
-    SecondKind, best, check, check_free, check_staff, crew, ics, on, page, plan, reduce, rest,
-    roster, staff, verify,
+    SecondKind, best, check, check_free, check_staff, crew, ics, mend, on, page, plan, reduce,
+    rest, roster, staff, verify,
 };
 use made_problems::LeastRest;
 use potential_bounds::Gate;
@@ -19,6 +19,7 @@ use rwsp_model::Problem;
 use rwsp_terms::limits::DAYS_OF_WEEK;
 use std::alloc::{AllocError, Global};
 use std::thread::Threads;
+use ways_out::WaysOut;
 
 /// The answer to a command on a problem, as its module in `commands` has it.
 #[derive(Drop)]
@@ -34,6 +35,7 @@ pub enum JobAnswer {
     CheckStaff(check_staff::Answer),
     Reduce(reduce::Answer),
     Crew(crew::Answer),
+    Mend(WaysOut),
     Rest(LeastRest),
     Page(page::Answer),
     Ics(ics::Answer),
@@ -107,6 +109,10 @@ pub fn answer_on_problem<R: Threads + Sync, G: Gate>(
             let effort = Effort { budget, counts };
             let answer = staff::job(rt, alloc, problem, Sizes { low, high }, effort, gate)?;
             Ok(JobAnswer::Staff(answer))
+        }
+        ProblemTask::Mend { budget, counts } => {
+            let ways = mend::job(rt, alloc, problem, Effort { budget, counts }, gate)?;
+            Ok(JobAnswer::Mend(ways))
         }
         ProblemTask::Rest { minutes } => {
             let answer = rest::job(alloc, problem, minutes)?;
@@ -198,6 +204,7 @@ pub fn text_of(alloc: Global, problem: &Problem, answer: &JobAnswer) -> Result<V
         JobAnswer::CheckStaff(answer) => check_staff::text(alloc, problem, answer),
         JobAnswer::Reduce(answer) => reduce::text(alloc, problem, answer),
         JobAnswer::Crew(answer) => crew::text(alloc, problem, answer),
+        JobAnswer::Mend(ways) => mend::text(alloc, problem, ways),
         JobAnswer::Rest(answer) => rest::text(alloc, answer),
         JobAnswer::Page(answer) => page::text(alloc, problem, answer),
         JobAnswer::Ics(answer) => ics::text(alloc, problem, answer),
@@ -223,6 +230,7 @@ impl JobAnswer {
             JobAnswer::CheckStaff(answer) => check_staff::status(answer),
             JobAnswer::Reduce(answer) => reduce::status(answer),
             JobAnswer::Crew(answer) => crew::status(answer),
+            JobAnswer::Mend(ways) => mend::status(ways),
             JobAnswer::Rest(answer) => rest::status(answer),
             JobAnswer::Page(answer) => page::status(answer),
             JobAnswer::Ics(answer) => ics::status(answer),

@@ -1,0 +1,77 @@
+// Which numbers to change, to the byte. What the answers should be was counted by hand, and by listing all rosters.
+use super::plans::THREE_OF_FIVE;
+use super::{NINE_WEEKS, USAGE, line_ends, ran, verifies};
+use std::test::Fail;
+
+// Two rows of weeks, and both work from Monday to Friday, but at most four days in a row.
+const CLINIC: &str = "7\n2\n1\n2 2 2 2 2 0 0\nD 420 480 2 5\n2 3\n2 4\n0 0\n";
+
+// Two days of three are next to each other, round the cycle. The day off between them is the only one.
+const ONCE: &str = "1\n3\n1\n2\nD 360 480 1 2\n1 1\n1 2\n1 0\nD D\n";
+
+// The same sequence stands twice: dropping one of them changes nothing.
+const TWICE: &str = "1\n3\n1\n2\nD 360 480 1 2\n1 1\n1 2\n2 0\nD D\nD D\n";
+
+// A least of 1, a demand of all weeks and a bound of 10,000 days can't be loosened. Without the forbidden sequence the
+// two days would be work without an end.
+const AT_THE_LIMITS: &str = "1\n2\n1\n2\nD 360 480 1 10000\n1 1\n1 10000\n1 0\nD D\n";
+
+const CASES: [(&str, &str, u8, &str); 7] = [
+    (
+        "mend F",
+        CLINIC,
+        0,
+        "rule 5 max work: 4 to 5\nrule 7 day 1 D: 2 to 0..2\nrule 11 day 5 D: 2 to 0..2\nno other\n",
+    ),
+    ("mend F", THREE_OF_FIVE, 1, "no other\n"),
+    ("mend F", ONCE, 0, "rule 7 not D D: dropped\nno other\n"),
+    ("mend F", TWICE, 1, "no other\n"),
+    (
+        "mend F",
+        AT_THE_LIMITS,
+        0,
+        "rule 8 day 1 D: 2 to 1..2\nno other\n",
+    ),
+    ("mend F --budget 0", CLINIC, 2, USAGE),
+    ("mend F G", CLINIC, 2, USAGE),
+];
+
+#[test]
+fn ways_out(rt: HostRuntime) -> Result<(), Fail> {
+    for (line, problem, status, text) in &CASES {
+        assert!(rt;
+            line_ends(&rt, rt.alloc(), line, &[("F", *problem)], *status, text)?,
+            "{line}"
+        );
+    }
+    Ok(())
+}
+
+#[test]
+fn no_change_is_needed(rt: HostRuntime) -> Result<(), Fail> {
+    let found = ran(&rt, rt.alloc(), "mend F", &[("F", NINE_WEEKS)], 0, 0)?;
+    let text = found.text.as_str();
+    let roster = text
+        .strip_prefix("no change is needed\n")
+        .ok_or("a roster")?;
+    assert!(rt; found.status == 0);
+    assert!(rt; verifies(&rt, rt.alloc(), NINE_WEEKS, roster, 0, "meets\n")?);
+    Ok(())
+}
+
+#[test]
+fn a_spent_budget_gives_the_log_of_the_plan(rt: HostRuntime) -> Result<(), Fail> {
+    let files = [("F", THREE_OF_FIVE)];
+    let planned = ran(&rt, rt.alloc(), "plan F --budget 1", &files, 0, 0)?;
+    assert!(rt;
+        line_ends(
+            &rt,
+            rt.alloc(),
+            "mend F --budget 1",
+            &files,
+            4,
+            planned.text.as_str()
+        )?
+    );
+    Ok(())
+}
