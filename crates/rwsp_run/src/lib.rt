@@ -3,6 +3,7 @@
 #![tactic(auto)]
 
 mod answer;
+mod explained;
 mod inputs;
 mod jobs;
 mod laws;

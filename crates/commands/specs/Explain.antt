@@ -1,0 +1,35 @@
+-- What `explain` answers.
+use Rattle.std.specs.Prelude.{◌≡◌, ℕ, List, codes, Option, Some, None}
+use Rattle.rwsp_terms.specs.Instance.{Instance}
+use Rattle.plain_words.specs.Words.{refusal_words, long_numbers, problem_words, answer_words}
+use Rattle.commands.specs.Lines.{line}
+use Rattle.commands.specs.declared.explain.Answer.{Answer}
+use Rattle.commands.specs.declared.explain.Answer.TheVariants.{Refused, Said, NoAnswer}
+
+-- the words say why the bytes of a problem's file spell no problem
+abbrev pub IsRefusalOf : List ℕ → Answer → Type 0
+IsRefusalOf file (Refused text) = refusal_words file ≡ Some text
+IsRefusalOf file answer = ⊥
+
+-- what is said of an instance, which the bytes of a file spell
+abbrev pub problem_explanation : Instance → List ℕ → Answer
+problem_explanation P file = Said (problem_words P (long_numbers file))
+
+-- the words for an answer, where there are any
+abbrev pub said_of : Option (List ℕ) → Answer
+said_of None = NoAnswer
+said_of (Some text) = Said text
+
+-- what is said of the bytes of an answer for the instance
+abbrev pub answer_explanation : Instance → List ℕ → Answer
+answer_explanation P bytes = said_of (answer_words P bytes)
+
+abbrev pub explain_text : Answer → List ℕ
+explain_text (Refused text) = text
+explain_text (Said text) = text
+explain_text NoAnswer = line (codes "no answer that rwsp prints for this problem")
+
+abbrev pub explain_status : Answer → ℕ
+explain_status (Refused text) = 3
+explain_status (Said text) = 0
+explain_status NoAnswer = 5
