@@ -7,7 +7,7 @@ use Rattle.rwsp_file.specs.Reading.{file_refusal}
 use Rattle.rwsp_file.specs.Laws.{TextsSpellOrFail}
 use Rattle.rwsp_file.specs.declared.refusal.FileRefusal.{FileRefusal}
 use Rattle.plain_words.specs.Words.{refusal_words}
-use Rattle.plain_words.proofs.Explained.{refusals_explained}
+use Rattle.plain_words.proofs.Explained.{refusals_are_explained}
 use Rattle.commands.specs.Explain.{IsRefusalOf}
 use Rattle.commands.specs.declared.explain.Answer.{Answer}
 use Rattle.commands.specs.declared.explain.Answer.TheVariants.{Refused}
@@ -19,7 +19,7 @@ words_by file why (Some other) e m none =
     absurd (cc)
 
 pub has_words : (file : List ℕ) (why : FileRefusal) → file_refusal file ≡ Some why → refusal_words file ≡ None → ⊥
-has_words file why e none = words_by file why (file_refusal file) e (refusals_explained file) none
+has_words file why e none = words_by file why (file_refusal file) e (refusals_are_explained file) none
 
 -- the words are one row of bytes
 pub one_wording : (file : List ℕ) (v w : Answer) → IsRefusalOf file v → IsRefusalOf file w → v ≡ w
@@ -36,5 +36,5 @@ spelled_by file P text (Some why) m none spells h = m P spells
 
 -- a file that spells an instance has none
 pub not_worded : TextsSpellOrFail → (file : List ℕ) (P : Instance) (words : Answer) → SpellsProblem file P → IsRefusalOf file words → ⊥
-not_worded decide file P (Refused text) spells h = spelled_by file P text (file_refusal file) (decide file) (refusals_explained file) spells h
+not_worded decide file P (Refused text) spells h = spelled_by file P text (file_refusal file) (decide file) (refusals_are_explained file) spells h
 not_worded decide file P words spells h = absurd h

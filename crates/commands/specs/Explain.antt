@@ -9,7 +9,7 @@ use Rattle.commands.specs.declared.explain.Answer.TheVariants.{Refused, Said, No
 -- the words say why the bytes of a problem's file spell no problem
 abbrev pub IsRefusalOf : List ℕ → Answer → Type 0
 IsRefusalOf file (Refused text) = refusal_words file ≡ Some text
-IsRefusalOf file answer = ⊥
+IsRefusalOf file words = ⊥
 
 -- what is said of an instance, which the bytes of a file spell
 abbrev pub problem_explanation : Instance → List ℕ → Answer

@@ -47,7 +47,8 @@ fn refused(alloc: Global, bytes: &[u8]) -> Result<Answer, AllocError>
     requires refused { (why : Why) × (file_refusal bytes.now ≡ Some why) }
     ensures { IfOk result (IsRefusalOf bytes.now) }
 {
-    match explain_refusal(alloc, bytes)? {
+    let words = explain_refusal(alloc, bytes)?;
+    match words {
         Some(words) => Ok(Answer::Refused(Calendar::of(words))),
         None => unreachable!(),
     }
