@@ -1,5 +1,5 @@
 -- A problem's file has words for its refusal exactly where it spells no problem.
-use Rattle.std.proofs.Common.{◌≡◌, ℕ, List, Some, None, Option, ap, sym, ◌∙◌}
+use Rattle.std.proofs.Common.{◌≡◌, ℕ, List, Some, None, Option, ap, sym, ◌∙◌, refl}
 use Rattle.std.specs.Prelude.{MatchOption}
 use Rattle.rwsp_terms.specs.Instance.{Instance}
 use Rattle.rwsp_file.specs.Spelling.{SpellsProblem}
@@ -8,9 +8,10 @@ use Rattle.rwsp_file.specs.Laws.{TextsSpellOrFail}
 use Rattle.rwsp_file.specs.declared.refusal.FileRefusal.{FileRefusal}
 use Rattle.plain_words.specs.Words.{refusal_words}
 use Rattle.plain_words.proofs.Explained.{refusals_are_explained}
-use Rattle.commands.specs.Explain.{IsRefusalOf}
+use Rattle.plain_words.proofs.SaidOnce.{answers_say_one}
+use Rattle.commands.specs.Explain.{IsRefusalOf, IsAnswerExplanation}
 use Rattle.commands.specs.declared.explain.Answer.{Answer}
-use Rattle.commands.specs.declared.explain.Answer.TheVariants.{Refused}
+use Rattle.commands.specs.declared.explain.Answer.TheVariants.{Refused, Said, NoAnswer}
 
 words_by : (file : List ℕ) (why : FileRefusal) (o : Option FileRefusal) → o ≡ Some why → MatchOption o (refusal_words file ≡ None) (λ why. (words : List ℕ) × (refusal_words file ≡ Some words)) → refusal_words file ≡ None → ⊥
 words_by file why None e m none = absurd (cc)
@@ -38,3 +39,25 @@ spelled_by file P text (Some why) m none spells h = m P spells
 pub not_worded : TextsSpellOrFail → (file : List ℕ) (P : Instance) (words : Answer) → SpellsProblem file P → IsRefusalOf file words → ⊥
 not_worded decide file P (Refused text) spells h = spelled_by file P text (file_refusal file) (decide file) (refusals_are_explained file) spells h
 not_worded decide file P words spells h = absurd h
+
+-- what the words of a refusal are
+pub is_wording : (file : List ℕ) (words : Answer) → IsRefusalOf file words → (text : List ℕ) × (words ≡ Refused text) × (refusal_words file ≡ Some text)
+is_wording file (Refused text) h = (text, refl, h)
+is_wording file words h = absurd h
+
+refused_by : (file text : List ℕ) (o : Option FileRefusal) → MatchOption o (refusal_words file ≡ None) (λ why. (words : List ℕ) × (refusal_words file ≡ Some words)) → refusal_words file ≡ Some text → (why : FileRefusal) × (o ≡ Some why)
+refused_by file text None none h = absurd (cc)
+refused_by file text (Some why) words h = (why, refl)
+
+-- a file that has words is refused
+pub refused_of : (file text : List ℕ) → refusal_words file ≡ Some text → (why : FileRefusal) × (file_refusal file ≡ Some why)
+refused_of file text h = refused_by file text (file_refusal file) (refusals_are_explained file) h
+
+-- one thing is said of the bytes of an answer
+pub said_once : (P : Instance) (bytes : List ℕ) (v w : Answer) → IsAnswerExplanation P bytes v → IsAnswerExplanation P bytes w → v ≡ w
+said_once P bytes (Said s) (Said t) h k = ap Said (answers_say_one P bytes s t h k)
+said_once P bytes (Said s) NoAnswer h k = absurd (k s h)
+said_once P bytes NoAnswer (Said t) h k = absurd (h t k)
+said_once P bytes NoAnswer NoAnswer h k = refl
+said_once P bytes (Refused s) w h k = absurd h
+said_once P bytes v (Refused t) h k = absurd k

@@ -1,7 +1,7 @@
 -- What `explain` answers.
-use Rattle.std.specs.Prelude.{◌≡◌, ℕ, List, codes, Option, Some, None}
+use Rattle.std.specs.Prelude.{◌≡◌, ℕ, List, codes, Some}
 use Rattle.rwsp_terms.specs.Instance.{Instance}
-use Rattle.plain_words.specs.Words.{refusal_words, long_numbers, problem_words, answer_words}
+use Rattle.plain_words.specs.Words.{refusal_words, long_numbers, problem_words, AnswerSays, SaysNothing}
 use Rattle.commands.specs.Lines.{line}
 use Rattle.commands.specs.declared.explain.Answer.{Answer}
 use Rattle.commands.specs.declared.explain.Answer.TheVariants.{Refused, Said, NoAnswer}
@@ -15,14 +15,11 @@ IsRefusalOf file words = ⊥
 abbrev pub problem_explanation : Instance → List ℕ → Answer
 problem_explanation P file = Said (problem_words P (long_numbers file))
 
--- the words for an answer, where there are any
-abbrev pub said_of : Option (List ℕ) → Answer
-said_of None = NoAnswer
-said_of (Some text) = Said text
-
 -- what is said of the bytes of an answer for the instance
-abbrev pub answer_explanation : Instance → List ℕ → Answer
-answer_explanation P bytes = said_of (answer_words P bytes)
+abbrev pub IsAnswerExplanation : Instance → List ℕ → Answer → Type 0
+IsAnswerExplanation P bytes (Said text) = AnswerSays P bytes text
+IsAnswerExplanation P bytes NoAnswer = SaysNothing (AnswerSays P bytes)
+IsAnswerExplanation P bytes (Refused text) = ⊥
 
 abbrev pub explain_text : Answer → List ℕ
 explain_text (Refused text) = text

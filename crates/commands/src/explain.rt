@@ -6,7 +6,7 @@ ghost use Rattle.rwsp_file.specs.declared.refusal.FileRefusal.{FileRefusal as Wh
 ghost use Rattle.commands.specs.ProblemFile.{IsShortFile};
 ghost use Rattle.commands.specs.Files.{IsWithinLimit};
 ghost use Rattle.commands.specs.declared.second_file.SecondKind.TheVariants as Kinds;
-ghost use Rattle.commands.specs.Explain.{IsRefusalOf, problem_explanation, answer_explanation, explain_text, explain_status};
+ghost use Rattle.commands.specs.Explain.{IsRefusalOf, problem_explanation, IsAnswerExplanation, explain_text, explain_status};
 
 use crate::crew::Calendar;
 use plain_words::{answer_words, explain_refusal, numeric_long_names, problem_words};
@@ -67,7 +67,7 @@ pub fn on_problem(alloc: Global, problem: &Problem, bytes: &[u8]) -> Result<Answ
 /// What the bytes of an answer say, where some command prints it for the problem.
 pub fn on_answer(alloc: Global, problem: &Problem, bytes: &[u8]) -> Result<Answer, AllocError>
     requires { IsWithinLimit Kinds.Log bytes.now }
-    ensures { IfOk result (λ answer. answer ≡ answer_explanation problem.now bytes.now) }
+    ensures { IfOk result (IsAnswerExplanation problem.now bytes.now) }
 {
     match answer_words(alloc, problem, bytes)? {
         Some(words) => Ok(Answer::Said(Calendar::of(words))),

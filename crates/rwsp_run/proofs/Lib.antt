@@ -2,4 +2,5 @@ pub mod Files
 pub mod OneJob
 pub mod OneAnswer
 pub mod OneText
+pub mod Refusals
 pub mod Accepted

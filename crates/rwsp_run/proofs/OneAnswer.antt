@@ -13,7 +13,7 @@ use Rattle.command_line.specs.declared.command.Command.TheVariants.{OnProblem, O
 use Rattle.command_line.proofs.OneForm.{one_form}
 use Rattle.commands.specs.Files.{WhereTold, Holds}
 use Rattle.commands.specs.ProblemFile.{IsProblemOf, IsProblemRefusal, IsShortFile, IsLongFile}
-use Rattle.commands.specs.Explain.{IsRefusalOf, problem_explanation, answer_explanation}
+use Rattle.commands.specs.Explain.{IsRefusalOf, problem_explanation, IsAnswerExplanation}
 use Rattle.commands.specs.Trial.{IsTrial}
 use Rattle.commands.specs.declared.second_file.SecondKind.{SecondKind}
 use Rattle.commands.specs.declared.second_file.SecondKind.TheVariants.{Log}
@@ -23,7 +23,7 @@ use Rattle.commands.specs.declared.problem_file.ProblemRefusal.{ProblemRefusal}
 use Rattle.commands.specs.declared.problem_file.ProblemRefusal.TheVariants as ProblemRefusals
 use Rattle.commands.specs.declared.trial.Answer.{Answer as TrialAnswer}
 use Rattle.commands.proofs.ProblemFiles.{one_refusal, not_refused}
-use Rattle.commands.proofs.Explained.{one_wording, not_worded}
+use Rattle.commands.proofs.Explained.{one_wording, not_worded, said_once}
 use Rattle.rwsp_run.specs.Answers.{IsAnswer, IsAnswerOn, IsAnswerTo, IsAsked, IsJobAnswer, IsTooLongFor, IsExplanation, IsRefusalExplained}
 use Rattle.rwsp_run.specs.Commands.{IsFilesAnswer, second_kind}
 use Rattle.rwsp_run.specs.Laws.{AnswersAreOne, ProblemsAreAnswered, AreTold, AgreeInSearch, JobsAgree}
@@ -85,7 +85,7 @@ one_explanation (Explain file None) P told v w there h k =
     h.3 ∙ ap (λ (bytes : List ℕ). problem_explanation P bytes) same ∙ sym k.3
 one_explanation (Explain file (Some answer)) P told v w there h k =
     let same : h.0 ≡ k.0 = same_second Log told h.0 k.0 (there tt) h.1 k.1 in
-    h.2 ∙ ap (λ (bytes : List ℕ). answer_explanation P bytes) same ∙ sym k.2
+    said_once P h.0 v w h.2 (subst (λ (bytes : List ℕ). IsAnswerExplanation P bytes w) (sym same) k.2)
 one_explanation (OnFiles file second task) P told v w there h k = absurd h
 one_explanation (OnProblem file task) P told v w there h k = absurd h
 one_explanation (Commands.Trial number weeks) P told v w there h k = absurd h
@@ -125,7 +125,7 @@ HasLine (Explain file second) (ProblemRefusals.Refused why) = ⊥
 HasLine command why = Unit {0}
 
 -- an answer to a command over its files: the problem's file is refused, by a line or in words, or it spells a problem
-data FileEnd (command : Command) (held : List ℕ → Told) (a : Answer) : Type 0 where
+pub data FileEnd (command : Command) (held : List ℕ → Told) (a : Answer) : Type 0 where
   refused : (why : ProblemRefusal) → HasLine command why → WhereTold (held (file_of command)) (λ file. IsProblemRefusal file why) → a ≡ Refused (Problem why) → FileEnd command held a
   worded : (words : Explanation) → IsExplain command → IsRefusalExplained (held (file_of command)) words → a ≡ Explained words → FileEnd command held a
   spelled : (P : Instance) → IsProblemOf (held (file_of command)) P → IsAnswerOn command (held (second_of command)) P a → FileEnd command held a
@@ -134,7 +134,7 @@ explained_end : (file : List ℕ) (second : Option (List ℕ)) (held : List ℕ 
 explained_end file second held words (inl h) = worded words tt h refl
 explained_end file second held words (inr h) = spelled h.0 h.1 (tt, h.2)
 
-file_end : (command : Command) (held : List ℕ → Told) (a : Answer) → ReadsProblem command → IsAnswerTo command held a → FileEnd command held a
+pub file_end : (command : Command) (held : List ℕ → Told) (a : Answer) → ReadsProblem command → IsAnswerTo command held a → FileEnd command held a
 file_end (Commands.Trial number weeks) held a reads h = absurd reads
 file_end (OnProblem file task) held (Refused (Problem why)) reads h = refused why tt h refl
 file_end (OnProblem file task) held (Refused (NotWeekly days)) reads h = spelled h.0 h.1 h.2

@@ -9,7 +9,7 @@ use Rattle.command_line.specs.declared.command.Command.TheVariants as Commands
 use Rattle.command_line.specs.declared.command.Command.TheVariants.{OnProblem, OnFiles, Explain}
 use Rattle.commands.specs.Files.{WhereTold, Holds, IsTooLong, IsSecond}
 use Rattle.commands.specs.ProblemFile.{IsProblemOf, IsProblemRefusal, IsShortFile, IsLongFile}
-use Rattle.commands.specs.Explain.{IsRefusalOf, problem_explanation, answer_explanation}
+use Rattle.commands.specs.Explain.{IsRefusalOf, problem_explanation, IsAnswerExplanation}
 use Rattle.commands.specs.Trial.{IsTrial}
 use Rattle.commands.specs.declared.problem_file.ProblemRefusal.TheVariants as ProblemRefusals
 use Rattle.commands.specs.declared.second_file.SecondKind.{SecondKind}
@@ -39,7 +39,7 @@ abbrev pub IsExplanation : Command → Told → Instance → Explanation → Typ
 IsExplanation (Explain file None) told P words =
     (bytes : List ℕ) × Holds told bytes × SpellsProblem bytes P × (words ≡ problem_explanation P bytes)
 IsExplanation (Explain file (Some answer)) told P words =
-    (bytes : List ℕ) × IsSecond Log told bytes × (words ≡ answer_explanation P bytes)
+    (bytes : List ℕ) × IsSecond Log told bytes × IsAnswerExplanation P bytes words
 IsExplanation command told P words = ⊥
 
 -- what the answer to a command says of the problem that the first file spells, and of what the second file tells: the

@@ -4,7 +4,7 @@ ghost use Rattle.rwsp_io.specs.Told.{Rose, Missing};
 ghost use Rattle.command_line.specs.declared.command.Command.TheVariants.{Explain};
 ghost use Rattle.commands.specs.Files.{WhereTold, IsTooLong, IsSecond};
 ghost use Rattle.commands.specs.declared.second_file.SecondKind.TheVariants as Kinds;
-ghost use Rattle.commands.specs.Explain.{answer_explanation};
+ghost use Rattle.commands.specs.Explain.{IsAnswerExplanation};
 ghost use Rattle.rwsp_run.specs.Answers.{IsAnswerTo, IsFileFault};
 ghost use Rattle.rwsp_run.specs.Texts.{IsTextFor};
 ghost use Rattle.rwsp_run.specs.declared.answer.Answer.TheVariants as Answers;
@@ -77,7 +77,7 @@ fn words_on_answer<S: Shelf>(
 ) -> Result<Result<explain::Answer, Refusal>, Stop>
     ensures words { IfOk result (λ said. IfOk said (λ words.
         (bytes : List ℕ) × IsSecond Kinds.Log (S.held shelf.old answer.now) bytes
-        × (words ≡ answer_explanation problem.now bytes))) }
+        × IsAnswerExplanation problem.now bytes words)) }
     ensures refusal { IfOk result (λ said. IfErr said (λ why. (why ≡ Refusals.TooLong Kinds.Log)
         × WhereTold (S.held shelf.old answer.now) (IsTooLong Kinds.Log))) }
     ensures fault { IsErrOf result Stop.ReadFault
