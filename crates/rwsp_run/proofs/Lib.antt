@@ -3,4 +3,5 @@ pub mod OneJob
 pub mod OneAnswer
 pub mod OneText
 pub mod Refusals
+pub mod Explaining
 pub mod Accepted

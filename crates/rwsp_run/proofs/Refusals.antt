@@ -6,6 +6,7 @@ use Rattle.rwsp_terms.specs.Instance.{Instance}
 use Rattle.rwsp_file.specs.Reading.{file_refusal}
 use Rattle.rwsp_file.specs.Laws.{TextsSpellOrFail}
 use Rattle.rwsp_file.specs.declared.refusal.FileRefusal.{FileRefusal}
+use Rattle.command_line.specs.Commands.{second_of}
 use Rattle.command_line.specs.declared.command.Command.TheVariants.{Explain}
 use Rattle.commands.specs.Files.{WhereTold}
 use Rattle.commands.specs.ProblemFile.{IsProblemOf, IsProblemRefusal, IsShortFile}
@@ -42,7 +43,7 @@ by_end decide held name second file a e short (worded words is h f) =
     (λ said. refused_of file wording.0 wording.2, λ refusal. (wording.0, f ∙ ap (λ (w : Explanation). Explained w) wording.1))
 by_end decide held name second file a e short (spelled P r h) =
     let read = subst (λ (t : Told). IsProblemOf t P) e r in (
-      λ said. absurd (no_refusal name second _ P said.0 (subst (λ (b : Answer). IsAnswerOn (Explain name second) _ P b) said.1 h).1),
+      λ said. absurd (no_refusal name second (held (second_of (Explain name second))) P said.0 (subst (λ (b : Answer). IsAnswerOn (Explain name second) (held (second_of (Explain name second))) P b) said.1 h).1),
       λ refusal. absurd (not_refused decide file P (ProblemRefusals.Refused refusal.0) short read.1 (short, refusal.1)),
     )
 
