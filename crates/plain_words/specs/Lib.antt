@@ -1,2 +1,5 @@
 pub mod Words
 pub mod RuleWords
+pub mod Statements
+pub mod LogWords
+pub mod AnswerWords

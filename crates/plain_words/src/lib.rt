@@ -1,8 +1,14 @@
-//! What a problem says, in words.
+//! What a problem says, and what the answers of commands say of it, in words.
 #![tactic(auto)]
 
+mod answer;
+mod log_text;
+mod log_words;
 mod rule_words;
+mod statement;
 mod words;
 
+pub use answer::answer_words;
 pub use rule_words::put_rule_words;
+pub use statement::{Rosters, Statement};
 pub use words::{put_days, put_name_words, put_range, put_symbol_words, put_weeks};

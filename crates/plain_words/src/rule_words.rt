@@ -1,5 +1,5 @@
 // A rule in words.
-ghost use Rattle.std.specs.Prelude.{◌≡◌, ◌++◌, ◌+◌, ◌-◌, ◌<◌, ◌≤◌, length, slice_get, IfSome, OnOk};
+ghost use Rattle.std.specs.Prelude.{◌*◌, ◌≡◌, ◌++◌, ◌+◌, ◌-◌, ◌<◌, ◌≤◌, length, slice_get, IfSome, OnOk};
 ghost use Rattle.std.specs.List.{flat_map, range_with_len};
 ghost use Rattle.rwsp_terms.specs.declared.limits.TheConstants.{MOST_WEEKS, MOST_SHIFTS};
 ghost use Rattle.rwsp_terms.specs.Instance.{bounds, shift_count, shift_demand, column_least, column_greatest, IsClass, IsDay, symbol_numbered};
