@@ -1,2 +1,4 @@
 pub mod LogWords
 pub mod Fitting
+pub mod OneSaid
+pub mod SaidLaws

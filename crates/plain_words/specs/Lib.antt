@@ -3,3 +3,4 @@ pub mod RuleWords
 pub mod Statements
 pub mod LogWords
 pub mod AnswerWords
+pub mod AnswerLaws

@@ -2,6 +2,7 @@
 #![tactic(auto)]
 
 mod answer;
+mod answer_laws;
 mod log_text;
 mod log_words;
 mod rule_words;
@@ -9,6 +10,7 @@ mod statement;
 mod words;
 
 pub use answer::answer_words;
+pub use answer_laws::{answers_say_one, counted_are_leaves_of, named_rules_are_said};
 pub use rule_words::put_rule_words;
 pub use statement::{Rosters, Statement};
 pub use words::{put_days, put_name_words, put_range, put_symbol_words, put_weeks};
