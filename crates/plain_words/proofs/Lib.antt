@@ -3,3 +3,7 @@ pub mod Said
 pub mod Minutes
 pub mod Misfits
 pub mod Sentences
+pub mod LogWords
+pub mod Fitting
+pub mod OneSaid
+pub mod SaidLaws

@@ -5,3 +5,7 @@ pub mod Sentences
 pub mod SentenceText
 pub mod ProblemWords
 pub mod Laws
+pub mod Statements
+pub mod LogWords
+pub mod AnswerWords
+pub mod AnswerLaws

@@ -1,0 +1,27 @@
+// What an answer says, in words.
+ghost use Rattle.std.specs.Prelude.{◌≤◌, length, IfOk, MatchOption};
+ghost use Rattle.rwsp_terms.specs.declared.limits.TheConstants.{LONGEST_LOG};
+ghost use Rattle.plain_words.specs.AnswerWords.{SaysNothing, AnswerSays};
+
+use crate::log_text::log_words;
+use refutation_log::LogKind;
+use rwsp_model::Problem;
+use std::alloc::{AllocError, Global};
+
+/// What the bytes of an answer say in words, a line for each statement; None where they are no answer to the problem.
+/// The time grows with the bytes.
+pub fn answer_words(
+    alloc: Global,
+    problem: &Problem,
+    bytes: &[u8],
+) -> Result<Option<Vec<u8>>, AllocError>
+    requires { length bytes.now ≤ LONGEST_LOG }
+    ensures { IfOk result (λ found. MatchOption found
+        (SaysNothing (AnswerSays problem.now bytes.now)) (λ v. AnswerSays problem.now bytes.now v.items)) }
+{
+    if let Some(text) = log_words(alloc, problem, LogKind::WithoutGoal, bytes)? {
+        return Ok(Some(text));
+    }
+    let found = log_words(alloc, problem, LogKind::WithGoal, bytes)?;
+    Ok(found)
+}
