@@ -2,13 +2,14 @@
 use Rattle.std.proofs.Common.{◌≡◌, ℕ, List, Some, None, Option, ap, sym, ◌∙◌, refl}
 use Rattle.std.specs.Prelude.{MatchOption}
 use Rattle.rwsp_terms.specs.Instance.{Instance}
+use Rattle.rwsp_model.specs.Validity.{KeepsLimits}
 use Rattle.rwsp_file.specs.Spelling.{SpellsProblem}
 use Rattle.rwsp_file.specs.Reading.{file_refusal}
 use Rattle.rwsp_file.specs.Laws.{TextsSpellOrFail}
 use Rattle.rwsp_file.specs.declared.refusal.FileRefusal.{FileRefusal}
-use Rattle.plain_words.specs.Words.{refusal_words}
-use Rattle.plain_words.proofs.Explained.{refusals_are_explained}
-use Rattle.plain_words.proofs.SaidOnce.{answers_say_one}
+use Rattle.rwsp_file.specs.RefusalWords.{refusal_words}
+use Rattle.rwsp_file.proofs.Explained.{refusals_are_explained}
+use Rattle.plain_words.proofs.OneSaid.{answers_one}
 use Rattle.commands.specs.Explain.{IsRefusalOf, IsAnswerExplanation}
 use Rattle.commands.specs.declared.explain.Answer.{Answer}
 use Rattle.commands.specs.declared.explain.Answer.TheVariants.{Refused, Said, NoAnswer}
@@ -54,10 +55,10 @@ pub refused_of : (file text : List ℕ) → refusal_words file ≡ Some text →
 refused_of file text h = refused_by file text (file_refusal file) (refusals_are_explained file) h
 
 -- one thing is said of the bytes of an answer
-pub said_once : (P : Instance) (bytes : List ℕ) (v w : Answer) → IsAnswerExplanation P bytes v → IsAnswerExplanation P bytes w → v ≡ w
-said_once P bytes (Said s) (Said t) h k = ap Said (answers_say_one P bytes s t h k)
-said_once P bytes (Said s) NoAnswer h k = absurd (k s h)
-said_once P bytes NoAnswer (Said t) h k = absurd (h t k)
-said_once P bytes NoAnswer NoAnswer h k = refl
-said_once P bytes (Refused s) w h k = absurd h
-said_once P bytes v (Refused t) h k = absurd k
+pub said_once : (P : Instance) (bytes : List ℕ) (v w : Answer) → KeepsLimits P → IsAnswerExplanation P bytes v → IsAnswerExplanation P bytes w → v ≡ w
+said_once P bytes (Said s) (Said t) limits h k = ap Said (answers_one P bytes s t limits h k)
+said_once P bytes (Said s) NoAnswer limits h k = absurd (k s h)
+said_once P bytes NoAnswer (Said t) limits h k = absurd (h t k)
+said_once P bytes NoAnswer NoAnswer limits h k = refl
+said_once P bytes (Refused s) w limits h k = absurd h
+said_once P bytes v (Refused t) limits h k = absurd k

@@ -1,7 +1,10 @@
 -- What `explain` answers.
 use Rattle.std.specs.Prelude.{◌≡◌, ℕ, List, codes, Some}
 use Rattle.rwsp_terms.specs.Instance.{Instance}
-use Rattle.plain_words.specs.Words.{refusal_words, long_numbers, problem_words, AnswerSays, SaysNothing}
+use Rattle.rwsp_file.specs.RefusalWords.{refusal_words}
+use Rattle.rwsp_file.specs.LongNumbers.{long_numbers}
+use Rattle.plain_words.specs.ProblemWords.{problem_words}
+use Rattle.plain_words.specs.AnswerWords.{AnswerSays, SaysNothing}
 use Rattle.commands.specs.Lines.{line}
 use Rattle.commands.specs.declared.explain.Answer.{Answer}
 use Rattle.commands.specs.declared.explain.Answer.TheVariants.{Refused, Said, NoAnswer}

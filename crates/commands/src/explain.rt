@@ -9,8 +9,8 @@ ghost use Rattle.commands.specs.declared.second_file.SecondKind.TheVariants as K
 ghost use Rattle.commands.specs.Explain.{IsRefusalOf, problem_explanation, IsAnswerExplanation, explain_text, explain_status};
 
 use crate::crew::Calendar;
-use plain_words::{answer_words, explain_refusal, numeric_long_names, problem_words};
-use rwsp_file::read_problem;
+use plain_words::{answer_words, problem_words};
+use rwsp_file::{explain_refusal, numeric_long_names, read_problem};
 use rwsp_model::{Fail, Problem};
 use std::alloc::{AllocError, Global};
 

@@ -79,16 +79,16 @@ said_or_done (OnFiles file second task) P told words a h done = h
 said_or_done (OnProblem file task) P told words a h done = h
 said_or_done (Commands.Trial number weeks) P told words a h done = h
 
-one_explanation : (command : Command) (P : Instance) (told : Told) (v w : Explanation) → IsSecondTold command told → IsExplanation command told P v → IsExplanation command told P w → v ≡ w
-one_explanation (Explain file None) P told v w there h k =
+one_explanation : (command : Command) (P : Instance) (told : Told) (v w : Explanation) → KeepsLimits P → IsSecondTold command told → IsExplanation command told P v → IsExplanation command told P w → v ≡ w
+one_explanation (Explain file None) P told v w limits there h k =
     let same : h.0 ≡ k.0 = same_bytes told _ _ (h.0 ≡ k.0) (there tt) (λ bytes x y. x ∙ sym y) h.1 k.1 in
     h.3 ∙ ap (λ (bytes : List ℕ). problem_explanation P bytes) same ∙ sym k.3
-one_explanation (Explain file (Some answer)) P told v w there h k =
+one_explanation (Explain file (Some answer)) P told v w limits there h k =
     let same : h.0 ≡ k.0 = same_second Log told h.0 k.0 (there tt) h.1 k.1 in
-    said_once P h.0 v w h.2 (subst (λ (bytes : List ℕ). IsAnswerExplanation P bytes w) (sym same) k.2)
-one_explanation (OnFiles file second task) P told v w there h k = absurd h
-one_explanation (OnProblem file task) P told v w there h k = absurd h
-one_explanation (Commands.Trial number weeks) P told v w there h k = absurd h
+    said_once P h.0 v w limits h.2 (subst (λ (bytes : List ℕ). IsAnswerExplanation P bytes w) (sym same) k.2)
+one_explanation (OnFiles file second task) P told v w limits there h k = absurd h
+one_explanation (OnProblem file task) P told v w limits there h k = absurd h
+one_explanation (Commands.Trial number weeks) P told v w limits there h k = absurd h
 
 -- two answers to a command for an instance, over what the second file tells
 pub one_on : (command : Command) (P : Instance) (told : Told) (a b : Answer) → KeepsLimits P → IsSecondTold command told → IsAnswerOn command told P a → IsAnswerOn command told P b → (a ≡ b) ⊎ AgreeInSearch a b
@@ -107,7 +107,7 @@ one_on command P told (Job a) (Explained w) limits there h k = absurd (said_or_d
 one_on command P told (Explained v) (Refused (NotWeekly n)) limits there h k = absurd (k.0 h.0)
 one_on command P told (Explained v) (Refused (TooLong kind)) limits there h k = absurd (said_or_long command P told kind v there h.1 k.1)
 one_on command P told (Explained v) (Job b) limits there h k = absurd (said_or_done command P told v b h.1 k.1)
-one_on command P told (Explained v) (Explained w) limits there h k = inl (ap (λ (words : Explanation). Explained words) (one_explanation command P told v w there h.1 k.1))
+one_on command P told (Explained v) (Explained w) limits there h k = inl (ap (λ (words : Explanation). Explained words) (one_explanation command P told v w limits there h.1 k.1))
 one_on command P told (Explained v) b limits there h k = absurd k
 one_on command P told (Refused (NotWeekly m)) b limits there h k = absurd k
 one_on command P told (Refused (TooLong kind)) b limits there h k = absurd k
