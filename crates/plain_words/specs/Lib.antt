@@ -1,6 +1,9 @@
 pub mod Words
 pub mod RuleWords
+pub mod Causes
 pub mod Statements
 pub mod LogWords
 pub mod AnswerWords
+pub mod LineAnswers
+pub mod AcceptedRules
 pub mod AnswerLaws

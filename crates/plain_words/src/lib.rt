@@ -1,8 +1,11 @@
 //! What a problem says, and what the answers of commands say of it, in words.
 #![tactic(auto)]
 
+mod accepted;
 mod answer;
 mod answer_laws;
+mod cause;
+mod line_answer;
 mod log_text;
 mod log_words;
 mod rule_words;
@@ -11,6 +14,7 @@ mod words;
 
 pub use answer::answer_words;
 pub use answer_laws::{answers_say_one, counted_are_leaves_of, named_rules_are_said};
+pub use cause::{Cause, Count, Short};
 pub use rule_words::put_rule_words;
 pub use statement::{Rosters, Statement};
 pub use words::{put_days, put_name_words, put_range, put_symbol_words, put_weeks};
