@@ -1,9 +1,14 @@
 pub mod Words
 pub mod RuleWords
+pub mod Counting
+pub mod Sentences
+pub mod SentenceText
+pub mod ProblemWords
+pub mod Laws
 pub mod Causes
 pub mod Statements
 pub mod LogWords
-pub mod AnswerWords
 pub mod LineAnswers
 pub mod AcceptedRules
+pub mod AnswerWords
 pub mod AnswerLaws

@@ -11,6 +11,7 @@ use Rattle.refutation_terms.specs.declared.lines.Turn.{Turn}
 use Rattle.plain_words.specs.Words.{weeks_words, range_words, name_words}
 use Rattle.plain_words.specs.Causes.{short_words, count_words, line_words}
 use Rattle.plain_words.specs.RuleWords.{rule_words}
+use Rattle.plain_words.specs.Counting.{counted_words}
 use Rattle.plain_words.specs.declared.statement.Rosters.{Rosters}
 use Rattle.plain_words.specs.declared.statement.Rosters.TheVariants.{Every, Free, Weeks}
 use Rattle.plain_words.specs.declared.statement.Statement.{Statement}
@@ -76,7 +77,7 @@ statement_words P (Together w) =
 statement_words P (Whatever w) = codes "there is no roster" ++ rosters_words w ++ codes ", whatever the rules"
 statement_words P (Named k) = numbered_words P k
 statement_words P (OnlyTurn k t) = decimal k ++ codes ": only that " ++ somebody_words P t.x t.day
-statement_words P (Counted x) = codes "counting shows it"
+statement_words P (Counted x) = codes "counting shows it: " ++ counted_words P x
 statement_words P (Spent closed left w) =
     cases_words closed ++ codes " and " ++ open_words left ++ codes ", so nothing is known of rosters" ++ unknown_words w
 statement_words P (AtLine c n) = line_words c n

@@ -5,6 +5,7 @@ ghost use Rattle.rwsp_terms.specs.Rules.{rules};
 ghost use Rattle.plain_words.specs.Statements.{weekends_words, rosters_words, unknown_words, numbered_words, works_words, somebody_words, cases_words, open_words, bad_rule_words, fewer_words, statement_words, statement_line, statements_words, StatementFits, IsOther};
 
 use crate::rule_words::put_rule_words;
+use crate::counted::put_counted;
 use crate::cause::{Cause, Count, Short, put_count, put_line_words, put_short};
 use crate::words::{put_name_words, put_range, put_weeks};
 use refutation_terms::Turn;
@@ -307,7 +308,10 @@ fn put_statement(
             out.extend_from_slice(b": only that ")?;
             put_somebody(out, problem, turn.x, turn.day)
         }
-        Statement::Counted(_) => out.extend_from_slice(b"counting shows it"),
+        Statement::Counted(x) => {
+            out.extend_from_slice(b"counting shows it: ")?;
+            put_counted(out, problem, x)
+        }
         Statement::Spent {
             closed,
             left,
