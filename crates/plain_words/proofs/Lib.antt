@@ -1,9 +1,9 @@
+pub mod LogWords
+pub mod Fitting
+pub mod OneSaid
+pub mod SaidLaws
 pub mod Pieces
 pub mod Said
 pub mod Minutes
 pub mod Misfits
 pub mod Sentences
-pub mod LogWords
-pub mod Fitting
-pub mod OneSaid
-pub mod SaidLaws

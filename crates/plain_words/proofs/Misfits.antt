@@ -25,19 +25,23 @@ pub record Passes (p : ℕ → Bool) (a n : ℕ) : Type 0 where
   pub within : place < n
   pub there : p (a + place) ≡ true
 
-pub some_passes : (p : ℕ → Bool) (a n : ℕ) → list_any p (range_with_len a n) ≡ true → Passes p a n
-some_passes p a zero h = absurd (cc)
-some_passes p a (suc n) h = passes_by p a n (p a) refl h
-
-passes_by : (p : ℕ → Bool) (a n : ℕ) (b : Bool) → p a ≡ b → (b || list_any p (range_with_len (a + 1) n)) ≡ true → Passes p a (suc n)
-passes_by p a n true here h =
+passes_by : (p : ℕ → Bool) (a n : ℕ) (b : Bool) → p a ≡ b → (b || list_any p (range_with_len (a + 1) n)) ≡ true → (list_any p (range_with_len (a + 1) n) ≡ true → Passes p (a + 1) n) → Passes p a (suc n)
+passes_by p a n true here h later =
     let e : a + 0 ≡ a = omega arith in
     record { place = 0; within = omega arith; there = ap p e ∙ here }
-passes_by p a n false here h =
-    let found = some_passes p (a + 1) n h in
+passes_by p a n false here h later =
+    let found = later h in
     let less = found.within in
     let e : a + suc found.place ≡ a + 1 + found.place = omega arith in
     record { place = suc found.place; within = omega (arith, less); there = ap p e ∙ found.there }
+
+pub some_passes : (p : ℕ → Bool) (a n : ℕ) → list_any p (range_with_len a n) ≡ true → Passes p a n
+some_passes p a zero h = absurd (cc)
+some_passes p a (suc n) h = passes_by p a n (p a) refl h (some_passes p (a + 1) n)
+
+or_later : (b c : Bool) → c ≡ true → (b || c) ≡ true
+or_later true c h = refl
+or_later false c h = h
 
 pub passes_some : (p : ℕ → Bool) (a n k : ℕ) → k < n → p (a + k) ≡ true → list_any p (range_with_len a n) ≡ true
 passes_some p a zero k within here = absurd (omega (arith, within))
@@ -47,10 +51,6 @@ passes_some p a (suc n) zero within here =
 passes_some p a (suc n) (suc k) within here =
     let e : a + 1 + k ≡ a + suc k = omega arith in
     or_later (p a) (list_any p (range_with_len (a + 1) n)) (passes_some p (a + 1) n k (omega (arith, within)) (ap p e ∙ here))
-
-or_later : (b c : Bool) → c ≡ true → (b || c) ≡ true
-or_later true c h = refl
-or_later false c h = h
 
 -- so many blocks can have so many days
 can_decided : (b : Bounds) (k t : ℕ) → CanBe b k t → can_be b k t ≡ true
@@ -69,10 +69,10 @@ off_decided P k t h =
     let high = le_z (pos t) (most_days P 0) in
     let off = can_be P.off k t in
     let work = can_be P.work k (cells P - t) in
-    let first = and_parts low (high && (off && work)) h in
-    let second = and_parts high (off && work) first.1 in
-    let third = and_parts off work second.1 in
-    (is_at_most (least_days P 0) (pos t) first.0, is_at_most (pos t) (most_days P 0) second.0, is_can P.off k t third.0, is_can P.work k (cells P - t) third.1)
+    let last = and_parts ((low && high) && off) work h in
+    let third = and_parts (low && high) off last.0 in
+    let first = and_parts low high third.0 in
+    (is_at_most (least_days P 0) (pos t) first.0, is_at_most (pos t) (most_days P 0) first.1, is_can P.off k t third.1, is_can P.work k (cells P - t) last.1)
 
 fits_as_tested : (P : Instance) (x k : ℕ) → blocks_fit P x k ≡ true → BlocksFitBy P x k
 fits_as_tested P zero k h =
@@ -93,7 +93,7 @@ tested_as_fits P zero k fits =
     let off = can_decided P.off k t fits.4 in
     let work = can_decided P.work k (cells P - t) fits.5 in
     let within = fits.3 in
-    let test : off_days_fit P k t ≡ true = and_from (le_z (least_days P 0) (pos t)) _ low (and_from (le_z (pos t) (most_days P 0)) _ high (and_from (can_be P.off k t) (can_be P.work k (cells P - t)) off work)) in
+    let test : off_days_fit P k t ≡ true = and_from ((le_z (least_days P 0) (pos t) && le_z (pos t) (most_days P 0)) && can_be P.off k t) (can_be P.work k (cells P - t)) (and_from (le_z (least_days P 0) (pos t) && le_z (pos t) (most_days P 0)) (can_be P.off k t) (and_from (le_z (least_days P 0) (pos t)) (le_z (pos t) (most_days P 0)) low high) off) work in
     let e : 0 + t ≡ t = omega arith in
     passes_some (off_days_fit P k) 0 (cells P + 1) t (omega (arith, within)) (ap (off_days_fit P k) e ∙ test)
 tested_as_fits P (suc x) k fits =

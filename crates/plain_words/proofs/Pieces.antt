@@ -88,3 +88,7 @@ named_more h v a n at old out new here before step =
     ∙ ap (λ t. t ++ h (v at)) before
     ∙ flat_map_more h old (map v (range_with_len a n)) (v at)
     ∙ ap (λ ys. old ++ flat_map h ys) (sym (map-range_with_len_more v a n at here))
+
+-- one piece, and others behind it
+pub piece_then : (old mid new a b : List ℕ) → mid ≡ old ++ a → new ≡ mid ++ b → new ≡ old ++ (a ++ b)
+piece_then old mid new a b first second = second ∙ ap (λ t. t ++ b) first ∙ append_assoc old a b

@@ -1,8 +1,11 @@
 -- Lines of sentences, one list behind another.
 use Rattle.std.proofs.Common.{◌≡◌, ℕ, List, [], ◌∷◌, ◌++◌, ap, sym, ◌∙◌, append_assoc}
+use Rattle.std.specs.Prelude.{Option, Some, position, slice_get}
 use Rattle.std.proofs.lemmas.List.{append-nil}
+use Rattle.rwsp_terms.specs.declared.data.Symbol.{Symbol}
 use Rattle.rwsp_terms.specs.Instance.{Instance}
 use Rattle.plain_words.specs.declared.sentence.Sentence.{Sentence}
+use Rattle.plain_words.specs.Sentences.{is_same_pair, is_same_triple, twice_pair, twice_triple, pair_slips, triple_slips, pair_slips_at, triple_slips_at}
 use Rattle.plain_words.specs.SentenceText.{sentence_line, lines}
 use Rattle.plain_words.proofs.Pieces.{behind}
 
@@ -33,3 +36,12 @@ six_parts P a b c d e f old o1 o2 o3 o4 o5 new h1 h2 h3 h4 h5 h6 =
 pub two_lines : (P : Instance) (s t : Sentence) (old mid new : List ℕ) → mid ≡ old ++ sentence_line P s → new ≡ mid ++ sentence_line P t → new ≡ old ++ lines P (s ∷ t ∷ [])
 two_lines P s t old mid new first second =
     lines_behind P (s ∷ []) (t ∷ []) old mid new (one_line P s old mid first) (one_line P t mid new second)
+
+-- a sequence at a place, and its first place
+pub pair_known : (P : Instance) (k : ℕ) (x : Symbol × Symbol) (place : Option ℕ) (xs : List (Symbol × Symbol)) → slice_get P.pairs k ≡ Some x → xs ≡ P.pairs → place ≡ position (is_same_pair x) xs → twice_pair k place ≡ pair_slips_at P k
+pair_known P k x place xs is same first =
+    ap (twice_pair k) first ∙ ap (λ ys. twice_pair k (position (is_same_pair x) ys)) same ∙ sym (ap (pair_slips P k) is)
+
+pub triple_known : (P : Instance) (k : ℕ) (x : Symbol × Symbol × Symbol) (place : Option ℕ) (xs : List (Symbol × Symbol × Symbol)) → slice_get P.triples k ≡ Some x → xs ≡ P.triples → place ≡ position (is_same_triple x) xs → twice_triple k place ≡ triple_slips_at P k
+triple_known P k x place xs is same first =
+    ap (twice_triple k) first ∙ ap (λ ys. twice_triple k (position (is_same_triple x) ys)) same ∙ sym (ap (triple_slips P k) is)

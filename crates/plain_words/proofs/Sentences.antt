@@ -149,20 +149,20 @@ rules_not_counted a zero = refl
 rules_not_counted a (suc n) = rules_not_counted (a + 1) n
 
 -- what passes isn't in a list of which nothing does
+later : (q : Sentence → Bool) (x : Sentence) (xs : List Sentence) (t : Bool) → q x ≡ t → filter q (x ∷ xs) ≡ [] → (filter q xs ≡ [] → ⊥) → ⊥
+later q x xs true here none more =
+    let front : filter q (x ∷ xs) ≡ x ∷ filter q xs = ap (λ t. cond t (x ∷ filter q xs) (filter q xs)) here in
+    absurd (let e : x ∷ filter q xs ≡ [] = sym front ∙ none in cc)
+later q x xs false here none more =
+    let front : filter q (x ∷ xs) ≡ filter q xs = ap (λ t. cond t (x ∷ filter q xs) (filter q xs)) here in
+    more (sym front ∙ none)
+
 not_there : (q : Sentence → Bool) (xs : List Sentence) (s : Sentence) (k : ℕ) → k < length xs → slice_index_or xs k s ≡ s → q s ≡ true → filter q xs ≡ [] → ⊥
-not_there q [] s k less is yes none = omega (arith, less)
+not_there q [] s k less is yes none = absurd (omega (arith, less))
 not_there q (x ∷ xs) s zero less is yes none =
     let front : filter q (x ∷ xs) ≡ x ∷ filter q xs = ap (λ t. cond t (x ∷ filter q xs) (filter q xs)) (ap q is ∙ yes) in
     absurd (let e : x ∷ filter q xs ≡ [] = sym front ∙ none in cc)
-not_there q (x ∷ xs) s (suc k) less is yes none = later q x xs s k (omega (arith, less)) is yes (q x) refl none
-
-later : (q : Sentence → Bool) (x : Sentence) (xs : List Sentence) (s : Sentence) (k : ℕ) → k < length xs → slice_index_or xs k s ≡ s → q s ≡ true → (t : Bool) → q x ≡ t → filter q (x ∷ xs) ≡ [] → ⊥
-later q x xs s k less is yes true here none =
-    let front : filter q (x ∷ xs) ≡ x ∷ filter q xs = ap (λ t. cond t (x ∷ filter q xs) (filter q xs)) here in
-    absurd (let e : x ∷ filter q xs ≡ [] = sym front ∙ none in cc)
-later q x xs s k less is yes false here none =
-    let front : filter q (x ∷ xs) ≡ filter q xs = ap (λ t. cond t (x ∷ filter q xs) (filter q xs)) here in
-    not_there q xs s k less is yes (sym front ∙ none)
+not_there q (x ∷ xs) s (suc k) less is yes none = later q x xs (q x) refl none (λ none. not_there q xs s k (omega (arith, less)) is yes none)
 
 -- a piece that has something
 record InPiece (f : ℕ → List Sentence) (a n : ℕ) (s : Sentence) : Type 0 where

@@ -9,6 +9,8 @@ use Rattle.plain_words.specs.declared.statement.Rosters.{Rosters}
 use Rattle.plain_words.specs.declared.statement.Statement.{Statement}
 use Rattle.plain_words.specs.Statements.{statements_words}
 use Rattle.plain_words.specs.LogWords.{IsSaidOfLog, rosters_by}
+use Rattle.plain_words.specs.LineAnswers.{LineSays}
+use Rattle.plain_words.specs.AcceptedRules.{AcceptedSays}
 
 -- nothing is said
 abbrev pub SaysNothing : (List ℕ → Type 0) → Type 0
@@ -28,6 +30,10 @@ abbrev pub LogSays : Instance → LogKind → List ℕ → List ℕ → Type 0
 LogSays P kind bytes text =
     HasLogsOf P kind × ((g : Log) × IsReadAs P kind bytes g × IsLogInWords P (rosters_by g.goal) g text)
 
--- what the bytes say that are an answer: a log, or a free log. The kinds are tried in this order
+-- what the bytes say that are one line: that a log is accepted, or another short answer
+abbrev pub LineOf : Instance → List ℕ → List ℕ → Type 0
+LineOf P bytes = OrElse (AcceptedSays P bytes) (LineSays P bytes)
+
+-- what the bytes say that are an answer: a log, a free log, or one line. The kinds are tried in this order
 abbrev pub AnswerSays : Instance → List ℕ → List ℕ → Type 0
-AnswerSays P bytes = OrElse (LogSays P WithoutGoal bytes) (LogSays P WithGoal bytes)
+AnswerSays P bytes = OrElse (LogSays P WithoutGoal bytes) (OrElse (LogSays P WithGoal bytes) (LineOf P bytes))

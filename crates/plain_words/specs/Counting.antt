@@ -37,11 +37,15 @@ is_misfit P x = not (list_any (blocks_fit P x.number) (range_with_len 0 (cells P
 
 -- Words.
 
+-- in front of a greatest number that is below the least
+unfoldable pub crossed_front : ℕ → List ℕ
+crossed_front least = codes "at least " ++ decimal least ++ codes " and at most "
+
 -- from a least number to a greatest, which may be below it
 unfoldable pub span_front : Bounds → List ℕ
 span_front b =
     if nat_lt b.least b.greatest then decimal b.least ++ codes " to "
-    else codes "at least " ++ decimal b.least ++ codes " and at most "
+    else crossed_front b.least
 
 -- so many days
 unfoldable pub span_words : Bounds → List ℕ

@@ -45,7 +45,9 @@ fn greatest_in_weeks(problem: &Problem, number: u8, day: u32) -> u32
     ensures value { result ≡ greatest_in_weeks problem.now number day }
     ensures few { result ≤ MOST_WEEKS }
 {
-    demand_of(problem, number, day).greatest.min(problem.weeks())
+    demand_of(problem, number, day)
+        .greatest
+        .min(problem.weeks())
 }
 
 // On how many days of the cycle a shift is demanded at most.
@@ -172,7 +174,8 @@ fn put_fixed_rounds(out: &mut Vec<u8>, each: u32, days: u32) -> Result<(), Alloc
     out.extend_from_slice(b"k blocks of days off and of work take ")?;
     put_number(out, u64::from(each))?;
     out.extend_from_slice(b"k days, and there are ")?;
-    put_number(out, u64::from(days))
+    put_number(out, u64::from(days))?;
+    Ok(())
 }
 
 // Appends how many days so many have where their lengths range, and one more.
@@ -197,7 +200,8 @@ fn put_ranging_rounds(
     out.extend_from_slice(b" at least ")?;
     put_number(out, u64::from((room + 1) * rounds.least))?;
     out.extend_from_slice(b", and there are ")?;
-    put_number(out, u64::from(days))
+    put_number(out, u64::from(days))?;
+    Ok(())
 }
 
 // Appends how many days blocks of days off and of work take together.
@@ -223,7 +227,8 @@ fn put_needed(out: &mut Vec<u8>, problem: &Problem) -> Result<(), AllocError>
     out.extend_from_slice(b"the demand needs ")?;
     put_days(out, needed_days(problem))?;
     out.extend_from_slice(b" of work, and there are ")?;
-    put_number(out, u64::from(problem.cells()))
+    put_number(out, u64::from(problem.cells()))?;
+    Ok(())
 }
 
 // Appends that the demand leaves at least more days off than at most.
@@ -252,7 +257,8 @@ fn put_unlike(out: &mut Vec<u8>, problem: &Problem) -> Result<(), AllocError>
     put_block_range(out, blocks_for(rounds(problem), all_days(problem)))?;
     out.extend_from_slice(
         b" of each; but round the cycle there are as many blocks of one as of the other",
-    )
+    )?;
+    Ok(())
 }
 
 // Appends which numbers of blocks do not agree.

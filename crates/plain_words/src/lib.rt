@@ -1,11 +1,14 @@
 //! What a problem says, and what the answers of commands say of it, in words.
 #![tactic(auto)]
 
+mod accepted;
 mod answer;
 mod answer_laws;
+mod cause;
 mod counted;
 mod hours;
 mod laws;
+mod line_answer;
 mod log_text;
 mod log_words;
 mod problem;
@@ -19,6 +22,7 @@ mod words;
 
 pub use answer::answer_words;
 pub use answer_laws::{answers_say_one, counted_are_leaves_of, named_rules_are_said};
+pub use cause::{Cause, Count, Short};
 pub use laws::{counted_are_leaves, rules_are_said_once};
 pub use problem::problem_words;
 pub use rule_words::put_rule_words;

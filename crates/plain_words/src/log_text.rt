@@ -35,7 +35,7 @@ fn log_of(
 }
 
 // The statements as lines.
-fn lines_of(
+pub(crate) fn lines_of(
     alloc: Global,
     problem: &Problem,
     statements: &[Statement],

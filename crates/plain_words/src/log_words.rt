@@ -186,7 +186,7 @@ fn put_counted(statements: &mut Vec<Statement>, counted: &[Symbol]) -> Result<()
 }
 
 // What is said of a refutation that names these rules.
-fn reason_statements(
+pub(crate) fn reason_statements(
     alloc: Global,
     problem: &Problem,
     rosters: Rosters,

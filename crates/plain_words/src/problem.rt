@@ -61,7 +61,7 @@ fn put_counted_of(out: &mut Vec<u8>, problem: &Problem, x: Symbol) -> Result<(),
 fn put_counted_shifts(out: &mut Vec<u8>, problem: &Problem) -> Result<(), AllocError>
     ensures { OnOk result (out.new.items ≡ out.old.items
         ++ lines problem.now (flat_map (λ x. counted_if problem.now (symbol_numbered x))
-            (range_with_len 1 (shift_count problem.now)))) }
+        (range_with_len 1 (shift_count problem.now)))) }
 {
     for place in 0..problem.shifts() {
         put_counted_of(out, problem, Symbol { number: place + 1 })?;

@@ -5,7 +5,7 @@ ghost use Rattle.rwsp_terms.specs.declared.limits.TheConstants.{MOST_WEEKS, MOST
 ghost use Rattle.rwsp_terms.specs.Instance.{bounds, shift_count, shift_demand, column_least, column_greatest, IsClass, IsDay, symbol_numbered};
 ghost use Rattle.rwsp_terms.specs.Roster.{IsRule};
 ghost use Rattle.rwsp_model.specs.Sequences.{IsPairOf, IsTripleOf};
-ghost use Rattle.plain_words.specs.RuleWords.{class_words, most_words, least_words, pair_words, triple_words, pair_in_words, triple_in_words, shift_words, wanted_words, off_range, off_words, is_crossed, crossed_words, first_crossed, demand_words, day_words, rule_words};
+ghost use Rattle.plain_words.specs.RuleWords.{class_words, most_words, least_words, pair_words, triple_words, pair_in_words, triple_in_words, shift_words, wanted_words, off_range, needs_words, off_words, is_crossed, crossed_words, first_crossed, demand_words, day_words, rule_words};
 
 use crate::words::{put_days, put_name_words, put_range, put_symbol_words, put_weeks};
 use rwsp_model::Problem;
@@ -176,6 +176,18 @@ fn off_range(problem: &Problem, day: u32) -> Bounds
     }
 }
 
+// Appends that a day needs more weeks than there are.
+#[tactic(auto, unfolding(crate::specs::RuleWords::needs_words))]
+fn put_needs(out: &mut Vec<u8>, needed: u32, weeks: u32) -> Result<(), AllocError>
+    ensures { OnOk result (out.new.items ≡ out.old.items ++ needs_words needed weeks) }
+{
+    out.extend_from_slice(b"which needs ")?;
+    put_number(out, u64::from(needed))?;
+    out.extend_from_slice(b" of ")?;
+    put_weeks(out, weeks)?;
+    Ok(())
+}
+
 // Appends what the shifts of a day leave for the day off, or that they need more weeks than there are.
 #[tactic(auto, unfolding(crate::specs::RuleWords::off_words))]
 fn put_off(out: &mut Vec<u8>, problem: &Problem, day: u32) -> Result<(), AllocError>
@@ -184,10 +196,7 @@ fn put_off(out: &mut Vec<u8>, problem: &Problem, day: u32) -> Result<(), AllocEr
 {
     let needed = least_of_day(problem, day);
     if problem.weeks() < needed {
-        out.extend_from_slice(b"which needs ")?;
-        put_number(out, u64::from(needed))?;
-        out.extend_from_slice(b" of ")?;
-        put_weeks(out, problem.weeks())
+        put_needs(out, needed, problem.weeks())
     } else {
         out.extend_from_slice(b"off ")?;
         put_range(out, off_range(problem, day))
@@ -206,7 +215,12 @@ pub fn is_crossed(problem: &Problem, day: u32, number: u8) -> bool
 
 /// Appends that no number meets the demand of a shift on a day.
 #[tactic(auto, unfolding(crate::specs::RuleWords::crossed_words))]
-pub fn put_crossed(out: &mut Vec<u8>, problem: &Problem, day: u32, number: u8) -> Result<(), AllocError>
+pub fn put_crossed(
+    out: &mut Vec<u8>,
+    problem: &Problem,
+    day: u32,
+    number: u8,
+) -> Result<(), AllocError>
     requires day { IsDay problem.now day }
     requires shift { (0 < number) × (number ≤ shift_count problem.now) }
     ensures { OnOk result (out.new.items ≡ out.old.items ++ crossed_words problem.now day number) }

@@ -104,7 +104,12 @@ fn put_crossed_blocks(out: &mut Vec<u8>, problem: &Problem, class: Class) -> Res
     requires { IsClass problem.now class }
     ensures { OnOk result (out.new.items ≡ out.old.items ++ crossed_blocks_words problem.now class) }
 {
-    put_rules_front(out, problem, most_rule(problem, class), least_rule(problem, class))?;
+    put_rules_front(
+        out,
+        problem,
+        most_rule(problem, class),
+        least_rule(problem, class),
+    )?;
     put_least(out, problem, class)?;
     out.extend_from_slice(b", but at most ")?;
     put_number(out, u64::from(problem.bounds(class).greatest))
@@ -202,7 +207,8 @@ fn put_large_demand(
     out.extend_from_slice(b" ")?;
     put_range(out, demand_of(problem, number, day))?;
     out.extend_from_slice(b", more than ")?;
-    put_weeks(out, problem.weeks())
+    put_weeks(out, problem.weeks())?;
+    Ok(())
 }
 
 // Appends that a day demands more than there are weeks.
@@ -249,7 +255,8 @@ fn put_numeric_name(
     put_number(out, u64::from(long.least))?;
     out.extend_from_slice(b" and ")?;
     put_number(out, u64::from(long.greatest))?;
-    out.extend_from_slice(b" for its least and greatest block")
+    out.extend_from_slice(b" for its least and greatest block")?;
+    Ok(())
 }
 
 // Appends a sentence.

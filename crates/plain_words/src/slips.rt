@@ -1,5 +1,5 @@
 // What looks like a slip in a problem.
-ghost use Rattle.std.specs.Prelude.{◌≡◌, ◌+◌, ◌<◌, ◌≤◌, ◌++◌, length, position, slice_get, IfSome, OnOk};
+ghost use Rattle.std.specs.Prelude.{◌≡◌, ◌+◌, ◌<◌, ◌≤◌, ◌++◌, length, position, slice_get, Some, IfSome, OnOk};
 ghost use Rattle.std.specs.List.{flat_map, range_with_len};
 ghost use Rattle.rwsp_terms.specs.Instance.{shift_count, shift_demand, IsClass, IsDay};
 ghost use Rattle.plain_words.specs.Sentences.{crossed_blocks, long_blocks, shift_slips, is_same_pair, is_same_triple, twice_pair, twice_triple, pair_slips_at, triple_slips_at, is_large, demand_slips, day_slips, slips};
@@ -95,23 +95,76 @@ fn place_of_triple(
     triples.iter().position(|y| is_same_triple(x, *y))
 }
 
+// The pair at a place.
+fn pair_at(problem: &Problem, place: u32) -> (Symbol, Symbol)
+    requires { place < length problem.now.pairs }
+    ensures { slice_get problem.now.pairs place ≡ Some result }
+{
+    problem.pairs()[place as usize]
+}
+
+// Appends that the pair at a place stands earlier too, where its first place is an earlier one.
+fn put_twice_pair(
+    out: &mut Vec<u8>,
+    problem: &Problem,
+    place: u32,
+    first: Option<usize>,
+) -> Result<(), AllocError>
+    requires place { place < length problem.now.pairs }
+    requires first { IfSome first (λ i. i < length problem.now.pairs) }
+    ensures { OnOk result (out.new.items ≡ out.old.items ++ lines problem.now (twice_pair place first)) }
+{
+    problem.prove_limits();
+    match first {
+        None => Ok(()),
+        Some(first) => put_if(
+            out,
+            problem,
+            first < place as usize,
+            Sentence::TwicePair(first as u32, place),
+        ),
+    }
+}
+
 // Appends that the pair at a place stands earlier too, where it does.
 fn put_pair_slips(out: &mut Vec<u8>, problem: &Problem, place: u32) -> Result<(), AllocError>
     requires { place < length problem.now.pairs }
     ensures { OnOk result (out.new.items ≡ out.old.items ++ lines problem.now (pair_slips_at problem.now place)) }
 {
-    let pairs = problem.pairs();
-    match place_of_pair(pairs, pairs[place as usize]) {
+    let sequence = pair_at(problem, place);
+    let first = place_of_pair(problem.pairs(), sequence);
+    put_twice_pair(out, problem, place, first)?;
+    Ok(())
+}
+
+// The triple at a place.
+fn triple_at(problem: &Problem, place: u32) -> (Symbol, Symbol, Symbol)
+    requires { place < length problem.now.triples }
+    ensures { slice_get problem.now.triples place ≡ Some result }
+{
+    problem.triples()[place as usize]
+}
+
+// Appends that the triple at a place stands earlier too, where its first place is an earlier one.
+fn put_twice_triple(
+    out: &mut Vec<u8>,
+    problem: &Problem,
+    place: u32,
+    first: Option<usize>,
+) -> Result<(), AllocError>
+    requires place { place < length problem.now.triples }
+    requires first { IfSome first (λ i. i < length problem.now.triples) }
+    ensures { OnOk result (out.new.items ≡ out.old.items ++ lines problem.now (twice_triple place first)) }
+{
+    problem.prove_limits();
+    match first {
         None => Ok(()),
-        Some(first) => {
-            let first = first as u32;
-            put_if(
-                out,
-                problem,
-                first < place,
-                Sentence::TwicePair(first, place),
-            )
-        }
+        Some(first) => put_if(
+            out,
+            problem,
+            first < place as usize,
+            Sentence::TwiceTriple(first as u32, place),
+        ),
     }
 }
 
@@ -120,19 +173,10 @@ fn put_triple_slips(out: &mut Vec<u8>, problem: &Problem, place: u32) -> Result<
     requires { place < length problem.now.triples }
     ensures { OnOk result (out.new.items ≡ out.old.items ++ lines problem.now (triple_slips_at problem.now place)) }
 {
-    let triples = problem.triples();
-    match place_of_triple(triples, triples[place as usize]) {
-        None => Ok(()),
-        Some(first) => {
-            let first = first as u32;
-            put_if(
-                out,
-                problem,
-                first < place,
-                Sentence::TwiceTriple(first, place),
-            )
-        }
-    }
+    let sequence = triple_at(problem, place);
+    let first = place_of_triple(problem.triples(), sequence);
+    put_twice_triple(out, problem, place, first)?;
+    Ok(())
 }
 
 // Appends which pairs stand twice. It costs a step for each two of them.
@@ -178,7 +222,12 @@ fn put_demand_slips(
     ensures { OnOk result (out.new.items ≡ out.old.items ++ lines problem.now (demand_slips problem.now day number)) }
 {
     let is_crossed = is_crossed(problem, day, number);
-    put_if(out, problem, is_crossed, Sentence::CrossedDemand(day, number))?;
+    put_if(
+        out,
+        problem,
+        is_crossed,
+        Sentence::CrossedDemand(day, number),
+    )?;
     let is_large = is_large(problem, demand_of(problem, number, day));
     put_if(out, problem, is_large, Sentence::LargeDemand(day, number))
 }
@@ -218,7 +267,6 @@ fn put_all_day_slips(out: &mut Vec<u8>, problem: &Problem) -> Result<(), AllocEr
 }
 
 /// Appends what looks like a slip, in the order of the rules.
-#[tactic(auto, using(crate::proofs::Said::six_parts))]
 pub fn put_slips(out: &mut Vec<u8>, problem: &Problem) -> Result<(), AllocError>
     ensures { OnOk result (out.new.items ≡ out.old.items ++ lines problem.now (slips problem.now)) }
 {
@@ -227,5 +275,6 @@ pub fn put_slips(out: &mut Vec<u8>, problem: &Problem) -> Result<(), AllocError>
     put_crossed_blocks(out, problem, Class::Work)?;
     put_all_pair_slips(out, problem)?;
     put_all_triple_slips(out, problem)?;
-    put_all_day_slips(out, problem)
+    put_all_day_slips(out, problem)?;
+    Ok(())
 }

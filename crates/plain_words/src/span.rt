@@ -1,7 +1,7 @@
 // Numbers of days and of blocks in words.
 ghost use Rattle.std.specs.Prelude.{◌≡◌, ◌+◌, ◌*◌, ◌<◌, ◌≤◌, ◌++◌, OnOk};
 ghost use Rattle.rwsp_terms.specs.Instance.{IsClass};
-ghost use Rattle.plain_words.specs.Counting.{span_front, span_words, blocks_words, have_words, lengths, room_for, room_words, misfit_words, blocks_for, block_range_words, made_words, no_block_words};
+ghost use Rattle.plain_words.specs.Counting.{crossed_front, span_front, span_words, blocks_words, have_words, lengths, room_for, room_words, misfit_words, blocks_for, block_range_words, made_words, no_block_words};
 
 use crate::rule_words::put_class;
 use crate::words::put_days;
@@ -14,6 +14,17 @@ use std::alloc::AllocError;
 /// The most days that a demand asks for.
 pub const MOST_ASKED: u32 = MOST_DAYS * MOST_WEEKS * MOST_SYMBOLS;
 
+// Appends from how many at least, in front of how many at most, which are fewer.
+#[tactic(auto, unfolding(crate::specs::Counting::crossed_front))]
+fn put_crossed_front(out: &mut Vec<u8>, least: u32) -> Result<(), AllocError>
+    ensures { OnOk result (out.new.items ≡ out.old.items ++ crossed_front least) }
+{
+    out.extend_from_slice(b"at least ")?;
+    put_number(out, u64::from(least))?;
+    out.extend_from_slice(b" and at most ")?;
+    Ok(())
+}
+
 // Appends from how many to how many.
 #[tactic(auto, unfolding(crate::specs::Counting::span_front))]
 fn put_span_front(out: &mut Vec<u8>, span: Bounds) -> Result<(), AllocError>
@@ -23,9 +34,7 @@ fn put_span_front(out: &mut Vec<u8>, span: Bounds) -> Result<(), AllocError>
         put_number(out, u64::from(span.least))?;
         out.extend_from_slice(b" to ")
     } else {
-        out.extend_from_slice(b"at least ")?;
-        put_number(out, u64::from(span.least))?;
-        out.extend_from_slice(b" and at most ")
+        put_crossed_front(out, span.least)
     }
 }
 
@@ -135,7 +144,8 @@ pub fn put_no_block(out: &mut Vec<u8>, problem: &Problem, class: Class) -> Resul
 {
     out.extend_from_slice(b"no block has ")?;
     put_span(out, lengths_of(problem, class))?;
-    put_class(out, problem, class)
+    put_class(out, problem, class)?;
+    Ok(())
 }
 
 /// Appends from how many blocks to how many.

@@ -2,13 +2,15 @@
 ghost use Rattle.std.specs.Prelude.{◌≡◌, ◌++◌, ◌<◌, ◌≤◌, length, All, OnOk};
 ghost use Rattle.rwsp_terms.specs.Instance.{IsSymbol};
 ghost use Rattle.rwsp_terms.specs.Rules.{rules};
-ghost use Rattle.plain_words.specs.Statements.{weekends_words, rosters_words, unknown_words, numbered_words, works_words, somebody_words, cases_words, open_words, statement_words, statement_line, statements_words, StatementFits};
+ghost use Rattle.plain_words.specs.Statements.{weekends_words, rosters_words, unknown_words, numbered_words, works_words, somebody_words, cases_words, open_words, bad_rule_words, fewer_words, statement_words, statement_line, statements_words, StatementFits, IsOther};
 
 use crate::rule_words::put_rule_words;
-use crate::words::{put_name_words, put_weeks};
+use crate::counted::put_counted;
+use crate::cause::{Cause, Count, Short, put_count, put_line_words, put_short};
+use crate::words::{put_name_words, put_range, put_weeks};
 use refutation_terms::Turn;
 use rwsp_model::{Problem, rule_at};
-use rwsp_terms::Symbol;
+use rwsp_terms::{Bounds, Symbol};
 use rwsp_text::put_number;
 use std::alloc::AllocError;
 
@@ -42,6 +44,20 @@ pub enum Statement {
         left: usize,
         rosters: Rosters,
     },
+    /// Why this line of a text is refused.
+    AtLine { cause: Cause, line: u32 },
+    /// A line of a log rests on a rule that the log doesn't name.
+    Unnamed { rule: u32, line: u32 },
+    /// A line of a log lists a rule that isn't short.
+    Long { rule: u32, line: u32 },
+    /// An answer that has no number.
+    Plain(Short),
+    /// An answer with one number.
+    Numbered { count: Count, number: u32 },
+    /// This number of weeks is enough, and none from `low` on below it is.
+    Least { weeks: u32, low: u32 },
+    /// None of these numbers of weeks is enough.
+    NoneTo { low: u32, last: u32 },
 }
 
 // Appends a number of free weekends.
@@ -174,6 +190,97 @@ fn put_spent(
     put_unknown(out, rosters)
 }
 
+// Appends a rule that a line of a log may not rest on, and why.
+#[tactic(auto, unfolding(crate::specs::Statements::bad_rule_words, crate::specs::Statements::rule_in_words))]
+fn put_bad_rule(
+    out: &mut Vec<u8>,
+    problem: &Problem,
+    line: u32,
+    rule: u32,
+    does: &[u8],
+    why: &[u8],
+) -> Result<(), AllocError>
+    requires { (0 < rule) × (rule ≤ length (rules problem.now)) }
+    ensures { OnOk result (out.new.items ≡ out.old.items ++ bad_rule_words problem.now line rule does.now why.now) }
+{
+    out.extend_from_slice(b"line ")?;
+    put_number(out, u64::from(line))?;
+    out.extend_from_slice(does)?;
+    put_number(out, u64::from(rule))?;
+    out.extend_from_slice(why)?;
+    put_rule_words(out, problem, rule_at(problem, rule))
+}
+
+// Appends which fewer weeks are too few.
+#[tactic(auto, unfolding(crate::specs::Statements::fewer_words))]
+fn put_fewer(out: &mut Vec<u8>, low: u32, weeks: u32) -> Result<(), AllocError>
+    requires { 0 < weeks }
+    ensures { OnOk result (out.new.items ≡ out.old.items ++ fewer_words low weeks) }
+{
+    if low == weeks {
+        out.extend_from_slice(b"; fewer were not tried")
+    } else {
+        out.extend_from_slice(b", and ")?;
+        put_range(
+            out,
+            Bounds {
+                least: low,
+                greatest: weeks - 1,
+            },
+        )?;
+        out.extend_from_slice(b" are not")
+    }
+}
+
+// Appends what is said of a text that is refused, of numbers of weeks, or of a short answer.
+#[tactic(auto, unfolding(crate::specs::Statements::statement_words))]
+fn put_other(
+    out: &mut Vec<u8>,
+    problem: &Problem,
+    statement: Statement,
+) -> Result<(), AllocError>
+    requires { StatementFits problem.now statement }
+    ensures { OnOk result (IsOther statement → out.new.items ≡ out.old.items ++ statement_words problem.now statement) }
+{
+    match statement {
+        Statement::AtLine { cause, line } => put_line_words(out, cause, line),
+        Statement::Unnamed { rule, line } => put_bad_rule(
+            out,
+            problem,
+            line,
+            rule,
+            b" of the log rests on rule ",
+            b", which it doesn't name: ",
+        ),
+        Statement::Long { rule, line } => put_bad_rule(
+            out,
+            problem,
+            line,
+            rule,
+            b" of the log lists rule ",
+            b", which is on too many days: ",
+        ),
+        Statement::Plain(short) => put_short(out, short),
+        Statement::Numbered { count, number } => put_count(out, count, number),
+        Statement::Least { weeks, low } => {
+            put_weeks(out, weeks)?;
+            out.extend_from_slice(b", and so as many employees, are enough")?;
+            put_fewer(out, low, weeks)
+        }
+        Statement::NoneTo { low, last } => {
+            put_range(
+                out,
+                Bounds {
+                    least: low,
+                    greatest: last,
+                },
+            )?;
+            out.extend_from_slice(b" weeks have no roster")
+        }
+        _ => Ok(()),
+    }
+}
+
 // Appends a statement.
 #[tactic(auto, unfolding(crate::specs::Statements::statement_words))]
 fn put_statement(
@@ -201,17 +308,21 @@ fn put_statement(
             out.extend_from_slice(b": only that ")?;
             put_somebody(out, problem, turn.x, turn.day)
         }
-        Statement::Counted(_) => out.extend_from_slice(b"counting shows it"),
+        Statement::Counted(x) => {
+            out.extend_from_slice(b"counting shows it: ")?;
+            put_counted(out, problem, x)
+        }
         Statement::Spent {
             closed,
             left,
             rosters,
         } => put_spent(out, problem, closed, left, rosters),
+        _ => put_other(out, problem, statement),
     }
 }
 
-// Appends the line of a statement.
-fn put_line(out: &mut Vec<u8>, problem: &Problem, statement: Statement) -> Result<(), AllocError>
+/// Appends the line of a statement.
+pub(crate) fn put_line(out: &mut Vec<u8>, problem: &Problem, statement: Statement) -> Result<(), AllocError>
     requires { StatementFits problem.now statement }
     ensures { OnOk result (out.new.items ≡ out.old.items ++ statement_line problem.now statement) }
 {

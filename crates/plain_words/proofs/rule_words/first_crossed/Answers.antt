@@ -10,7 +10,7 @@ returns-then-is_crossed-clause-value c =
     let test = is_crossed c.args.problem.now c.args.day in
     let k = c.loop-place.place in
     let next : k + 1 ≡ 1 + k = omega arith in
-    let within : k < shift_count c.args.problem.now = omega (arith, c.loop-place-test.true, c.shifts.ensures.value) in
+    let within : k < shift_count c.args.problem.now = omega (arith, c.loop-place-test.true, c.shifts-place-end.ensures.value) in
     ap (λ n. Some n) next ∙ sym (found_at test 1 (shift_count c.args.problem.now) k within c.loop-place.invariant (ap test (sym next) ∙ sym c.is_crossed.ensures ∙ c.if-is_crossed.true))
 
 pub loop-place-preserved : goal.loop-place-preserved
@@ -21,4 +21,4 @@ loop-place-preserved c =
 
 pub returns-clause-value : goal.returns-clause-value
 returns-clause-value c =
-    sym (none_found (is_crossed c.args.problem.now c.args.day) 1 (shift_count c.args.problem.now) (λ i less. c.loop-place.invariant i (omega (arith, less, c.loop-place-test.false, c.shifts.ensures.value))))
+    sym (none_found (is_crossed c.args.problem.now c.args.day) 1 (shift_count c.args.problem.now) (λ i less. c.loop-place.invariant i (omega (arith, less, c.loop-place-test.false, c.shifts-place-end.ensures.value))))
