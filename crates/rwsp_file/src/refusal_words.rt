@@ -151,7 +151,8 @@ fn put_word_count(out: &mut Vec<u8>, awaited: Place, words: usize) -> Result<(),
 {
     put_place(out, awaited)?;
     out.extend_from_slice(b" has five or six words, not ")?;
-    put_number(out, words as u64)
+    put_number(out, words as u64)?;
+    Ok(())
 }
 
 fn put_fault(out: &mut Vec<u8>, awaited: Place, fault: Fault) -> Result<(), AllocError>
@@ -197,10 +198,10 @@ pub fn put_misfit(out: &mut Vec<u8>, misfit: &Misfit) -> Result<(), AllocError>
 fn put_counts(out: &mut Vec<u8>, counts: Counts) -> Result<(), AllocError>
     ensures { OnOk result (out.new.items ≡ out.old.items ++ cause_text [] (Announced counts)) }
 {
-    put_numbered(out, "line ", counts.line)?;
-    put_numbered(out, " announces ", counts.pairs)?;
+    put_two_numbered(out, "line ", counts.line, " announces ", counts.pairs)?;
     put_numbered(out, " forbidden pairs and ", counts.triples)?;
-    out.extend_from_slice(b" forbidden triples")
+    out.extend_from_slice(b" forbidden triples")?;
+    Ok(())
 }
 
 // A line of another number of words than there are days.
@@ -225,7 +226,8 @@ fn put_clock(out: &mut Vec<u8>, word: &[u8], minutes: u32) -> Result<(), AllocEr
 {
     out.extend_from_slice(b"times are minutes from midnight: ")?;
     put_word(out, word)?;
-    put_numbered(out, " is ", minutes)
+    put_numbered(out, " is ", minutes)?;
+    Ok(())
 }
 
 // For how many of the shifts demands are there.
