@@ -227,7 +227,9 @@ fn place_of_other(lines: &[u32], words: u32, last: u32) -> Option<usize>
     ensures place { result ≡ position (is_other_line lines.now words last) lines.now }
     ensures within { IfSome result (λ k. k < length lines.now) }
 {
-    lines.iter().position(|line| is_other_line(lines, words, last, *line))
+    lines
+        .iter()
+        .position(|line| is_other_line(lines, words, last, *line))
 }
 
 // The first line, up to the last one, which has not so many words. The cost grows with the words, and with the words up
@@ -330,11 +332,17 @@ fn read_counts<'a>(alloc: Global, cursor: &mut Cursor<'a>) -> Result<Counts, Fai
     ensures { GivesUnless (λ counts. counts) (counts_at cursor.old) result }
 {
     skip_shifts(alloc, cursor)?;
-    cursor.bounds(Place::LeastOff, Place::GreatestOff).map_err(Fail::Refused)?;
-    cursor.bounds(Place::LeastWork, Place::GreatestWork).map_err(Fail::Refused)?;
+    cursor
+        .bounds(Place::LeastOff, Place::GreatestOff)
+        .map_err(Fail::Refused)?;
+    cursor
+        .bounds(Place::LeastWork, Place::GreatestWork)
+        .map_err(Fail::Refused)?;
     let word = cursor.next(Place::Pairs).map_err(Fail::Refused)?;
     let pairs = word.limited(Place::Pairs, PAIRS).map_err(Fail::Refused)?;
-    let triples = cursor.number(Place::Triples, TRIPLES).map_err(Fail::Refused)?;
+    let triples = cursor
+        .number(Place::Triples, TRIPLES)
+        .map_err(Fail::Refused)?;
     Ok(Counts {
         line: word.line(),
         pairs,

@@ -205,12 +205,7 @@ fn put_counts(out: &mut Vec<u8>, counts: Counts) -> Result<(), AllocError>
 }
 
 // A line of another number of words than there are days.
-fn put_other_length(
-    out: &mut Vec<u8>,
-    line: u32,
-    words: usize,
-    days: u32,
-) -> Result<(), AllocError>
+fn put_other_length(out: &mut Vec<u8>, line: u32, words: usize, days: u32) -> Result<(), AllocError>
     ensures { OnOk result (out.new.items ≡ out.old.items ++ cause_text [] (OtherLength line words days)) }
 {
     put_numbered(out, "line ", line)?;
