@@ -43,17 +43,19 @@ Said text why = (words : List ℕ) × (Some text ≡ Some (line_text (refused_li
 
 ends_said : (u : Unread) (awaited : Place) (line : ℕ) → Said (misfit_words u (TextEnds awaited line)) (Ends line)
 ends_said u awaited line =
-    let rest : List ℕ = 10 ∷ cause_line [] (end_cause u awaited) in
-    (codes "the text ends, but " ++ place_text awaited ++ codes " was awaited" ++ rest,
-    ap Some (ends_joined (codes "line " ++ decimal line) (codes ": ") (codes "the text ends, but ") (place_text awaited) (codes " was awaited") rest))
+    let rest : List ℕ = 10 ∷ cause_line [] (end_cause u awaited) in (
+      codes "the text ends, but " ++ place_text awaited ++ codes " was awaited" ++ rest,
+      ap Some (ends_joined (codes "line " ++ decimal line) (codes ": ") (codes "the text ends, but ") (place_text awaited) (codes " was awaited") rest),
+    )
 
 word_said : (u : Unread) (awaited : Place) (w : Lexeme) (fault : Fault) → Said (misfit_words u (BadWord awaited w fault)) (refusal_on w.line fault)
 word_said u awaited w fault =
     let rest : List ℕ = 10 ∷ cause_line w.text (bad_word_cause u awaited w fault) in
-    let words : List ℕ = shown_word w.text ++ codes ", but " ++ fault_text awaited fault ++ rest in
-    (words,
-    ap Some (word_joined (codes "line " ++ decimal w.line ++ codes ": ") (shown_word w.text) (codes ", but ") (fault_text awaited fault) rest
-    ∙ ap (λ n. line_text n words) (sym (line_of_fault w.line fault))))
+    let words : List ℕ = shown_word w.text ++ codes ", but " ++ fault_text awaited fault ++ rest in (
+      words,
+      ap Some (word_joined (codes "line " ++ decimal w.line ++ codes ": ") (shown_word w.text) (codes ", but ") (fault_text awaited fault) rest
+          ∙ ap (λ n. line_text n words) (sym (line_of_fault w.line fault))),
+    )
 
 said : (u : Unread) (o : Option Misfit) → MatchOption (option_map refusal_of o) (option_map (misfit_words u) o ≡ None) (λ why. (words : List ℕ) × (option_map (misfit_words u) o ≡ Some (line_text (refused_line why) words)))
 said u None = refl

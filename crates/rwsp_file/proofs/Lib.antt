@@ -17,4 +17,5 @@ pub mod PrintedLines
 pub mod Printing
 pub mod Lengths
 pub mod TextSteps
+pub mod Pieces
 pub mod Explained

@@ -91,9 +91,14 @@ is_range_byte b = is_ascii_digit b || b == 45 || is_dot b
 abbrev pub is_range_like : List ℕ → Bool
 is_range_like word = list_all is_range_byte word
 
+abbrev pub is_demand : Place → Bool
+is_demand (Demand shift day) = true
+is_demand awaited = false
+
 -- `-`, or two dots, where a demand isn't of the form LO..HI
-abbrev pub range_cause : List ℕ → Option Cause
-range_cause word = cause_if (is_range_like word && (has_byte 45 word || nat_le 2 (dots word))) RangeForm
+abbrev pub range_cause : Place → List ℕ → Option Cause
+range_cause awaited word =
+    cause_if ((is_demand awaited && is_range_like word) && (has_byte 45 word || nat_le 2 (dots word))) RangeForm
 
 -- one dot
 abbrev pub point_cause : List ℕ → Option Cause
@@ -178,25 +183,25 @@ announced (Err misfit) = None
 abbrev pub size_cause : List ℕ → Option Cause
 size_cause word = Some (if has_digit word then SizesFirst else NoComment)
 
--- what is usual at a place where a word should be a number
-abbrev pub usual_cause : Place → List ℕ → Option Cause
-usual_cause Days word = size_cause word
-usual_cause Weeks word = size_cause word
-usual_cause Shifts word = size_cause word
-usual_cause (Start shift) word = cause_if (not (has_digit word)) TwoWordName
-usual_cause LeastOff word = Some FrameNumbers
-usual_cause GreatestOff word = Some FrameNumbers
-usual_cause LeastWork word = Some FrameNumbers
-usual_cause GreatestWork word = Some FrameNumbers
-usual_cause Pairs word = Some FrameNumbers
-usual_cause Triples word = Some FrameNumbers
-usual_cause awaited word = None
+-- what is usual at a place where a word should be a number, or what the lines before a word show that should be a demand
+abbrev pub own_cause : Unread → Place → Lexeme → Option Cause
+own_cause u (Demand shift day) w = rows_cause u shift day w
+own_cause u Days w = size_cause w.text
+own_cause u Weeks w = size_cause w.text
+own_cause u Shifts w = size_cause w.text
+own_cause u (Start shift) w = cause_if (not (has_digit w.text)) TwoWordName
+own_cause u LeastOff w = Some FrameNumbers
+own_cause u GreatestOff w = Some FrameNumbers
+own_cause u LeastWork w = Some FrameNumbers
+own_cause u GreatestWork w = Some FrameNumbers
+own_cause u Pairs w = Some FrameNumbers
+own_cause u Triples w = Some FrameNumbers
+own_cause u awaited w = None
 
 -- what a word shows that should be a number, by its place
 abbrev pub place_cause : Unread → Place → Lexeme → Option Cause
-place_cause u (Demand shift day) w =
-    or_cause (range_cause w.text) (or_cause (point_cause w.text) (rows_cause u shift day w))
-place_cause u awaited w = or_cause (point_cause w.text) (usual_cause awaited w.text)
+place_cause u awaited w =
+    or_cause (range_cause awaited w.text) (or_cause (point_cause w.text) (own_cause u awaited w))
 
 -- what is likely where the text ends too early
 abbrev pub end_cause : Unread → Place → Option Cause

@@ -32,11 +32,7 @@ fn first_misfit<'a>(
 }
 
 // The words of a failure. The cursor is at the front of the text.
-fn misfit_words(
-    alloc: Global,
-    cursor: &mut Cursor,
-    misfit: &Misfit,
-) -> Result<Vec<u8>, AllocError>
+fn misfit_words(alloc: Global, cursor: &mut Cursor, misfit: &Misfit) -> Result<Vec<u8>, AllocError>
     ensures { IfOk result (λ words. words.items ≡ misfit_words cursor.old misfit.now) }
 {
     let cause = likely(alloc, cursor, misfit)?;

@@ -1,7 +1,7 @@
 // What is likely the cause of a refusal.
 ghost use Rattle.std.specs.Prelude.{◌≡◌, ◌<◌, ◌≤◌, IfOk, IfSome, length, position};
 ghost use Rattle.rwsp_file.specs.Reads.{ReadsUnless, GivesUnless};
-ghost use Rattle.rwsp_file.specs.LikelyCauses.{or_cause, cause_if, has_byte, has_digit, begins_with, begins_with_mark, begins_with_wide_mark, has_control, has_no_break, dots, is_range_byte, is_range_like, is_colon, minutes_from, minutes_of, clock_or_colon, word_cause, range_cause, point_cause, lines_of_words, words_on, is_other_line, other_line, length_cause, row_cause, rows_cause, lines_cause, row_length_cause, shifts_skipped, counts_at, announced, size_cause, usual_cause, place_cause, end_cause, bad_word_cause, likely};
+ghost use Rattle.rwsp_file.specs.LikelyCauses.{or_cause, cause_if, has_byte, has_digit, begins_with, begins_with_mark, begins_with_wide_mark, has_control, has_no_break, dots, is_range_byte, is_range_like, is_demand, is_colon, minutes_from, minutes_of, clock_or_colon, word_cause, range_cause, point_cause, lines_of_words, words_on, is_other_line, other_line, length_cause, row_cause, rows_cause, lines_cause, row_length_cause, shifts_skipped, counts_at, announced, size_cause, own_cause, place_cause, end_cause, bad_word_cause, likely};
 
 use crate::cursor::{Cursor, Lexeme};
 use crate::fields::{read_demand, read_size};
@@ -185,12 +185,22 @@ fn is_range_like(word: &[u8]) -> bool
     word.iter().all(|b| is_range_byte(*b))
 }
 
-fn range_cause(word: &[u8]) -> Option<Cause>
-    ensures { result ≡ range_cause word.now }
+fn is_demand(awaited: Place) -> bool
+    ensures { result ≡ is_demand awaited }
 {
+    match awaited {
+        Place::Demand(_, _) => true,
+        _ => false,
+    }
+}
+
+fn range_cause(awaited: Place, word: &[u8]) -> Option<Cause>
+    ensures { result ≡ range_cause awaited word.now }
+{
+    let like = is_demand(awaited) && is_range_like(word);
     let dash = has_byte(b'-', word);
     let many = 2 <= dots(word);
-    cause_if(is_range_like(word) && (dash || many), Cause::RangeForm)
+    cause_if(like && (dash || many), Cause::RangeForm)
 }
 
 fn point_cause(word: &[u8]) -> Option<Cause>
@@ -217,7 +227,9 @@ fn place_of_other(lines: &[u32], words: u32, last: u32) -> Option<usize>
     ensures place { result ≡ position (is_other_line lines.now words last) lines.now }
     ensures within { IfSome result (λ k. k < length lines.now) }
 {
-    lines.iter().position(|line| is_other_line(lines, words, last, *line))
+    lines
+        .iter()
+        .position(|line| is_other_line(lines, words, last, *line))
 }
 
 // The first line, up to the last one, which has not so many words. The cost grows with the words, and with the words up
@@ -320,11 +332,17 @@ fn read_counts<'a>(alloc: Global, cursor: &mut Cursor<'a>) -> Result<Counts, Fai
     ensures { GivesUnless (λ counts. counts) (counts_at cursor.old) result }
 {
     skip_shifts(alloc, cursor)?;
-    cursor.bounds(Place::LeastOff, Place::GreatestOff).map_err(Fail::Refused)?;
-    cursor.bounds(Place::LeastWork, Place::GreatestWork).map_err(Fail::Refused)?;
+    cursor
+        .bounds(Place::LeastOff, Place::GreatestOff)
+        .map_err(Fail::Refused)?;
+    cursor
+        .bounds(Place::LeastWork, Place::GreatestWork)
+        .map_err(Fail::Refused)?;
     let word = cursor.next(Place::Pairs).map_err(Fail::Refused)?;
     let pairs = word.limited(Place::Pairs, PAIRS).map_err(Fail::Refused)?;
-    let triples = cursor.number(Place::Triples, TRIPLES).map_err(Fail::Refused)?;
+    let triples = cursor
+        .number(Place::Triples, TRIPLES)
+        .map_err(Fail::Refused)?;
     Ok(Counts {
         line: word.line(),
         pairs,
@@ -353,20 +371,27 @@ fn size_cause(word: &[u8]) -> Option<Cause>
     }
 }
 
-// What is usual at a place where a word should be a number.
-fn usual_cause(awaited: Place, word: &[u8]) -> Option<Cause>
-    ensures { result ≡ usual_cause awaited word.now }
+// What is usual at a place where a word should be a number, or what the lines before a word show that should be a
+// demand.
+fn own_cause(
+    alloc: Global,
+    cursor: &mut Cursor,
+    awaited: Place,
+    word: &Lexeme,
+) -> Result<Option<Cause>, AllocError>
+    ensures { IfOk result (λ cause. cause ≡ own_cause cursor.old awaited word.now) }
 {
     match awaited {
-        Place::Days | Place::Weeks | Place::Shifts => size_cause(word),
-        Place::Start(_) => cause_if(!has_digit(word), Cause::TwoWordName),
+        Place::Demand(shift, day) => rows_cause(alloc, cursor, shift, day, word),
+        Place::Days | Place::Weeks | Place::Shifts => Ok(size_cause(word.text())),
+        Place::Start(_) => Ok(cause_if(!has_digit(word.text()), Cause::TwoWordName)),
         Place::LeastOff
         | Place::GreatestOff
         | Place::LeastWork
         | Place::GreatestWork
         | Place::Pairs
-        | Place::Triples => Some(Cause::FrameNumbers),
-        _ => None,
+        | Place::Triples => Ok(Some(Cause::FrameNumbers)),
+        _ => Ok(None),
     }
 }
 
@@ -379,14 +404,9 @@ fn place_cause(
 ) -> Result<Option<Cause>, AllocError>
     ensures { IfOk result (λ cause. cause ≡ place_cause cursor.old awaited word.now) }
 {
-    let point = point_cause(word.text());
-    match awaited {
-        Place::Demand(shift, day) => {
-            let rows = rows_cause(alloc, cursor, shift, day, word)?;
-            Ok(or_cause(range_cause(word.text()), or_cause(point, rows)))
-        }
-        awaited => Ok(or_cause(point, usual_cause(awaited, word.text()))),
-    }
+    let own = own_cause(alloc, cursor, awaited, word)?;
+    let point = or_cause(point_cause(word.text()), own);
+    Ok(or_cause(range_cause(awaited, word.text()), point))
 }
 
 // What is likely where the text ends too early.

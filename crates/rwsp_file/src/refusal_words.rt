@@ -1,8 +1,9 @@
 // The words in which a refusal is explained.
-ghost use Rattle.std.specs.Prelude.{◌≡◌, ◌<◌, ◌++◌, [], OnOk};
+ghost use Rattle.std.specs.Prelude.{◌≡◌, ◌<◌, ◌++◌, [], OnOk, codes};
 ghost use Rattle.std.specs.Fmt.{decimal};
 ghost use Rattle.rwsp_file.specs.declared.misfit.Place.TheVariants.{Weeks};
 ghost use Rattle.rwsp_file.specs.declared.misfit.Fault.TheVariants.{TooManyDays, WordCount};
+ghost use Rattle.rwsp_file.specs.declared.misfit.Misfit.TheVariants.{TextEnds};
 ghost use Rattle.rwsp_file.specs.declared.likely.Cause.TheVariants.{Clock, OtherLength, MissingRow, Announced};
 ghost use Rattle.rwsp_file.specs.RefusalWords.{is_visible_byte, hex_digit, byte_text, shown_word, place_text, limit_text, reason_text, fault_text, misfit_text, cause_text, cause_line, word_found};
 
@@ -151,7 +152,19 @@ fn put_word_count(out: &mut Vec<u8>, awaited: Place, words: usize) -> Result<(),
 {
     put_place(out, awaited)?;
     out.extend_from_slice(b" has five or six words, not ")?;
-    put_number(out, words as u64)
+    put_number(out, words as u64)?;
+    Ok(())
+}
+
+// What was awaited, and what is wrong with the word that is there.
+fn put_awaited(out: &mut Vec<u8>, awaited: Place, fault: Fault) -> Result<(), AllocError>
+    ensures { OnOk result (out.new.items
+        ≡ out.old.items ++ (place_text awaited ++ codes " was awaited" ++ reason_text fault)) }
+{
+    put_place(out, awaited)?;
+    out.extend_from_slice(b" was awaited")?;
+    put_reason(out, fault)?;
+    Ok(())
 }
 
 fn put_fault(out: &mut Vec<u8>, awaited: Place, fault: Fault) -> Result<(), AllocError>
@@ -164,12 +177,32 @@ fn put_fault(out: &mut Vec<u8>, awaited: Place, fault: Fault) -> Result<(), Allo
         }
         Fault::TooManyDays(weeks, days) => put_too_many_days(out, weeks, days),
         Fault::WordCount(words) => put_word_count(out, awaited, words),
-        fault => {
-            put_place(out, awaited)?;
-            out.extend_from_slice(b" was awaited")?;
-            put_reason(out, fault)
-        }
+        Fault::NoNumber
+        | Fault::LongName
+        | Fault::OffName
+        | Fault::TakenName(_)
+        | Fault::NoSymbol
+        | Fault::NotEnd => put_awaited(out, awaited, fault),
     }
+}
+
+// That the text ends on the line.
+fn put_end_line(out: &mut Vec<u8>, line: u32) -> Result<(), AllocError>
+    ensures { OnOk result (out.new.items
+        ≡ out.old.items ++ (codes "line " ++ decimal line ++ codes ": the text ends, but ")) }
+{
+    put_numbered(out, "line ", line)?;
+    out.extend_from_slice(b": the text ends, but ")
+}
+
+// That the text ends on the line, and what was awaited.
+fn put_ends(out: &mut Vec<u8>, awaited: Place, line: u32) -> Result<(), AllocError>
+    ensures { OnOk result (out.new.items ≡ out.old.items ++ misfit_text (TextEnds awaited line)) }
+{
+    put_end_line(out, line)?;
+    put_place(out, awaited)?;
+    out.extend_from_slice(b" was awaited")?;
+    Ok(())
 }
 
 /// Appends the line, the word that was found, and what was awaited.
@@ -177,12 +210,7 @@ pub fn put_misfit(out: &mut Vec<u8>, misfit: &Misfit) -> Result<(), AllocError>
     ensures { OnOk result (out.new.items ≡ out.old.items ++ misfit_text misfit.now) }
 {
     match misfit {
-        Misfit::TextEnds(awaited, line) => {
-            put_numbered(out, "line ", *line)?;
-            out.extend_from_slice(b": the text ends, but ")?;
-            put_place(out, *awaited)?;
-            out.extend_from_slice(b" was awaited")
-        }
+        Misfit::TextEnds(awaited, line) => put_ends(out, *awaited, *line),
         Misfit::BadWord(awaited, word, fault) => {
             put_numbered(out, "line ", word.line())?;
             out.extend_from_slice(b": ")?;
@@ -197,19 +225,14 @@ pub fn put_misfit(out: &mut Vec<u8>, misfit: &Misfit) -> Result<(), AllocError>
 fn put_counts(out: &mut Vec<u8>, counts: Counts) -> Result<(), AllocError>
     ensures { OnOk result (out.new.items ≡ out.old.items ++ cause_text [] (Announced counts)) }
 {
-    put_numbered(out, "line ", counts.line)?;
-    put_numbered(out, " announces ", counts.pairs)?;
+    put_two_numbered(out, "line ", counts.line, " announces ", counts.pairs)?;
     put_numbered(out, " forbidden pairs and ", counts.triples)?;
-    out.extend_from_slice(b" forbidden triples")
+    out.extend_from_slice(b" forbidden triples")?;
+    Ok(())
 }
 
 // A line of another number of words than there are days.
-fn put_other_length(
-    out: &mut Vec<u8>,
-    line: u32,
-    words: usize,
-    days: u32,
-) -> Result<(), AllocError>
+fn put_other_length(out: &mut Vec<u8>, line: u32, words: usize, days: u32) -> Result<(), AllocError>
     ensures { OnOk result (out.new.items ≡ out.old.items ++ cause_text [] (OtherLength line words days)) }
 {
     put_numbered(out, "line ", line)?;
@@ -225,7 +248,8 @@ fn put_clock(out: &mut Vec<u8>, word: &[u8], minutes: u32) -> Result<(), AllocEr
 {
     out.extend_from_slice(b"times are minutes from midnight: ")?;
     put_word(out, word)?;
-    put_numbered(out, " is ", minutes)
+    put_numbered(out, " is ", minutes)?;
+    Ok(())
 }
 
 // For how many of the shifts demands are there.

@@ -7,8 +7,8 @@ use Rattle.rwsp_file.proofs.fields.read_demand.Goals as goal
 pub returns-in_err-row : goal.returns-in_err-row
 returns-in_err-row c =
     let same : c.from_residual.result ≡ Err c.in_err-row.field-0.0 = passed_on _ _ c.from_residual.ensures.1 in
-    rw same (loop_fails (λ row. row) (λ (v : Vec DemandRow Global). v.items) (each (demand_row_at c.args.size.days)) _ _ _ _ _ _ _ _ c.loop-shift.invariant.0 (omega arith)
-    (each_fails (λ row. row) (demand_row_at c.args.size.days) c.loop-shift.shift c.loop-shift.rows.items c.loop-shift.cursor _ _ c.loop-shift.invariant.1 c.in_err-row.ensures))
+    rw same (loop_fails (λ row. row) (λ (v : Vec DemandRow Global). v.items) (each (demand_row_at c.args.size.days)) _ _ _ _ _ c.read_demand_row.new.cursor _ _ c.loop-shift.invariant.0 (omega arith)
+    (each_fails (λ row. row) (demand_row_at c.args.size.days) c.loop-shift.shift c.loop-shift.rows.items c.loop-shift.cursor c.read_demand_row.new.cursor (Err c.in_err-row.field-0.0) c.loop-shift.invariant.1 c.in_err-row.ensures))
 
 pub loop-shift-init : goal.loop-shift-init
 loop-shift-init c = (

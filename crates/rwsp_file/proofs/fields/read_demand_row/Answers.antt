@@ -14,8 +14,8 @@ pub returns-in_err-range : goal.returns-in_err-range
 returns-in_err-range c =
     let same : c.from_residual.result ≡ Err c.in_err-range.field-0.0 = passed_on _ _ c.from_residual.ensures.1 in
     let fails : ReadsUnless {X = Bounds} {Y = Bounds} (λ x. x) (of_day c.args.shift (c.loop-day.day + 1) c.loop-day.cursor) (Err c.in_err-range.field-0.0) c.read_demand_of_day.new.cursor = read_fails _ c.read_demand_of_day.result c.map_err.result _ _ c.in_err-range.was c.map_err.ensures.cases c.read_demand_of_day.ensures in
-    rw same (loop_fails (λ x. x) (λ (row : List Bounds). row) (each (of_day c.args.shift)) _ _ _ _ _ _ _ _ c.loop-day.invariant.0 (omega arith)
-    (each_fails (λ x. x) (of_day c.args.shift) c.loop-day.day c.loop-day.ranges.items c.loop-day.cursor _ _ c.loop-day.invariant.1 fails))
+    rw same (loop_fails (λ x. x) (λ (row : List Bounds). row) (each (of_day c.args.shift)) _ _ _ _ _ c.read_demand_of_day.new.cursor _ _ c.loop-day.invariant.0 (omega arith)
+    (each_fails (λ x. x) (of_day c.args.shift) c.loop-day.day c.loop-day.ranges.items c.loop-day.cursor c.read_demand_of_day.new.cursor (Err c.in_err-range.field-0.0) c.loop-day.invariant.1 fails))
 
 pub loop-day-init : goal.loop-day-init
 loop-day-init c = (

@@ -10,8 +10,8 @@ pub returns-in_err-number : goal.returns-in_err-number
 returns-in_err-number c =
     let same : c.from_residual.result ≡ Err c.in_err-number.field-0.0 = passed_on _ _ c.from_residual.ensures.1 in
     let fails : ReadsUnless {X = Option LongNumber} {Y = Option LongNumber} (λ x. x) (long_number_at (c.loop-i.i + 1) c.loop-i.cursor) (Err c.in_err-number.field-0.0) c.read_long_number.new.cursor = read_fails _ c.read_long_number.result c.map_err.result _ _ c.in_err-number.was c.map_err.ensures.cases c.read_long_number.ensures in
-    rw same (loop_fails (λ x. x) (λ (v : Vec (Option LongNumber) Global). v.items) (each long_number_at) _ _ _ _ _ _ _ _ c.loop-i.invariant.0 (omega arith)
-    (each_fails (λ x. x) long_number_at c.loop-i.i c.loop-i.lines.items c.loop-i.cursor _ _ c.loop-i.invariant.1 fails))
+    rw same (loop_fails (λ x. x) (λ (v : Vec (Option LongNumber) Global). v.items) (each long_number_at) _ _ _ _ _ c.read_long_number.new.cursor _ _ c.loop-i.invariant.0 (omega arith)
+    (each_fails (λ x. x) long_number_at c.loop-i.i c.loop-i.lines.items c.loop-i.cursor c.read_long_number.new.cursor (Err c.in_err-number.field-0.0) c.loop-i.invariant.1 fails))
 
 pub loop-i-init : goal.loop-i-init
 loop-i-init c = (

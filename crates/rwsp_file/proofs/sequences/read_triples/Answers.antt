@@ -9,8 +9,8 @@ pub returns-in_err-triple : goal.returns-in_err-triple
 returns-in_err-triple c =
     let same : c.from_residual.result ≡ Err c.in_err-triple.field-0.0 = passed_on _ _ c.from_residual.ensures.1 in
     let fails : ReadsUnless {X = Symbol × Symbol × Symbol} {Y = Symbol × Symbol × Symbol} (λ x. x) (triple_at c.args.shifts.now (c.loop-i.i + 1) c.loop-i.cursor) (Err c.in_err-triple.field-0.0) c.read_triple.new.cursor = read_fails _ c.read_triple.result c.map_err.result _ _ c.in_err-triple.was c.map_err.ensures.cases c.read_triple.ensures in
-    rw same (loop_fails (λ x. x) (λ (v : Vec (Symbol × Symbol × Symbol) Global). v.items) (each (triple_at c.args.shifts.now)) _ _ _ _ _ _ _ _ c.loop-i.invariant.0 (omega arith)
-    (each_fails (λ x. x) (triple_at c.args.shifts.now) c.loop-i.i c.loop-i.triples.items c.loop-i.cursor _ _ c.loop-i.invariant.1 fails))
+    rw same (loop_fails (λ x. x) (λ (v : Vec (Symbol × Symbol × Symbol) Global). v.items) (each (triple_at c.args.shifts.now)) _ _ _ _ _ c.read_triple.new.cursor _ _ c.loop-i.invariant.0 (omega arith)
+    (each_fails (λ x. x) (triple_at c.args.shifts.now) c.loop-i.i c.loop-i.triples.items c.loop-i.cursor c.read_triple.new.cursor (Err c.in_err-triple.field-0.0) c.loop-i.invariant.1 fails))
 
 pub loop-i-init : goal.loop-i-init
 loop-i-init c = (
