@@ -20,13 +20,13 @@ use Rattle.plain_words.specs.Laws.{says_rule, RulesAreSaidOnce, CountedAreLeaves
 use Rattle.plain_words.proofs.Misfits.{misfits_are_leaves}
 
 -- a sentence that says neither a rule nor what is counted
-is_other : Sentence → Bool
+abbrev is_other : Sentence → Bool
 is_other (OfRule n) = false
 is_other (Counted x) = false
 is_other s = true
 
 -- a test that no such sentence passes
-Skips : (Sentence → Bool) → Type 0
+abbrev Skips : (Sentence → Bool) → Type 0
 Skips q = (s : Sentence) → is_other s ≡ true → q s ≡ false
 
 abbrev says_counted : Sentence → Bool
@@ -166,11 +166,11 @@ later q x xs false here none more =
     more (sym front ∙ none)
 
 not_there : (q : Sentence → Bool) (xs : List Sentence) (s : Sentence) (k : ℕ) → k < length xs → slice_index_or xs k s ≡ s → q s ≡ true → filter q xs ≡ [] → ⊥
-not_there q [] s k less is yes none = absurd (omega (arith, less))
-not_there q (x ∷ xs) s zero less is yes none =
-    let front : filter q (x ∷ xs) ≡ x ∷ filter q xs = ap (λ t. cond t (x ∷ filter q xs) (filter q xs)) (ap q is ∙ yes) in
+not_there q [] s k less is here none = absurd (omega (arith, less))
+not_there q (x ∷ xs) s zero less is here none =
+    let front : filter q (x ∷ xs) ≡ x ∷ filter q xs = ap (λ t. cond t (x ∷ filter q xs) (filter q xs)) (ap q is ∙ here) in
     absurd (let e : x ∷ filter q xs ≡ [] = sym front ∙ none in cc)
-not_there q (x ∷ xs) s (suc k) less is yes none = later q x xs (q x) refl none (λ none. not_there q xs s k (omega (arith, less)) is yes none)
+not_there q (x ∷ xs) s (suc k) less is here none = later q x xs (q x) refl none (λ none. not_there q xs s k (omega (arith, less)) is here none)
 
 -- a piece that has something
 record InPiece (f : ℕ → List Sentence) (a n : ℕ) (s : Sentence) : Type 0 where
@@ -201,7 +201,7 @@ in_whole f a (suc n) (suc i) s less h =
     Contains-append_right (f a) (flat_map f (range_with_len (a + 1) n)) s (in_whole f (a + 1) n i s (omega (arith, less)) (subst (λ k. Contains (f k) s) e h))
 
 -- the symbol that is counted
-counted_of : Sentence → Symbol
+abbrev counted_of : Sentence → Symbol
 counted_of (Counted x) = x
 counted_of s = off_symbol
 
