@@ -1,6 +1,6 @@
 // Why something is refused, and short answers.
 ghost use Rattle.std.specs.Prelude.{◌≡◌, ◌++◌, OnOk};
-ghost use Rattle.plain_words.specs.Causes.{cause_words, short_words, count_words, line_words, log_cause, roster_cause, staff_cause, file_cause};
+ghost use Rattle.plain_words.specs.Causes.{cause_words, short_words, count_front, count_behind, count_words, line_words, log_cause, roster_cause, staff_cause, file_cause};
 
 use rwsp_text::put_number;
 use std::alloc::AllocError;
@@ -94,42 +94,44 @@ pub(crate) fn put_short(out: &mut Vec<u8>, short: Short) -> Result<(), AllocErro
     }
 }
 
+// Appends what an answer with one number says in front of it.
+#[tactic(auto, unfolding(crate::specs::Causes::count_front))]
+fn put_front(out: &mut Vec<u8>, count: Count) -> Result<(), AllocError>
+    ensures { OnOk result (out.new.items ≡ out.old.items ++ count_front count) }
+{
+    match count {
+        Count::RosterWeeks => out.extend_from_slice(b"the roster has "),
+        Count::NoEmployee => out.extend_from_slice(b"there is no employee "),
+        Count::NotWeekly => out.extend_from_slice(b"the command is for weeks of seven days, and these have "),
+        Count::StaffRange => out.extend_from_slice(b"with "),
+        Count::RestPairs => out.extend_from_slice(b"the rest would forbid "),
+        Count::RestTriples => out.extend_from_slice(b"the rest would forbid "),
+    }
+}
+
+// Appends what it says behind the number.
+#[tactic(auto, unfolding(crate::specs::Causes::count_behind))]
+fn put_behind(out: &mut Vec<u8>, count: Count) -> Result<(), AllocError>
+    ensures { OnOk result (out.new.items ≡ out.old.items ++ count_behind count) }
+{
+    match count {
+        Count::RosterWeeks => out.extend_from_slice(b" weeks, and the problem another number"),
+        Count::NoEmployee => out.extend_from_slice(b": the problem has fewer weeks"),
+        Count::NotWeekly => Ok(()),
+        Count::StaffRange => out.extend_from_slice(b" weeks there are too many days to plan"),
+        Count::RestPairs => out.extend_from_slice(b" pairs, and at most 64 may be forbidden"),
+        Count::RestTriples => out.extend_from_slice(b" triples, and at most 64 may be forbidden"),
+    }
+}
+
 /// Appends an answer with one number.
 #[tactic(auto, unfolding(crate::specs::Causes::count_words))]
 pub(crate) fn put_count(out: &mut Vec<u8>, count: Count, number: u32) -> Result<(), AllocError>
     ensures { OnOk result (out.new.items ≡ out.old.items ++ count_words count number) }
 {
-    match count {
-        Count::RosterWeeks => {
-            out.extend_from_slice(b"the roster has ")?;
-            put_number(out, u64::from(number))?;
-            out.extend_from_slice(b" weeks, and the problem another number")
-        }
-        Count::NoEmployee => {
-            out.extend_from_slice(b"there is no employee ")?;
-            put_number(out, u64::from(number))?;
-            out.extend_from_slice(b": the problem has fewer weeks")
-        }
-        Count::NotWeekly => {
-            out.extend_from_slice(b"the command is for weeks of seven days, and these have ")?;
-            put_number(out, u64::from(number))
-        }
-        Count::StaffRange => {
-            out.extend_from_slice(b"with ")?;
-            put_number(out, u64::from(number))?;
-            out.extend_from_slice(b" weeks there are too many days to plan")
-        }
-        Count::RestPairs => {
-            out.extend_from_slice(b"the rest would forbid ")?;
-            put_number(out, u64::from(number))?;
-            out.extend_from_slice(b" pairs, and at most 64 may be forbidden")
-        }
-        Count::RestTriples => {
-            out.extend_from_slice(b"the rest would forbid ")?;
-            put_number(out, u64::from(number))?;
-            out.extend_from_slice(b" triples, and at most 64 may be forbidden")
-        }
-    }
+    put_front(out, count)?;
+    put_number(out, u64::from(number))?;
+    put_behind(out, count)
 }
 
 /// Appends the number of a line and why it is refused.
