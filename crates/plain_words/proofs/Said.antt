@@ -24,13 +24,15 @@ lines_behind P xs ys old mid new first second = behind (sentence_line P) xs ys o
 -- lines of five lists, one behind another
 pub five_parts : (P : Instance) (a b c d e : List Sentence) (old o1 o2 o3 o4 new : List ℕ) → o1 ≡ old ++ lines P a → o2 ≡ o1 ++ lines P b → o3 ≡ o2 ++ lines P c → o4 ≡ o3 ++ lines P d → new ≡ o4 ++ lines P e → new ≡ old ++ lines P (a ++ b ++ c ++ d ++ e)
 five_parts P a b c d e old o1 o2 o3 o4 new h1 h2 h3 h4 h5 =
-    lines_behind P a (b ++ c ++ d ++ e) old o1 new h1
-    (lines_behind P b (c ++ d ++ e) o1 o2 new h2 (lines_behind P c (d ++ e) o2 o3 new h3 (lines_behind P d e o3 o4 new h4 h5)))
+    let two = lines_behind P a b old o1 o2 h1 h2 in
+    let three = lines_behind P (a ++ b) c old o2 o3 two h3 in
+    let four = lines_behind P (a ++ b ++ c) d old o3 o4 three h4 in
+    lines_behind P (a ++ b ++ c ++ d) e old o4 new four h5
 
 -- and of six
 pub six_parts : (P : Instance) (a b c d e f : List Sentence) (old o1 o2 o3 o4 o5 new : List ℕ) → o1 ≡ old ++ lines P a → o2 ≡ o1 ++ lines P b → o3 ≡ o2 ++ lines P c → o4 ≡ o3 ++ lines P d → o5 ≡ o4 ++ lines P e → new ≡ o5 ++ lines P f → new ≡ old ++ lines P (a ++ b ++ c ++ d ++ e ++ f)
 six_parts P a b c d e f old o1 o2 o3 o4 o5 new h1 h2 h3 h4 h5 h6 =
-    lines_behind P a (b ++ c ++ d ++ e ++ f) old o1 new h1 (five_parts P b c d e f o1 o2 o3 o4 o5 new h2 h3 h4 h5 h6)
+    lines_behind P (a ++ b ++ c ++ d ++ e) f old o5 new (five_parts P a b c d e old o1 o2 o3 o4 o5 h1 h2 h3 h4 h5) h6
 
 -- two lines
 pub two_lines : (P : Instance) (s t : Sentence) (old mid new : List ℕ) → mid ≡ old ++ sentence_line P s → new ≡ mid ++ sentence_line P t → new ≡ old ++ lines P (s ∷ t ∷ [])

@@ -20,13 +20,13 @@ use Rattle.plain_words.specs.Laws.{says_rule, RulesAreSaidOnce, CountedAreLeaves
 use Rattle.plain_words.proofs.Misfits.{misfits_are_leaves}
 
 -- a sentence that says neither a rule nor what is counted
-is_other : Sentence → Bool
+abbrev is_other : Sentence → Bool
 is_other (OfRule n) = false
 is_other (Counted x) = false
 is_other s = true
 
 -- a test that no such sentence passes
-Skips : (Sentence → Bool) → Type 0
+abbrev Skips : (Sentence → Bool) → Type 0
 Skips q = (s : Sentence) → is_other s ≡ true → q s ≡ false
 
 abbrev says_counted : Sentence → Bool
@@ -85,12 +85,15 @@ slips_none q skips P =
     let d = flat_map (pair_slips_at P) (range_with_len 0 (length P.pairs)) in
     let e = flat_map (triple_slips_at P) (range_with_len 0 (length P.triples)) in
     let f = flat_map (day_slips P) (range_with_len 1 P.days) in
-    both_none q a (b ++ c ++ d ++ e ++ f) (pieces_none q (shift_slips P) 1 (shift_count P) (shift_none q skips P))
-    (both_none q b (c ++ d ++ e ++ f) (crossed_none q skips P Classes.Off)
-    (both_none q c (d ++ e ++ f) (crossed_none q skips P Classes.Work)
-    (both_none q d (e ++ f) (pieces_none q (pair_slips_at P) 0 (length P.pairs) (λ k. pair_none q skips P k (slice_get P.pairs k)))
-    (both_none q e f (pieces_none q (triple_slips_at P) 0 (length P.triples) (λ k. triple_none q skips P k (slice_get P.triples k)))
-    (pieces_none q (day_slips P) 1 P.days (day_none q skips P))))))
+    let first = pieces_none q (shift_slips P) 1 (shift_count P) (shift_none q skips P) in
+    let pairs = pieces_none q (pair_slips_at P) 0 (length P.pairs) (λ k. pair_none q skips P k (slice_get P.pairs k)) in
+    let triples = pieces_none q (triple_slips_at P) 0 (length P.triples) (λ k. triple_none q skips P k (slice_get P.triples k)) in
+    let days = pieces_none q (day_slips P) 1 P.days (day_none q skips P) in
+    let two = both_none q a b first (crossed_none q skips P Classes.Off) in
+    let three = both_none q (a ++ b) c two (crossed_none q skips P Classes.Work) in
+    let four = both_none q (a ++ b ++ c) d three pairs in
+    let five = both_none q (a ++ b ++ c ++ d) e four triples in
+    both_none q (a ++ b ++ c ++ d ++ e) f five days
 
 -- Rules.
 
@@ -120,13 +123,18 @@ all_counted_no_rule P =
     both_none says_rule (flat_map (λ x. counted_if P (symbol_numbered x)) (range_with_len 1 (shift_count P))) (counted_if P off_symbol)
     (pieces_none says_rule (λ x. counted_if P (symbol_numbered x)) 1 (shift_count P) (λ k. counted_no_rule P (symbol_numbered k))) (counted_no_rule P off_symbol)
 
+none_behind : (q : Sentence → Bool) (xs ys : List Sentence) → filter q ys ≡ [] → filter q (xs ++ ys) ≡ filter q xs
+none_behind q xs ys none = filter-append q xs ys ∙ ap (λ l. filter q xs ++ l) none ∙ append-nil (filter q xs)
+
 pub rules_are_said_once : RulesAreSaidOnce
 rules_are_said_once P names =
     let front = Size ∷ Hours ∷ [] in
     let said = rule_sentences P in
-    let rest = slips P ++ map NumericName names ++ counted P in
-    let none : filter says_rule rest ≡ [] = both_none says_rule (slips P) (map NumericName names ++ counted P) (slips_none says_rule rule_skips P) (both_none says_rule (map NumericName names) (counted P) (names_none says_rule rule_skips names) (all_counted_no_rule P)) in
-    filter-append says_rule front (said ++ rest) ∙ filter-append says_rule said rest ∙ ap (λ l. filter says_rule said ++ l) none ∙ append-nil (filter says_rule said) ∙ rules_kept 1 (length (rules P))
+    let named = map NumericName names in
+    none_behind says_rule (front ++ said ++ slips P ++ named) (counted P) (all_counted_no_rule P)
+    ∙ none_behind says_rule (front ++ said ++ slips P) named (names_none says_rule rule_skips names)
+    ∙ none_behind says_rule (front ++ said) (slips P) (slips_none says_rule rule_skips P)
+    ∙ filter-append says_rule front said ∙ rules_kept 1 (length (rules P))
 
 -- Counting.
 
@@ -158,11 +166,11 @@ later q x xs false here none more =
     more (sym front ∙ none)
 
 not_there : (q : Sentence → Bool) (xs : List Sentence) (s : Sentence) (k : ℕ) → k < length xs → slice_index_or xs k s ≡ s → q s ≡ true → filter q xs ≡ [] → ⊥
-not_there q [] s k less is yes none = absurd (omega (arith, less))
-not_there q (x ∷ xs) s zero less is yes none =
-    let front : filter q (x ∷ xs) ≡ x ∷ filter q xs = ap (λ t. cond t (x ∷ filter q xs) (filter q xs)) (ap q is ∙ yes) in
+not_there q [] s k less is here none = absurd (omega (arith, less))
+not_there q (x ∷ xs) s zero less is here none =
+    let front : filter q (x ∷ xs) ≡ x ∷ filter q xs = ap (λ t. cond t (x ∷ filter q xs) (filter q xs)) (ap q is ∙ here) in
     absurd (let e : x ∷ filter q xs ≡ [] = sym front ∙ none in cc)
-not_there q (x ∷ xs) s (suc k) less is yes none = later q x xs (q x) refl none (λ none. not_there q xs s k (omega (arith, less)) is yes none)
+not_there q (x ∷ xs) s (suc k) less is here none = later q x xs (q x) refl none (λ none. not_there q xs s k (omega (arith, less)) is here none)
 
 -- a piece that has something
 record InPiece (f : ℕ → List Sentence) (a n : ℕ) (s : Sentence) : Type 0 where
@@ -193,7 +201,7 @@ in_whole f a (suc n) (suc i) s less h =
     Contains-append_right (f a) (flat_map f (range_with_len (a + 1) n)) s (in_whole f (a + 1) n i s (omega (arith, less)) (subst (λ k. Contains (f k) s) e h))
 
 -- the symbol that is counted
-counted_of : Sentence → Symbol
+abbrev counted_of : Sentence → Symbol
 counted_of (Counted x) = x
 counted_of s = off_symbol
 
@@ -233,29 +241,25 @@ hold_counted P (suc k) known hold =
 not_in : (xs : List Sentence) (x : Symbol) → filter says_counted xs ≡ [] → Contains xs (Counted x) → ⊥
 not_in xs x none h = not_there says_counted xs (Counted x) h.0 h.1 h.2 refl none
 
+-- no sentence but those that are counted
+others_none : (P : Instance) (names : List LongNumber) → filter says_counted ((Size ∷ Hours ∷ []) ++ rule_sentences P ++ slips P ++ map NumericName names) ≡ []
+others_none P names =
+    let front = Size ∷ Hours ∷ [] in
+    let said = rule_sentences P in
+    let two = both_none says_counted front said refl (rules_not_counted 1 (length (rules P))) in
+    let three = both_none says_counted (front ++ said) (slips P) two (slips_none says_counted counted_skips P) in
+    both_none says_counted (front ++ said ++ slips P) (map NumericName names) three (names_none says_counted counted_skips names)
+
 only_counted : (P : Instance) (names : List LongNumber) (x : Symbol) → Contains (problem_sentences P names) (Counted x) → Contains (counted P) (Counted x)
 only_counted P names x h =
-    let front = Size ∷ Hours ∷ [] in
-    let named = map NumericName names in
-    elim (Contains-append_cases front (rule_sentences P ++ slips P ++ named ++ counted P) (Counted x) h) [
-      | inl here ↦ absurd (not_in front x refl here)
-      | inr more ↦ elim (Contains-append_cases (rule_sentences P) (slips P ++ named ++ counted P) (Counted x) more) [
-        | inl here ↦ absurd (not_in (rule_sentences P) x (rules_not_counted 1 (length (rules P))) here)
-        | inr more ↦ elim (Contains-append_cases (slips P) (named ++ counted P) (Counted x) more) [
-          | inl here ↦ absurd (not_in (slips P) x (slips_none says_counted counted_skips P) here)
-          | inr more ↦ elim (Contains-append_cases named (counted P) (Counted x) more) [
-            | inl here ↦ absurd (not_in named x (names_none says_counted counted_skips names) here)
-            | inr last ↦ last
-          ]
-        ]
-      ]
+    let others = (Size ∷ Hours ∷ []) ++ rule_sentences P ++ slips P ++ map NumericName names in
+    elim (Contains-append_cases others (counted P) (Counted x) h) [
+      | inl here ↦ absurd (not_in others x (others_none P names) here)
+      | inr last ↦ last
     ]
 
 counted_in : (P : Instance) (names : List LongNumber) (s : Sentence) → Contains (counted P) s → Contains (problem_sentences P names) s
-counted_in P names s h =
-    let named = map NumericName names in
-    Contains-append_right (Size ∷ Hours ∷ []) (rule_sentences P ++ slips P ++ named ++ counted P) s
-    (Contains-append_right (rule_sentences P) (slips P ++ named ++ counted P) s (Contains-append_right (slips P) (named ++ counted P) s (Contains-append_right named (counted P) s h)))
+counted_in P names s h = Contains-append_right ((Size ∷ Hours ∷ []) ++ rule_sentences P ++ slips P ++ map NumericName names) (counted P) s h
 
 pub counted_are_leaves : CountedAreLeaves
 counted_are_leaves P names x known = (

@@ -8,4 +8,4 @@ use Rattle.plain_words.proofs.span.put_crossed_front.Goals as goal
 pub returns : goal.returns
 unfolding crossed_front
 returns c =
-    piece_then c.args.out.now.items c.extend_from_slice.new.self.items c.extend_from_slice-2.new.self.items (codes "at least ") (decimal c.args.least ++ codes " and at most ") c.in_ok-extend_from_slice.ensures.items (piece_then c.extend_from_slice.new.self.items c.put_number.new.out.items c.extend_from_slice-2.new.self.items (decimal c.args.least) (codes " and at most ") (c.in_ok-put_number.ensures.ok ∙ ap (λ n. c.extend_from_slice.new.self.items ++ decimal n) c.from.ensures) c.in_ok-extend_from_slice-2.ensures.items)
+    piece_then c.args.out.now.items c.put_number.new.out.items c.extend_from_slice-2.new.self.items (codes "at least " ++ decimal c.args.least) (codes " and at most ") (piece_then c.args.out.now.items c.extend_from_slice.new.self.items c.put_number.new.out.items (codes "at least ") (decimal c.args.least) c.in_ok-extend_from_slice.ensures.items (c.in_ok-put_number.ensures.ok ∙ ap (λ n. c.extend_from_slice.new.self.items ++ decimal n) c.from.ensures)) c.in_ok-extend_from_slice-2.ensures.items
