@@ -1,5 +1,5 @@
 -- What is read of the files of `explain` makes its answer.
-use Rattle.std.proofs.Common.{◌≡◌, ℕ, List, Some, None, Option, refl, subst, sym, inl, inr}
+use Rattle.std.proofs.Common.{◌≡◌, ℕ, List, Some, None, Option, refl, subst, sym, inr}
 use Rattle.rwsp_io.specs.Told.{Told}
 use Rattle.rwsp_terms.specs.Instance.{Instance}
 use Rattle.rwsp_file.specs.Spelling.{SpellsProblem}

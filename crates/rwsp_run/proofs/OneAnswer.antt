@@ -1,5 +1,5 @@
 -- Two answers over the same files, compared part by part.
-use Rattle.std.proofs.Common.{◌≡◌, ℕ, ◌<◌, ◌≤◌, List, length, Some, None, Option, ap, sym, ◌∙◌, refl, subst, inl, inr, arith}
+use Rattle.std.proofs.Common.{◌≡◌, ℕ, List, Some, None, Option, ap, sym, ◌∙◌, refl, subst, inl, inr}
 use Rattle.std.specs.Prelude.{◌≢◌, ◌⊎◌}
 use Rattle.rwsp_io.specs.Told.{Told, Silent, Bytes}
 use Rattle.rwsp_terms.specs.Instance.{Instance}
@@ -11,14 +11,13 @@ use Rattle.command_line.specs.declared.command.Command.{Command}
 use Rattle.command_line.specs.declared.command.Command.TheVariants as Commands
 use Rattle.command_line.specs.declared.command.Command.TheVariants.{OnProblem, OnFiles, Explain}
 use Rattle.command_line.proofs.OneForm.{one_form}
-use Rattle.commands.specs.Files.{WhereTold, Holds}
-use Rattle.commands.specs.ProblemFile.{IsProblemOf, IsProblemRefusal, IsShortFile, IsLongFile}
+use Rattle.commands.specs.Files.{WhereTold}
+use Rattle.commands.specs.ProblemFile.{IsProblemOf, IsProblemRefusal, IsShortFile}
 use Rattle.commands.specs.Explain.{IsRefusalOf, problem_explanation, IsAnswerExplanation}
 use Rattle.commands.specs.Trial.{IsTrial}
 use Rattle.commands.specs.declared.second_file.SecondKind.{SecondKind}
 use Rattle.commands.specs.declared.second_file.SecondKind.TheVariants.{Log}
 use Rattle.commands.specs.declared.explain.Answer.{Answer as Explanation}
-use Rattle.commands.specs.declared.explain.Answer.TheVariants as Explanations
 use Rattle.commands.specs.declared.problem_file.ProblemRefusal.{ProblemRefusal}
 use Rattle.commands.specs.declared.problem_file.ProblemRefusal.TheVariants as ProblemRefusals
 use Rattle.commands.specs.declared.trial.Answer.{Answer as TrialAnswer}

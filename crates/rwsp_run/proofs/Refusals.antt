@@ -1,5 +1,5 @@
 -- `explain` refuses a problem's file where the reader does.
-use Rattle.std.proofs.Common.{◌≡◌, ℕ, List, Some, None, Option, ap, sym, ◌∙◌, refl, subst}
+use Rattle.std.proofs.Common.{◌≡◌, ℕ, List, Some, None, Option, ap, ◌∙◌, refl, subst}
 use Rattle.std.specs.Prelude.{◌↔◌}
 use Rattle.rwsp_io.specs.Told.{Told, Bytes}
 use Rattle.rwsp_terms.specs.Instance.{Instance}
