@@ -4,4 +4,5 @@ pub mod Clock
 pub mod Hours
 pub mod LeastRest
 pub mod PageText
+pub mod ReadPage
 pub mod Laws
