@@ -14,14 +14,14 @@ use Rattle.rwsp_terms.specs.declared.limits.TheConstants.{DAYS_OF_WEEK}
 use Rattle.rwsp_model.specs.Validity.{KeepsLimits}
 use Rattle.rwsp_model.proofs.Names.{symbol_named}
 use Rattle.roster_print.specs.RosterText.{week_at}
+use Rattle.roster_page.specs.Fixed.{fixed}
 use Rattle.roster_page.specs.Clock.{hours_text}
 use Rattle.roster_page.specs.Escaped.{escaped, unescaped}
 use Rattle.roster_page.specs.Hours.{minutes_in}
-use Rattle.roster_page.specs.PieceText.{piece_text}
 use Rattle.roster_page.specs.PageText.{IsPage, page_text, page_head, page_rest, style_text, weeks_words, day_head, day_heads, weekend_head, roster_head, roster_table, week_rows, week_row, week_top, week_end, hours_cell, weekend_cell, free_text, is_free, cells_text, cell_text, name_text}
 use Rattle.roster_page.specs.ReadPage.{before, behind, parts, Cell, cell_in, Row, row_in, first_body, rows_in, cell_of, row_of, symbols_named, IsReadBack}
 use Rattle.roster_page.specs.Laws.{PagesAreReadBack}
-use Rattle.roster_page.specs.declared.pieces.Piece.TheVariants as Pieces
+use Rattle.roster_page.specs.declared.pieces.TheConstants.{AFTER_STYLE, AFTER_TITLE, BODY_TOP, CELL_END, CELL_TOP, CLASS_END, DAY_HEAD, FREE, HEAD, HEAD_END, HOURS_HEAD, PLAIN_CELL, ROSTER_TOP, ROW_END, TABLE_END, WEEKEND_HEAD, WEEKS_WORD, WEEK_TOP, WEEK_WORD}
 use Rattle.roster_page.proofs.Places.{is_clear, IsClear, clear_both, clear_all, clear_without, before_past, before_to, behind_past, behind_to, parts_past, parts_none, parts_here}
 use Rattle.roster_page.proofs.Signs.{decimal_lacks, hours_lack, escaped_lacks, no_bracket, no_quote}
 use Rattle.roster_page.proofs.ReadBack.{names_are_read_back}
@@ -42,23 +42,23 @@ cell_word = codes "td class=\"c"
 
 -- a word that is in no piece of a row but its first ones
 record FitsRow (word : List ℕ) : Type 0 where
-  head_end : IsClear (60 ∷ word) (piece_text Pieces.HeadEnd)
-  class_end : IsClear (60 ∷ word) (piece_text Pieces.ClassEnd)
-  cell_end : IsClear (60 ∷ word) (piece_text Pieces.CellEnd)
-  plain_cell : IsClear (60 ∷ word) (piece_text Pieces.PlainCell)
-  free : IsClear (60 ∷ word) (piece_text Pieces.Free)
-  row_end : IsClear (60 ∷ word) (piece_text Pieces.RowEnd)
+  head_end : IsClear (60 ∷ word) (fixed HEAD_END.now)
+  class_end : IsClear (60 ∷ word) (fixed CLASS_END.now)
+  cell_end : IsClear (60 ∷ word) (fixed CELL_END.now)
+  plain_cell : IsClear (60 ∷ word) (fixed PLAIN_CELL.now)
+  free : IsClear (60 ∷ word) (fixed FREE.now)
+  row_end : IsClear (60 ∷ word) (fixed ROW_END.now)
 
 end_fits : FitsRow body_end
-unfolding piece_text
+unfolding fixed
 end_fits = record { head_end = refl; class_end = refl; cell_end = refl; plain_cell = refl; free = refl; row_end = refl }
 
 week_fits : FitsRow week_word
-unfolding piece_text
+unfolding fixed
 week_fits = record { head_end = refl; class_end = refl; cell_end = refl; plain_cell = refl; free = refl; row_end = refl }
 
 cell_fits : FitsRow cell_word
-unfolding piece_text
+unfolding fixed
 cell_fits = record { head_end = refl; class_end = refl; cell_end = refl; plain_cell = refl; free = refl; row_end = refl }
 
 -- numbers, hours and names have no tag
@@ -74,7 +74,7 @@ name_clear word P x = clear_without 60 word (escaped (name_of P x)) (escaped_lac
 free_clear : (word : List ℕ) → FitsRow word → (week : List Symbol) → IsClear (60 ∷ word) (free_text week)
 unfolding free_text
 free_clear word fits week =
-    elim (is_free week) as (λ (t : Bool). IsClear (60 ∷ word) (if t then piece_text Pieces.Free else [])) [
+    elim (is_free week) as (λ (t : Bool). IsClear (60 ∷ word) (if t then fixed FREE.now else [])) [
       | true ↦ fits.free
       | false ↦ refl
     ]
@@ -83,18 +83,18 @@ hours_clear : (word : List ℕ) → FitsRow word → (P : Instance) (week : List
 unfolding hours_cell
 hours_clear word fits P week =
     let hours = hours_text (minutes_in P week) in
-    clear_both (60 ∷ word) (piece_text Pieces.PlainCell ++ hours) (piece_text Pieces.CellEnd)
-    (clear_both (60 ∷ word) (piece_text Pieces.PlainCell) hours fits.plain_cell (clear_without 60 word hours (hours_lack (minutes_in P week))))
+    clear_both (60 ∷ word) (fixed PLAIN_CELL.now ++ hours) (fixed CELL_END.now)
+    (clear_both (60 ∷ word) (fixed PLAIN_CELL.now) hours fits.plain_cell (clear_without 60 word hours (hours_lack (minutes_in P week))))
     fits.cell_end
 
 weekend_clear : (word : List ℕ) → FitsRow word → (P : Instance) (week : List Symbol) → IsClear (60 ∷ word) (weekend_cell P week)
 unfolding weekend_cell
 weekend_clear word fits P week =
     let free = free_text week in
-    elim (P.days == DAYS_OF_WEEK) as (λ (t : Bool). IsClear (60 ∷ word) (if t then piece_text Pieces.PlainCell ++ free ++ piece_text Pieces.CellEnd else [])) [
+    elim (P.days == DAYS_OF_WEEK) as (λ (t : Bool). IsClear (60 ∷ word) (if t then fixed PLAIN_CELL.now ++ free ++ fixed CELL_END.now else [])) [
       | true ↦
-          clear_both (60 ∷ word) (piece_text Pieces.PlainCell ++ free) (piece_text Pieces.CellEnd)
-          (clear_both (60 ∷ word) (piece_text Pieces.PlainCell) free fits.plain_cell (free_clear word fits week))
+          clear_both (60 ∷ word) (fixed PLAIN_CELL.now ++ free) (fixed CELL_END.now)
+          (clear_both (60 ∷ word) (fixed PLAIN_CELL.now) free fits.plain_cell (free_clear word fits week))
           fits.cell_end
       | false ↦ refl
     ]
@@ -102,7 +102,7 @@ weekend_clear word fits P week =
 end_clear : (word : List ℕ) → FitsRow word → (P : Instance) (week : List Symbol) → IsClear (60 ∷ word) (week_end P week)
 unfolding week_end
 end_clear word fits P week =
-    clear_both (60 ∷ word) (hours_cell P week ++ weekend_cell P week) (piece_text Pieces.RowEnd)
+    clear_both (60 ∷ word) (hours_cell P week ++ weekend_cell P week) (fixed ROW_END.now)
     (clear_both (60 ∷ word) (hours_cell P week) (weekend_cell P week) (hours_clear word fits P week) (weekend_clear word fits P week))
     fits.row_end
 
@@ -110,18 +110,18 @@ end_clear word fits P week =
 
 -- what is behind the front of a cell
 abbrev in_cell : Instance → Symbol → List ℕ
-in_cell P x = decimal x.number ++ (piece_text Pieces.ClassEnd ++ (name_text P x ++ piece_text Pieces.CellEnd))
+in_cell P x = decimal x.number ++ (fixed CLASS_END.now ++ (name_text P x ++ fixed CELL_END.now))
 
-cell_front : (P : Instance) (x : Symbol) (rest : List ℕ) → cell_text P x ++ rest ≡ piece_text Pieces.CellTop ++ (in_cell P x ++ rest)
+cell_front : (P : Instance) (x : Symbol) (rest : List ℕ) → cell_text P x ++ rest ≡ fixed CELL_TOP.now ++ (in_cell P x ++ rest)
 unfolding cell_text
 cell_front P x rest = simp append_assoc
 
 in_cell_clear : (word : List ℕ) → FitsRow word → (P : Instance) (x : Symbol) → IsClear (60 ∷ word) (in_cell P x)
 in_cell_clear word fits P x =
-    let named = name_text P x ++ piece_text Pieces.CellEnd in
-    clear_both (60 ∷ word) (decimal x.number) (piece_text Pieces.ClassEnd ++ named) (decimal_clear word x.number)
-    (clear_both (60 ∷ word) (piece_text Pieces.ClassEnd) named fits.class_end
-    (clear_both (60 ∷ word) (name_text P x) (piece_text Pieces.CellEnd) (name_clear word P x) fits.cell_end))
+    let named = name_text P x ++ fixed CELL_END.now in
+    clear_both (60 ∷ word) (decimal x.number) (fixed CLASS_END.now ++ named) (decimal_clear word x.number)
+    (clear_both (60 ∷ word) (fixed CLASS_END.now) named fits.class_end
+    (clear_both (60 ∷ word) (name_text P x) (fixed CELL_END.now) (name_clear word P x) fits.cell_end))
 
 abbrev cell : Option ℕ → List ℕ → Cell
 cell number name = record { number = number; name = name }
@@ -131,20 +131,20 @@ abbrev IsSmall : Symbol → Type 0
 IsSmall x = x.number < 10 ^ 9
 
 cell_read : (P : Instance) (x : Symbol) (rest : List ℕ) → IsSmall x → cell_in (in_cell P x ++ rest) ≡ cell_of P x
-unfolding piece_text name_text
+unfolding name_text fixed
 cell_read P x rest small =
-    let behind_number = piece_text Pieces.ClassEnd ++ (name_text P x ++ (piece_text Pieces.CellEnd ++ rest)) in
+    let behind_number = fixed CLASS_END.now ++ (name_text P x ++ (fixed CELL_END.now ++ rest)) in
     let is : in_cell P x ++ rest ≡ decimal x.number ++ behind_number = simp append_assoc in
     let quoteless = clear_without 34 (codes ">") (decimal x.number) (decimal_lacks 34 x.number no_quote) in
     let name = unescaped (before (codes "</td>") (behind (codes "\">") (decimal x.number ++ behind_number))) in
     ap cell_in is
-    ∙ ap (λ n. cell n name) (ap number_of (before_to 34 (codes ">") (decimal x.number) (name_text P x ++ (piece_text Pieces.CellEnd ++ rest)) quoteless) ∙ printed_is_read x.number small)
-    ∙ ap (cell (Some x.number)) (ap (λ t. unescaped (before (codes "</td>") t)) (behind_to 34 (codes ">") (decimal x.number) (name_text P x ++ (piece_text Pieces.CellEnd ++ rest)) quoteless)
+    ∙ ap (λ n. cell n name) (ap number_of (before_to 34 (codes ">") (decimal x.number) (name_text P x ++ (fixed CELL_END.now ++ rest)) quoteless) ∙ printed_is_read x.number small)
+    ∙ ap (cell (Some x.number)) (ap (λ t. unescaped (before (codes "</td>") t)) (behind_to 34 (codes ">") (decimal x.number) (name_text P x ++ (fixed CELL_END.now ++ rest)) quoteless)
     ∙ ap unescaped (before_to 60 (codes "/td>") (name_text P x) rest (name_clear (codes "/td>") P x))
     ∙ names_are_read_back (name_of P x))
 
 cells_read : (P : Instance) (xs : List Symbol) (end : List ℕ) → All IsSmall xs → IsClear (60 ∷ cell_word) end → map cell_in (parts (60 ∷ cell_word) (flat_map (cell_text P) xs ++ end)) ≡ map (cell_of P) xs
-unfolding piece_text
+unfolding fixed
 cells_read P [] end small clear = ap (map cell_in) (parts_none (60 ∷ cell_word) end clear)
 cells_read P (x ∷ xs) end small clear =
     let more = flat_map (cell_text P) xs ++ end in
@@ -153,56 +153,56 @@ cells_read P (x ∷ xs) end small clear =
     ∙ ap (λ c. c ∷ map cell_in (parts (60 ∷ cell_word) more)) (cell_read P x (before (60 ∷ cell_word) more) (small 0 x (omega arith)))
     ∙ ap (λ cs. cell_of P x ∷ cs) (cells_read P xs end (λ k d less. small (suc k) d (omega (arith, less))) clear)
 
-cells_clear : (word : List ℕ) → FitsRow word → IsClear (60 ∷ word) (piece_text Pieces.CellTop) → (P : Instance) (xs : List Symbol) → IsClear (60 ∷ word) (flat_map (cell_text P) xs)
+cells_clear : (word : List ℕ) → FitsRow word → IsClear (60 ∷ word) (fixed CELL_TOP.now) → (P : Instance) (xs : List Symbol) → IsClear (60 ∷ word) (flat_map (cell_text P) xs)
 cells_clear word fits top P [] = refl
 cells_clear word fits top P (x ∷ xs) = clear_both (60 ∷ word) (cell_text P x) (flat_map (cell_text P) xs) (one word fits top P x) (cells_clear word fits top P xs)
   where
-    one : (word : List ℕ) → FitsRow word → IsClear (60 ∷ word) (piece_text Pieces.CellTop) → (P : Instance) (x : Symbol) → IsClear (60 ∷ word) (cell_text P x)
+    one : (word : List ℕ) → FitsRow word → IsClear (60 ∷ word) (fixed CELL_TOP.now) → (P : Instance) (x : Symbol) → IsClear (60 ∷ word) (cell_text P x)
     one word fits top P x =
-        let whole : piece_text Pieces.CellTop ++ in_cell P x ≡ cell_text P x = ap (λ t. piece_text Pieces.CellTop ++ t) (sym (append-nil (in_cell P x))) ∙ sym (cell_front P x []) ∙ append-nil (cell_text P x) in
-        ap (λ t. is_clear (60 ∷ word) t) (sym whole) ∙ clear_both (60 ∷ word) (piece_text Pieces.CellTop) (in_cell P x) top (in_cell_clear word fits P x)
+        let whole : fixed CELL_TOP.now ++ in_cell P x ≡ cell_text P x = ap (λ t. fixed CELL_TOP.now ++ t) (sym (append-nil (in_cell P x))) ∙ sym (cell_front P x []) ∙ append-nil (cell_text P x) in
+        ap (λ t. is_clear (60 ∷ word) t) (sym whole) ∙ clear_both (60 ∷ word) (fixed CELL_TOP.now) (in_cell P x) top (in_cell_clear word fits P x)
 
 -- The weeks.
 
 -- what is behind the front of a row
 abbrev in_row : Instance → List Symbol → ℕ → List ℕ
-in_row P s k = decimal (k + 1) ++ (piece_text Pieces.HeadEnd ++ (flat_map (cell_text P) (week_at P s k) ++ week_end P (week_at P s k)))
+in_row P s k = decimal (k + 1) ++ (fixed HEAD_END.now ++ (flat_map (cell_text P) (week_at P s k) ++ week_end P (week_at P s k)))
 
-row_front : (P : Instance) (s : List Symbol) (k : ℕ) (rest : List ℕ) → week_row P s k ++ rest ≡ piece_text Pieces.WeekTop ++ (in_row P s k ++ rest)
+row_front : (P : Instance) (s : List Symbol) (k : ℕ) (rest : List ℕ) → week_row P s k ++ rest ≡ fixed WEEK_TOP.now ++ (in_row P s k ++ rest)
 unfolding week_row week_top cells_text
 row_front P s k rest = simp append_assoc
 
-in_row_clear : (word : List ℕ) → FitsRow word → IsClear (60 ∷ word) (piece_text Pieces.CellTop) → (P : Instance) (s : List Symbol) (k : ℕ) → IsClear (60 ∷ word) (in_row P s k)
+in_row_clear : (word : List ℕ) → FitsRow word → IsClear (60 ∷ word) (fixed CELL_TOP.now) → (P : Instance) (s : List Symbol) (k : ℕ) → IsClear (60 ∷ word) (in_row P s k)
 in_row_clear word fits top P s k =
     let week = week_at P s k in
     let cells = flat_map (cell_text P) week in
-    clear_both (60 ∷ word) (decimal (k + 1)) (piece_text Pieces.HeadEnd ++ (cells ++ week_end P week)) (decimal_clear word (k + 1))
-    (clear_both (60 ∷ word) (piece_text Pieces.HeadEnd) (cells ++ week_end P week) fits.head_end
+    clear_both (60 ∷ word) (decimal (k + 1)) (fixed HEAD_END.now ++ (cells ++ week_end P week)) (decimal_clear word (k + 1))
+    (clear_both (60 ∷ word) (fixed HEAD_END.now) (cells ++ week_end P week) fits.head_end
     (clear_both (60 ∷ word) cells (week_end P week) (cells_clear word fits top P week) (end_clear word fits P week)))
 
 abbrev row : Option ℕ → List Cell → Row
 row week cells = record { week = week; cells = cells }
 
 row_read : (P : Instance) (s : List Symbol) (k : ℕ) → k + 1 < 10 ^ 9 → All IsSmall (week_at P s k) → row_in (in_row P s k) ≡ row_of P s k
-unfolding piece_text
+unfolding fixed
 row_read P s k few small =
     let week = week_at P s k in
     let behind_head = flat_map (cell_text P) week ++ week_end P week in
     let cells = map cell_in (parts (60 ∷ cell_word) (in_row P s k)) in
     ap (λ n. row n cells) (ap number_of (before_to 60 (codes "/th>") (decimal (k + 1)) behind_head (decimal_clear (codes "/th>") (k + 1))) ∙ printed_is_read (k + 1) few)
-    ∙ ap (row (Some (k + 1))) (ap (map cell_in) (parts_past (60 ∷ cell_word) (decimal (k + 1)) (piece_text Pieces.HeadEnd ++ behind_head) (decimal_clear cell_word (k + 1))
-    ∙ parts_past (60 ∷ cell_word) (piece_text Pieces.HeadEnd) behind_head cell_fits.head_end)
+    ∙ ap (row (Some (k + 1))) (ap (map cell_in) (parts_past (60 ∷ cell_word) (decimal (k + 1)) (fixed HEAD_END.now ++ behind_head) (decimal_clear cell_word (k + 1))
+    ∙ parts_past (60 ∷ cell_word) (fixed HEAD_END.now) behind_head cell_fits.head_end)
     ∙ cells_read P week (week_end P week) small (end_clear cell_word cell_fits P week))
 
 rows_front : (P : Instance) (s : List Symbol) (from n : ℕ) → before (60 ∷ week_word) (flat_map (week_row P s) (range_with_len from n)) ≡ []
-unfolding before piece_text
+unfolding before fixed
 rows_front P s from zero = refl
 rows_front P s from (suc n) =
     let more = flat_map (week_row P s) (range_with_len (from + 1) n) in
     ap (before (60 ∷ week_word)) (row_front P s from more) ∙ before_to 60 week_word [] (in_row P s from ++ more) refl
 
 rows_read : (P : Instance) (s : List Symbol) (from n : ℕ) → from + n < 10 ^ 9 → ((k : ℕ) → All IsSmall (week_at P s k)) → map row_in (parts (60 ∷ week_word) (flat_map (week_row P s) (range_with_len from n))) ≡ map (row_of P s) (range_with_len from n)
-unfolding parts piece_text
+unfolding parts fixed
 rows_read P s from zero few small = refl
 rows_read P s from (suc n) few small =
     let more = flat_map (week_row P s) (range_with_len (from + 1) n) in
@@ -213,59 +213,59 @@ rows_read P s from (suc n) few small =
     ∙ ap (λ rs. row_of P s from ∷ rs) (rows_read P s (from + 1) n (omega (arith, few)) small)
 
 row_clear : (P : Instance) (s : List Symbol) (k : ℕ) → IsClear (60 ∷ body_end) (week_row P s k)
-unfolding piece_text
+unfolding fixed
 row_clear P s k =
-    let top = piece_text Pieces.WeekTop in
+    let top = fixed WEEK_TOP.now in
     let whole : top ++ in_row P s k ≡ week_row P s k = ap (λ t. top ++ t) (sym (append-nil (in_row P s k))) ∙ sym (row_front P s k []) ∙ append-nil (week_row P s k) in
     ap (λ t. is_clear (60 ∷ body_end) t) (sym whole) ∙ clear_both (60 ∷ body_end) top (in_row P s k) refl (in_row_clear body_end end_fits refl P s k)
 
 -- The body of the first table.
 
 weeks_clear : (n : ℕ) → IsClear (60 ∷ body_top) (weeks_words n)
-unfolding weeks_words piece_text
+unfolding weeks_words fixed
 weeks_clear n =
-    clear_both (60 ∷ body_top) (decimal n) (if n == 1 then piece_text Pieces.WeekWord else piece_text Pieces.WeeksWord) (decimal_clear body_top n)
-    (elim (n == 1) as (λ (t : Bool). IsClear (60 ∷ body_top) (if t then piece_text Pieces.WeekWord else piece_text Pieces.WeeksWord)) [
+    clear_both (60 ∷ body_top) (decimal n) (if n == 1 then fixed WEEK_WORD.now else fixed WEEKS_WORD.now) (decimal_clear body_top n)
+    (elim (n == 1) as (λ (t : Bool). IsClear (60 ∷ body_top) (if t then fixed WEEK_WORD.now else fixed WEEKS_WORD.now)) [
       | true ↦ refl
       | false ↦ refl
     ])
 
 head_clear : (P : Instance) → IsClear (60 ∷ body_top) (page_head P)
-unfolding page_head style_text piece_text
+unfolding page_head style_text fixed
 head_clear P =
     let weeks = weeks_words P.weeks in
-    let front = piece_text Pieces.Head ++ weeks in
-    let style = front ++ piece_text Pieces.AfterTitle ++ style_text in
-    clear_both (60 ∷ body_top) (style ++ piece_text Pieces.AfterStyle) weeks
-    (clear_both (60 ∷ body_top) style (piece_text Pieces.AfterStyle)
-    (clear_both (60 ∷ body_top) (front ++ piece_text Pieces.AfterTitle) style_text
-    (clear_both (60 ∷ body_top) front (piece_text Pieces.AfterTitle)
-    (clear_both (60 ∷ body_top) (piece_text Pieces.Head) weeks refl (weeks_clear P.weeks))
+    let front = fixed HEAD.now ++ weeks in
+    let style = front ++ fixed AFTER_TITLE.now ++ style_text in
+    clear_both (60 ∷ body_top) (style ++ fixed AFTER_STYLE.now) weeks
+    (clear_both (60 ∷ body_top) style (fixed AFTER_STYLE.now)
+    (clear_both (60 ∷ body_top) (front ++ fixed AFTER_TITLE.now) style_text
+    (clear_both (60 ∷ body_top) front (fixed AFTER_TITLE.now)
+    (clear_both (60 ∷ body_top) (fixed HEAD.now) weeks refl (weeks_clear P.weeks))
     refl)
     refl)
     refl)
     (weeks_clear P.weeks)
 
 day_clear : (j : ℕ) → IsClear (60 ∷ body_top) (day_head j)
-unfolding day_head piece_text
+unfolding day_head fixed
 day_clear j =
-    clear_both (60 ∷ body_top) (piece_text Pieces.DayHead ++ decimal (j + 1)) (piece_text Pieces.HeadEnd)
-    (clear_both (60 ∷ body_top) (piece_text Pieces.DayHead) (decimal (j + 1)) refl (decimal_clear body_top (j + 1)))
+    clear_both (60 ∷ body_top) (fixed DAY_HEAD.now ++ decimal (j + 1)) (fixed HEAD_END.now)
+    (clear_both (60 ∷ body_top) (fixed DAY_HEAD.now) (decimal (j + 1)) refl (decimal_clear body_top (j + 1)))
     refl
 
 -- the heads of the columns
 abbrev heads : Instance → List ℕ
-heads P = piece_text Pieces.RosterTop ++ day_heads P ++ piece_text Pieces.HoursHead ++ weekend_head P
+heads P = fixed ROSTER_TOP.now ++ day_heads P ++ fixed HOURS_HEAD.now ++ weekend_head P
 
 heads_clear : (P : Instance) → IsClear (60 ∷ body_top) (heads P)
-unfolding day_heads weekend_head piece_text
+unfolding day_heads weekend_head fixed
 heads_clear P =
-    let days = piece_text Pieces.RosterTop ++ day_heads P in
-    clear_both (60 ∷ body_top) (days ++ piece_text Pieces.HoursHead) (weekend_head P)
-    (clear_both (60 ∷ body_top) days (piece_text Pieces.HoursHead)
-    (clear_both (60 ∷ body_top) (piece_text Pieces.RosterTop) (day_heads P) refl (clear_all (60 ∷ body_top) day_head (range_with_len 0 P.days) day_clear))
+    let days = fixed ROSTER_TOP.now ++ day_heads P in
+    clear_both (60 ∷ body_top) (days ++ fixed HOURS_HEAD.now) (weekend_head P)
+    (clear_both (60 ∷ body_top) days (fixed HOURS_HEAD.now)
+    (clear_both (60 ∷ body_top) (fixed ROSTER_TOP.now) (day_heads P) refl (clear_all (60 ∷ body_top) day_head (range_with_len 0 P.days) day_clear))
     refl)
-    (elim (P.days == DAYS_OF_WEEK) as (λ (t : Bool). IsClear (60 ∷ body_top) (if t then piece_text Pieces.WeekendHead else [])) [
+    (elim (P.days == DAYS_OF_WEEK) as (λ (t : Bool). IsClear (60 ∷ body_top) (if t then fixed WEEKEND_HEAD.now else [])) [
       | true ↦ refl
       | false ↦ refl
     ])
@@ -273,22 +273,22 @@ heads_clear P =
 abbrev rows : Instance → List Symbol → List ℕ
 rows P s = flat_map (week_row P s) (range_with_len 0 P.weeks)
 
-page_parts : (P : Instance) (s : List Symbol) (rest : Option ℕ) → page_text P s rest ≡ page_head P ++ (heads P ++ (piece_text Pieces.BodyTop ++ (rows P s ++ (piece_text Pieces.TableEnd ++ page_rest P s rest))))
+page_parts : (P : Instance) (s : List Symbol) (rest : Option ℕ) → page_text P s rest ≡ page_head P ++ (heads P ++ (fixed BODY_TOP.now ++ (rows P s ++ (fixed TABLE_END.now ++ page_rest P s rest))))
 unfolding page_text roster_table roster_head week_rows
 page_parts P s rest = simp append_assoc
 
-body_behind : (text : List ℕ) → behind (60 ∷ body_top) (piece_text Pieces.BodyTop ++ text) ≡ 10 ∷ text
-unfolding behind piece_text
+body_behind : (text : List ℕ) → behind (60 ∷ body_top) (fixed BODY_TOP.now ++ text) ≡ 10 ∷ text
+unfolding behind fixed
 body_behind text = refl
 
-body_before : (text : List ℕ) → before (60 ∷ body_end) (piece_text Pieces.TableEnd ++ text) ≡ []
-unfolding before piece_text
+body_before : (text : List ℕ) → before (60 ∷ body_end) (fixed TABLE_END.now ++ text) ≡ []
+unfolding before fixed
 body_before text = refl
 
 body_read : (P : Instance) (s : List Symbol) (rest : Option ℕ) → first_body (page_text P s rest) ≡ 10 ∷ rows P s
 body_read P s rest =
-    let end = piece_text Pieces.TableEnd ++ page_rest P s rest in
-    let body = piece_text Pieces.BodyTop ++ (rows P s ++ end) in
+    let end = fixed TABLE_END.now ++ page_rest P s rest in
+    let body = fixed BODY_TOP.now ++ (rows P s ++ end) in
     let clear : IsClear (60 ∷ body_end) (10 ∷ rows P s) = clear_both (60 ∷ body_end) (10 ∷ []) (rows P s) refl (clear_all (60 ∷ body_end) (week_row P s) (range_with_len 0 P.weeks) (row_clear P s)) in
     ap first_body (page_parts P s rest)
     ∙ ap (before (60 ∷ body_end)) (behind_past (60 ∷ body_top) (page_head P) (heads P ++ body) (head_clear P) ∙ behind_past (60 ∷ body_top) (heads P) body (heads_clear P) ∙ body_behind (rows P s ++ end))

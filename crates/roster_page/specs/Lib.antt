@@ -1,4 +1,4 @@
-pub mod PieceText
+pub mod Fixed
 pub mod Escaped
 pub mod Clock
 pub mod Hours
