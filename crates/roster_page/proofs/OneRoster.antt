@@ -4,7 +4,6 @@ use Rattle.std.specs.List.{range_with_len}
 use Rattle.std.proofs.lemmas.List.{drop-drop, take-append-drop}
 use Rattle.rwsp_terms.specs.declared.data.Symbol.{Symbol}
 use Rattle.roster_print.specs.RosterText.{week_at}
-use Rattle.roster_page.specs.ReadPage.{rows_in, symbols_named}
 use Rattle.roster_page.specs.Laws.{PagesShowOneRoster}
 use Rattle.roster_page.proofs.PageRead.{pages_are_read_back}
 

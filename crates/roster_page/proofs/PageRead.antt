@@ -1,5 +1,5 @@
 -- The weeks of a page are read back from its text.
-use Rattle.std.proofs.Common.{◌≡◌, ℕ, zero, suc, ◌+◌, ◌-◌, ◌*◌, ◌^◌, ◌<◌, ◌≤◌, List, [], ◌∷◌, ◌++◌, length, map, codes, Bool, true, false, Option, Some, None, refl, ap, sym, ◌∙◌, arith, append_assoc}
+use Rattle.std.proofs.Common.{◌≡◌, ℕ, zero, suc, ◌+◌, ◌*◌, ◌^◌, ◌<◌, List, [], ◌∷◌, ◌++◌, map, codes, Bool, true, false, Option, Some, refl, ap, sym, ◌∙◌, arith, append_assoc}
 use Rattle.std.specs.Prelude.{All, ◌==◌, if◌then◌else◌}
 use Rattle.std.specs.List.{flat_map, range_with_len}
 use Rattle.std.specs.Fmt.{decimal}
@@ -19,7 +19,7 @@ use Rattle.roster_page.specs.Clock.{hours_text}
 use Rattle.roster_page.specs.Escaped.{escaped, unescaped}
 use Rattle.roster_page.specs.Hours.{minutes_in}
 use Rattle.roster_page.specs.PageText.{IsPage, page_text, page_head, page_rest, style_text, weeks_words, day_head, day_heads, weekend_head, roster_head, roster_table, week_rows, week_row, week_top, week_end, hours_cell, weekend_cell, free_text, is_free, cells_text, cell_text, name_text}
-use Rattle.roster_page.specs.ReadPage.{before, behind, parts, Cell, cell_in, Row, row_in, first_body, rows_in, cell_of, row_of, symbols_named, IsReadBack}
+use Rattle.roster_page.specs.ReadPage.{before, behind, parts, Cell, cell_in, Row, row_in, first_body, rows_in, cell_of, row_of, symbols_named}
 use Rattle.roster_page.specs.Laws.{PagesAreReadBack}
 use Rattle.roster_page.specs.declared.pieces.TheConstants.{AFTER_STYLE, AFTER_TITLE, BODY_TOP, CELL_END, CELL_TOP, CLASS_END, DAY_HEAD, FREE, HEAD, HEAD_END, HOURS_HEAD, PLAIN_CELL, ROSTER_TOP, ROW_END, TABLE_END, WEEKEND_HEAD, WEEKS_WORD, WEEK_TOP, WEEK_WORD}
 use Rattle.roster_page.proofs.Places.{is_clear, IsClear, clear_both, clear_all, clear_without, before_past, before_to, behind_past, behind_to, parts_past, parts_none, parts_here}

@@ -1,9 +1,8 @@
 -- Names read back from their texts.
 use Rattle.std.proofs.Common.{◌≡◌, ℕ, zero, suc, ◌+◌, ◌-◌, ◌*◌, ◌/◌, ◌%◌, ◌<◌, ◌≤◌, List, [], ◌∷◌, ◌++◌, get_or, Bool, true, false, refl, ap, sym, ◌∙◌, arith}
-use Rattle.std.specs.Prelude.{All, nat_lt, ◌==◌, if◌then◌else◌}
+use Rattle.std.specs.Prelude.{nat_lt, ◌==◌, if◌then◌else◌}
 use Rattle.std.proofs.Math.Nat.{div-add-mod}
 use Rattle.std.proofs.lemmas.Bool.{ltb-true, ltb-false, eqb-true}
-use Rattle.std.proofs.lemmas.Nat.{mod_below, div_below}
 use Rattle.roster_page.specs.Escaped.{escaped, escaped_within, first_text, plain_text, hex_text, entity_text, hex_digit, hex_value, is_special, is_unseen, front_bytes, unescaped_past}
 use Rattle.roster_page.specs.Laws.{NamesAreReadBack}
 

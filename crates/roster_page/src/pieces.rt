@@ -34,7 +34,7 @@ pub const END: &[u8] = b"</main>\n</body>\n</html>\n";
 /// The style of text.
 pub const STYLE_OF_TEXT: &[u8] =
     b":root{color-scheme:light dark;--ink:#1a1a1a;--paper:#fff;--soft:#595959;--line:#8c8c8c;--head:#ececec}\n\
-    body{margin:0;font:1rem/1.4 system-ui,sans-serif;color:var(--ink);background:var(--paper)}\n\
+    body{margin:0;font:1rem/1.4 system-ui,sans-serif;overflow-wrap:break-word;color:var(--ink);background:var(--paper)}\n\
     main{max-width:75rem;margin:0 auto;padding:1rem}\n\
     h1{font-size:1.5rem;margin:.5rem 0}\n\
     h2{font-size:1.2rem;margin:2rem 0 .5rem}\n";
@@ -48,7 +48,7 @@ pub const STYLE_OF_TABLES: &[u8] = b".wide{overflow-x:auto}\n\
     thead th{white-space:normal}\n\
     tbody th{position:sticky;left:0}\n\
     @media (max-width:30rem){main{padding:.5rem}th,td{padding:.2rem .3rem}\
-    tbody th{max-width:7rem;white-space:normal;overflow-wrap:break-word}}\n";
+    tbody th{max-width:7rem;white-space:normal}}\n";
 
 /// A colour for the day off and for each shift.
 pub const STYLE_OF_COLOURS: &[u8] = b".c0{color:var(--soft)}\n\
