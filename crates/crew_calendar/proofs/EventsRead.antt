@@ -25,7 +25,7 @@ use Rattle.rwsp_model.specs.Validity.{KeepsLimits, IsShiftName, breaks_name}
 use Rattle.crew_calendar.specs.Crew.{symbol_on}
 use Rattle.crew_calendar.specs.Calendar.{Date}
 use Rattle.crew_calendar.specs.Texts.{two_digits, day_minutes, start_of, length_of, shift_line, duty_line_of, duty_line}
-use Rattle.crew_calendar.specs.ShownNames.{character_len, first_shown, hex_digit, hex_text, is_printable, shown, shown_from}
+use Rattle.shown_names.specs.ShownNames.{character_len, first_shown, hex_digit, hex_text, is_printable, shown, shown_from}
 use Rattle.crew_calendar.specs.ContentLines.{is_special, escape, escaped, has_room, folded_from, content_line, content_text, unfolded, unfolded_from, unescaped, HasNoReturn}
 use Rattle.crew_calendar.specs.Events.{compact_date, compact_moment, moment_at, uid_line, stamp_line, start_line, end_line, summary_line, opening_lines, closing_lines, time_lines, event_lines, duty_events, events_on, first_lines, last_lines, calendar_lines}
 use Rattle.crew_calendar.specs.ReadEvents.{begins_with_end, onto_first, lines_from, lines_in, Said, Nothing, NoMoment, At, is_moment, moment_in, Event, untold, events_from, events_in, Duty, duties_with, duties_of, said_at, end_said, event_of, EventsAreReadBack, DutiesAreListed}

@@ -8,7 +8,7 @@ use Rattle.crew_calendar.specs.declared.dates.TheConstants.{MOST_DAYS_LATER}
 use Rattle.crew_calendar.specs.Crew.{symbol_on}
 use Rattle.crew_calendar.specs.Calendar.{Date, IsCalendar}
 use Rattle.crew_calendar.specs.Texts.{two_digits, day_minutes, start_of, length_of}
-use Rattle.crew_calendar.specs.ShownNames.{shown}
+use Rattle.shown_names.specs.ShownNames.{shown}
 use Rattle.crew_calendar.specs.ContentLines.{escaped, content_text}
 
 -- a date of the years 0 to 9999, `YYYYMMDD`

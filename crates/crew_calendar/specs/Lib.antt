@@ -4,7 +4,6 @@ pub mod Facts
 pub mod Laws
 pub mod Calendar
 pub mod OnDate
-pub mod ShownNames
 pub mod ContentLines
 pub mod Events
 pub mod ReadEvents

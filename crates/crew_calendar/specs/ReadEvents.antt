@@ -12,7 +12,7 @@ use Rattle.crew_calendar.specs.declared.dates.TheConstants.{MOST_DAYS_LATER}
 use Rattle.crew_calendar.specs.Crew.{IsEmployee, symbol_on}
 use Rattle.crew_calendar.specs.Calendar.{Date, OnCalendar}
 use Rattle.crew_calendar.specs.Texts.{day_minutes, start_of, length_of, shift_line, duties_text}
-use Rattle.crew_calendar.specs.ShownNames.{shown}
+use Rattle.shown_names.specs.ShownNames.{shown}
 use Rattle.crew_calendar.specs.ContentLines.{unfolded, unescaped}
 use Rattle.crew_calendar.specs.Events.{AreEvents}
 

@@ -11,7 +11,7 @@ ghost use Rattle.crew_calendar.specs.Events.{compact_date, compact_moment, momen
 use crate::content_lines::{put_content_line, put_escaped};
 use crate::duty_lines::{length_of, put_two_digits, start_of};
 use crate::places::symbol_on;
-use crate::shown_names::put_shown;
+use shown_names::put_shown;
 use crate::{CivilDate, DAY_MINUTES, MOST_DAYS_LATER, date_after};
 use rwsp_model::{Problem, Roster};
 use rwsp_terms::Symbol;

@@ -10,7 +10,6 @@ mod laws;
 mod lines;
 mod on_date;
 mod places;
-mod shown_names;
 
 pub use civil_date::CivilDate;
 pub use content_lines::{LONGEST_ROW, put_content_line, put_escaped};
@@ -29,4 +28,3 @@ pub use laws::{
 pub use lines::crew_table;
 pub use on_date::who_works;
 pub use places::place;
-pub use shown_names::put_shown;

@@ -1,7 +1,7 @@
 use Rattle.std.proofs.Common.{refl, sym}
 use Rattle.std.proofs.lemmas.Str.{is_utf8-from_IsUtf8}
-use Rattle.crew_calendar.proofs.Written.{not_text}
-use Rattle.crew_calendar.proofs.shown_names.is_text.Goals as goal
+use Rattle.shown_names.proofs.Written.{not_text}
+use Rattle.shown_names.proofs.names.is_text.Goals as goal
 
 pub returns-in-Ok : goal.returns-in-Ok
 returns-in-Ok c = sym (is_utf8-from_IsUtf8 c.args.bytes.now c.in-Ok.ensures.cases.1)

@@ -1,7 +1,7 @@
 // A name as people read it.
 ghost use Rattle.std.specs.Prelude.{◌≡◌, ◌++◌, ◌<◌, IfOk, OnOk, length, drop};
 ghost use Rattle.std.specs.Str.{is_utf8};
-ghost use Rattle.crew_calendar.specs.ShownNames.{begins_with_text, character_len, hex_digit, hex_text, is_printable, first_shown, shown_from, shown};
+ghost use Rattle.shown_names.specs.ShownNames.{begins_with_text, character_len, hex_digit, hex_text, is_printable, first_shown, shown_from, shown};
 
 use std::alloc::AllocError;
 use std::str;

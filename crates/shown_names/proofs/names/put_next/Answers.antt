@@ -1,6 +1,6 @@
 use Rattle.std.proofs.Common.{arith}
-use Rattle.crew_calendar.proofs.Written.{goes_on, begins}
-use Rattle.crew_calendar.proofs.shown_names.put_next.Goals as goal
+use Rattle.shown_names.proofs.Written.{goes_on, begins}
+use Rattle.shown_names.proofs.names.put_next.Goals as goal
 
 pub returns-then-more-gt0 : goal.returns-then-more-gt0
 returns-then-more-gt0 c =

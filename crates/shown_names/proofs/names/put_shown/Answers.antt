@@ -1,6 +1,6 @@
 use Rattle.std.proofs.Common.{refl}
-use Rattle.crew_calendar.proofs.Written.{shown_step, shown_done}
-use Rattle.crew_calendar.proofs.shown_names.put_shown.Goals as goal
+use Rattle.shown_names.proofs.Written.{shown_step, shown_done}
+use Rattle.shown_names.proofs.names.put_shown.Goals as goal
 
 pub loop-i-preserved : goal.loop-i-preserved
 loop-i-preserved c =

@@ -1,0 +1,38 @@
+-- Words that sentences have in common.
+use Rattle.std.specs.Prelude.{ℕ, ◌+◌, List, [], ◌∷◌, ◌++◌, Bool, ◌&&◌, ◌||◌, ◌==◌, nat_le, codes, if◌then◌else◌}
+use Rattle.std.specs.Fmt.{decimal}
+use Rattle.std.specs.List.{list_all}
+use Rattle.std.specs.Str.{bytes_eq}
+use Rattle.rwsp_terms.specs.declared.data.Bounds.{Bounds}
+use Rattle.rwsp_terms.specs.declared.data.Symbol.{Symbol}
+use Rattle.rwsp_terms.specs.Instance.{Instance, name_of}
+use Rattle.shown_names.specs.ShownNames.{shown}
+
+-- a number of days
+unfoldable pub days_words : ℕ → List ℕ
+days_words n = decimal n ++ (if n == 1 then codes " day" else codes " days")
+
+-- a number of weeks
+unfoldable pub weeks_words : ℕ → List ℕ
+weeks_words n = decimal n ++ (if n == 1 then codes " week" else codes " weeks")
+
+-- from a least number to a greatest
+unfoldable pub range_words : Bounds → List ℕ
+range_words b =
+    if b.least == b.greatest then decimal b.least else decimal b.least ++ codes " to " ++ decimal b.greatest
+
+-- a digit or a dot
+abbrev pub is_of_number : ℕ → Bool
+is_of_number b = (nat_le 48 b && nat_le b 57) || (b == 46)
+
+-- a name that could be taken for a word or a number of the sentence
+abbrev pub is_like_words : List ℕ → Bool
+is_like_words name = bytes_eq name (codes "off") || bytes_eq name (codes "work") || list_all is_of_number name
+
+-- a name in a sentence
+unfoldable pub name_words : List ℕ → List ℕ
+name_words name = if is_like_words name then codes "\"" ++ shown name ++ codes "\"" else shown name
+
+-- a shift, or a day off, in a sentence
+unfoldable pub symbol_words : Instance → Symbol → List ℕ
+symbol_words P x = if x.number == 0 then codes "a day off" else name_words (name_of P x)

@@ -1,0 +1,282 @@
+// A rule in words.
+ghost use Rattle.std.specs.Prelude.{◌≡◌, ◌++◌, ◌+◌, ◌-◌, ◌<◌, ◌≤◌, length, slice_get, IfSome, OnOk};
+ghost use Rattle.std.specs.List.{flat_map, range_with_len};
+ghost use Rattle.rwsp_terms.specs.declared.limits.TheConstants.{MOST_WEEKS, MOST_SHIFTS};
+ghost use Rattle.rwsp_terms.specs.Instance.{bounds, shift_count, shift_demand, column_least, column_greatest, IsClass, IsDay, symbol_numbered};
+ghost use Rattle.rwsp_terms.specs.Roster.{IsRule};
+ghost use Rattle.rwsp_model.specs.Sequences.{IsPairOf, IsTripleOf};
+ghost use Rattle.plain_words.specs.RuleWords.{class_words, most_words, least_words, pair_words, triple_words, pair_in_words, triple_in_words, shift_words, wanted_words, off_range, off_words, is_crossed, crossed_words, first_crossed, demand_words, day_words, rule_words};
+
+use crate::words::{put_days, put_name_words, put_range, put_symbol_words, put_weeks};
+use rwsp_model::Problem;
+use rwsp_terms::{Bounds, Class, Rule, Symbol};
+use rwsp_text::put_number;
+use std::alloc::AllocError;
+
+// Appends the days that the blocks of a class are made of.
+#[tactic(auto, unfolding(crate::specs::RuleWords::class_words))]
+fn put_class(out: &mut Vec<u8>, problem: &Problem, class: Class) -> Result<(), AllocError>
+    requires { IsClass problem.now class }
+    ensures { OnOk result (out.new.items ≡ out.old.items ++ class_words problem.now class) }
+{
+    match class {
+        Class::Shift(shift) => {
+            out.extend_from_slice(b" of ")?;
+            put_name_words(out, problem.name(shift))
+        }
+        Class::Off => out.extend_from_slice(b" off"),
+        Class::Work => out.extend_from_slice(b" of work"),
+    }
+}
+
+// Appends the greatest length of the blocks of a class.
+#[tactic(auto, unfolding(crate::specs::RuleWords::most_words))]
+fn put_most(out: &mut Vec<u8>, problem: &Problem, class: Class) -> Result<(), AllocError>
+    requires { IsClass problem.now class }
+    ensures { OnOk result (out.new.items ≡ out.old.items ++ most_words problem.now class) }
+{
+    out.extend_from_slice(b"at most ")?;
+    put_days(out, problem.bounds(class).greatest)?;
+    put_class(out, problem, class)?;
+    out.extend_from_slice(b" in a row")
+}
+
+// Appends the least length of the blocks of a class.
+#[tactic(auto, unfolding(crate::specs::RuleWords::least_words))]
+fn put_least(out: &mut Vec<u8>, problem: &Problem, class: Class) -> Result<(), AllocError>
+    requires { IsClass problem.now class }
+    ensures { OnOk result (out.new.items ≡ out.old.items ++ least_words problem.now class) }
+{
+    out.extend_from_slice(b"at least ")?;
+    put_days(out, problem.bounds(class).least)?;
+    put_class(out, problem, class)?;
+    out.extend_from_slice(b" in a row")
+}
+
+// Appends a forbidden pair.
+#[tactic(auto, unfolding(crate::specs::RuleWords::pair_words))]
+fn put_pair(out: &mut Vec<u8>, problem: &Problem, pair: (Symbol, Symbol)) -> Result<(), AllocError>
+    requires { IsPairOf problem.now pair }
+    ensures { OnOk result (out.new.items ≡ out.old.items ++ pair_words problem.now pair) }
+{
+    out.extend_from_slice(b"never ")?;
+    put_symbol_words(out, problem, pair.0)?;
+    out.extend_from_slice(b", then ")?;
+    put_symbol_words(out, problem, pair.1)
+}
+
+// Appends a forbidden triple.
+#[tactic(auto, unfolding(crate::specs::RuleWords::triple_words))]
+fn put_triple(
+    out: &mut Vec<u8>,
+    problem: &Problem,
+    triple: (Symbol, Symbol, Symbol),
+) -> Result<(), AllocError>
+    requires { IsTripleOf problem.now triple }
+    ensures { OnOk result (out.new.items ≡ out.old.items ++ triple_words problem.now triple) }
+{
+    out.extend_from_slice(b"never ")?;
+    put_symbol_words(out, problem, triple.0)?;
+    out.extend_from_slice(b", then ")?;
+    put_symbol_words(out, problem, triple.1)?;
+    out.extend_from_slice(b", then ")?;
+    put_symbol_words(out, problem, triple.2)
+}
+
+// Appends the forbidden pair at a place.
+#[tactic(auto, unfolding(crate::specs::RuleWords::pair_in_words))]
+fn put_pair_at(out: &mut Vec<u8>, problem: &Problem, place: u32) -> Result<(), AllocError>
+    requires { place < length problem.now.pairs }
+    ensures { OnOk result (out.new.items
+        ≡ out.old.items ++ pair_in_words problem.now (slice_get problem.now.pairs place)) }
+{
+    problem.prove_limits();
+    put_pair(out, problem, problem.pairs()[place as usize])
+}
+
+// Appends the forbidden triple at a place.
+#[tactic(auto, unfolding(crate::specs::RuleWords::triple_in_words))]
+fn put_triple_at(out: &mut Vec<u8>, problem: &Problem, place: u32) -> Result<(), AllocError>
+    requires { place < length problem.now.triples }
+    ensures { OnOk result (out.new.items
+        ≡ out.old.items ++ triple_in_words problem.now (slice_get problem.now.triples place)) }
+{
+    problem.prove_limits();
+    put_triple(out, problem, problem.triples()[place as usize])
+}
+
+/// The demand of a shift on a day, both from 1 on.
+pub fn demand_of(problem: &Problem, number: u8, day: u32) -> Bounds
+    requires shift { (0 < number) × (number ≤ shift_count problem.now) }
+    requires day { IsDay problem.now day }
+    ensures value { result ≡ shift_demand problem.now number day }
+    ensures few { (result.least ≤ MOST_WEEKS) × (result.greatest ≤ MOST_WEEKS) }
+{
+    problem.prove_limits();
+    let shift = Symbol { number };
+    let least = problem.demand_least(shift, day);
+    let greatest = problem.demand_greatest(shift, day);
+    Bounds {
+        least: least as u32,
+        greatest: greatest as u32,
+    }
+}
+
+// Appends the name of a shift by its number.
+#[tactic(auto, unfolding(crate::specs::RuleWords::shift_words))]
+fn put_shift(out: &mut Vec<u8>, problem: &Problem, number: u8) -> Result<(), AllocError>
+    requires { (0 < number) × (number ≤ shift_count problem.now) }
+    ensures { OnOk result (out.new.items ≡ out.old.items ++ shift_words problem.now number) }
+{
+    put_name_words(out, problem.name(Symbol { number }))
+}
+
+// Appends what is demanded of a shift on a day.
+#[tactic(auto, unfolding(crate::specs::RuleWords::wanted_words))]
+fn put_wanted(out: &mut Vec<u8>, problem: &Problem, day: u32, number: u8) -> Result<(), AllocError>
+    requires day { IsDay problem.now day }
+    requires shift { (0 < number) × (number ≤ shift_count problem.now) }
+    ensures { OnOk result (out.new.items ≡ out.old.items ++ wanted_words problem.now day number) }
+{
+    put_shift(out, problem, number)?;
+    out.extend_from_slice(b" ")?;
+    put_range(out, demand_of(problem, number, day))?;
+    out.extend_from_slice(b", ")
+}
+
+// Appends what is demanded of each shift on a day.
+fn put_all_wanted(out: &mut Vec<u8>, problem: &Problem, day: u32) -> Result<(), AllocError>
+    requires { IsDay problem.now day }
+    ensures { OnOk result (out.new.items
+        ≡ out.old.items ++ flat_map (wanted_words problem.now day) (range_with_len 1 (shift_count problem.now))) }
+{
+    for place in 0..problem.shifts() {
+        put_wanted(out, problem, day, place + 1)?;
+    }
+    Ok(())
+}
+
+/// How many shifts a day demands at least.
+pub fn least_of_day(problem: &Problem, day: u32) -> u32
+    requires { IsDay problem.now day }
+    ensures value { result ≡ column_least problem.now day }
+    ensures few { result ≤ MOST_WEEKS + MOST_WEEKS * MOST_SHIFTS }
+{
+    (problem.weeks() as i32 - problem.demand_greatest(Symbol::OFF, day)) as u32
+}
+
+// Of how many weeks the shifts of a day leave the day off.
+fn off_range(problem: &Problem, day: u32) -> Bounds
+    requires { IsDay problem.now day }
+    ensures { result ≡ off_range problem.now day }
+{
+    Bounds {
+        least: problem.demand_least(Symbol::OFF, day).max(0) as u32,
+        greatest: problem.demand_greatest(Symbol::OFF, day).max(0) as u32,
+    }
+}
+
+// Appends what the shifts of a day leave for the day off, or that they need more weeks than there are.
+#[tactic(auto, unfolding(crate::specs::RuleWords::off_words))]
+fn put_off(out: &mut Vec<u8>, problem: &Problem, day: u32) -> Result<(), AllocError>
+    requires { IsDay problem.now day }
+    ensures { OnOk result (out.new.items ≡ out.old.items ++ off_words problem.now day) }
+{
+    let needed = least_of_day(problem, day);
+    if problem.weeks() < needed {
+        out.extend_from_slice(b"which needs ")?;
+        put_number(out, u64::from(needed))?;
+        out.extend_from_slice(b" of ")?;
+        put_weeks(out, problem.weeks())
+    } else {
+        out.extend_from_slice(b"off ")?;
+        put_range(out, off_range(problem, day))
+    }
+}
+
+/// Whether no number meets the demand of a shift on a day.
+pub fn is_crossed(problem: &Problem, day: u32, number: u8) -> bool
+    requires day { IsDay problem.now day }
+    requires shift { (0 < number) × (number ≤ shift_count problem.now) }
+    ensures { result ≡ is_crossed problem.now day number }
+{
+    let range = demand_of(problem, number, day);
+    range.greatest < range.least
+}
+
+// Appends that no number meets the demand of a shift on a day.
+#[tactic(auto, unfolding(crate::specs::RuleWords::crossed_words))]
+fn put_crossed(out: &mut Vec<u8>, problem: &Problem, day: u32, number: u8) -> Result<(), AllocError>
+    requires day { IsDay problem.now day }
+    requires shift { (0 < number) × (number ≤ shift_count problem.now) }
+    ensures { OnOk result (out.new.items ≡ out.old.items ++ crossed_words problem.now day number) }
+{
+    let range = demand_of(problem, number, day);
+    put_shift(out, problem, number)?;
+    out.extend_from_slice(b" ")?;
+    put_number(out, u64::from(range.least))?;
+    out.extend_from_slice(b"..")?;
+    put_number(out, u64::from(range.greatest))?;
+    out.extend_from_slice(b": the least is above the greatest")
+}
+
+// The first shift whose demand no number meets on a day.
+fn first_crossed(problem: &Problem, day: u32) -> Option<u8>
+    requires { IsDay problem.now day }
+    ensures value { result ≡ first_crossed problem.now day }
+    ensures within { IfSome result (λ x. (0 < x) × (x ≤ shift_count problem.now)) }
+{
+    for place in 0..problem.shifts() {
+        if is_crossed(problem, day, place + 1) {
+            return Some(place + 1);
+        }
+    }
+    None
+}
+
+// Appends what is wanted on a day.
+#[tactic(auto, unfolding(crate::specs::RuleWords::demand_words))]
+fn put_demand(out: &mut Vec<u8>, problem: &Problem, day: u32) -> Result<(), AllocError>
+    requires { IsDay problem.now day }
+    ensures { OnOk result (out.new.items
+        ≡ out.old.items ++ demand_words problem.now day (first_crossed problem.now day)) }
+{
+    match first_crossed(problem, day) {
+        Some(number) => put_crossed(out, problem, day, number),
+        None => {
+            put_all_wanted(out, problem, day)?;
+            put_off(out, problem, day)
+        }
+    }
+}
+
+// Appends the rule of a day.
+#[tactic(auto, unfolding(crate::specs::RuleWords::day_words))]
+fn put_day(out: &mut Vec<u8>, problem: &Problem, day: u32) -> Result<(), AllocError>
+    requires { IsDay problem.now day }
+    ensures { OnOk result (out.new.items ≡ out.old.items ++ day_words problem.now day) }
+{
+    out.extend_from_slice(b"day ")?;
+    put_number(out, u64::from(day))?;
+    out.extend_from_slice(b": ")?;
+    put_demand(out, problem, day)
+}
+
+/// Appends a rule in words. That of a day costs a step for each shift, the others a few steps.
+#[tactic(auto, unfolding(crate::specs::RuleWords::rule_words))]
+pub fn put_rule_words(out: &mut Vec<u8>, problem: &Problem, rule: Rule) -> Result<(), AllocError>
+    requires { IsRule problem.now rule }
+    ensures { OnOk result (out.new.items ≡ out.old.items ++ rule_words problem.now rule) }
+{
+    match rule {
+        Rule::MaxShift(shift) => put_most(out, problem, Class::Shift(shift)),
+        Rule::MinShift(shift) => put_least(out, problem, Class::Shift(shift)),
+        Rule::MaxOff => put_most(out, problem, Class::Off),
+        Rule::MinOff => put_least(out, problem, Class::Off),
+        Rule::MaxWork => put_most(out, problem, Class::Work),
+        Rule::MinWork => put_least(out, problem, Class::Work),
+        Rule::Pair(place) => put_pair_at(out, problem, place),
+        Rule::Triple(place) => put_triple_at(out, problem, place),
+        Rule::Day(day) => put_day(out, problem, day),
+    }
+}
