@@ -1,9 +1,10 @@
 -- Names read back from their texts.
 use Rattle.std.proofs.Common.{◌≡◌, ℕ, zero, suc, ◌+◌, ◌-◌, ◌*◌, ◌/◌, ◌%◌, ◌<◌, ◌≤◌, List, [], ◌∷◌, ◌++◌, get_or, Bool, true, false, refl, ap, sym, ◌∙◌, arith}
-use Rattle.std.specs.Prelude.{nat_lt, ◌==◌, if◌then◌else◌}
+use Rattle.std.specs.Prelude.{◌&&◌, nat_lt, ◌==◌, if◌then◌else◌}
 use Rattle.std.proofs.Math.Nat.{div-add-mod}
 use Rattle.std.proofs.lemmas.Bool.{ltb-true, ltb-false, eqb-true}
-use Rattle.roster_page.specs.Escaped.{escaped, escaped_within, first_text, plain_text, hex_text, entity_text, hex_digit, hex_value, is_special, is_unseen, front_bytes, unescaped_past}
+use Rattle.shown_names.specs.ShownNames.{character_len, hex_digit, hex_text, is_printable}
+use Rattle.roster_page.specs.Escaped.{escaped, escaped_within, first_text, plain_text, entity_text, hex_value, is_special, unescaped_past}
 use Rattle.roster_page.specs.Laws.{NamesAreReadBack}
 
 -- a digit of 16
@@ -29,7 +30,6 @@ hex_read n =
         ] refl
 
 hex_back : (b : ℕ) (rest : List ℕ) → unescaped_past 0 (hex_text b ++ rest) ≡ b ∷ unescaped_past 0 rest
-unfolding hex_text
 hex_back b rest =
     let high : hex_value (hex_digit (b / 16)) ≡ b / 16 = hex_read (b / 16) in
     let low : hex_value (hex_digit (b % 16)) ≡ b % 16 = hex_read (b % 16) in
@@ -70,16 +70,16 @@ plain_back b rest =
 first_back : (b bytes : ℕ) (rest : List ℕ) → unescaped_past 0 (first_text b bytes ++ rest) ≡ b ∷ unescaped_past 0 rest
 unfolding first_text
 first_back b bytes rest =
-    elim (is_unseen b bytes) as (λ (t : Bool). unescaped_past 0 ((if t then hex_text b else plain_text b) ++ rest) ≡ b ∷ unescaped_past 0 rest) [
-      | true ↦ hex_back b rest
-      | false ↦ plain_back b rest
+    elim (nat_lt 0 bytes && is_printable b) as (λ (t : Bool). unescaped_past 0 ((if t then plain_text b else hex_text b) ++ rest) ≡ b ∷ unescaped_past 0 rest) [
+      | true ↦ plain_back b rest
+      | false ↦ hex_back b rest
     ]
 
 name_back : (within : ℕ) (name : List ℕ) → unescaped_past 0 (escaped_within within name) ≡ name
 name_back zero [] = refl
 name_back (suc k) [] = refl
 name_back zero (b ∷ bs) =
-    let n = front_bytes (b ∷ bs) in
+    let n = character_len (b ∷ bs) in
     first_back b n (escaped_within (n - 1) bs) ∙ ap (λ rest. b ∷ rest) (name_back (n - 1) bs)
 name_back (suc k) (b ∷ bs) = plain_back b (escaped_within k bs) ∙ ap (λ rest. b ∷ rest) (name_back k bs)
 

@@ -1,12 +1,13 @@
 -- What isn't in numbers and names, so that no tag begins there.
 use Rattle.std.proofs.Common.{◌≡◌, ℕ, zero, suc, ◌+◌, ◌-◌, ◌/◌, ◌%◌, ◌<◌, List, [], ◌∷◌, Bool, true, false, cond, refl, ap, sym, ◌∙◌, arith}
-use Rattle.std.specs.Prelude.{◌≢◌, ◌==◌, All, nat_lt}
+use Rattle.std.specs.Prelude.{◌≢◌, ◌==◌, ◌&&◌, All, nat_lt}
 use Rattle.std.specs.Fmt.{decimal, digits, digits_onto, digit_glyph}
 use Rattle.std.proofs.lemmas.Bool.{ltb-true, ltb-false}
 use Rattle.std.proofs.lemmas.Bool.Decides.{nat_tests}
 use Rattle.std.proofs.lemmas.List.Elements.{All-nil, All-cons, All-append}
+use Rattle.shown_names.specs.ShownNames.{character_len, hex_digit, hex_text, is_printable}
 use Rattle.roster_page.specs.Clock.{two_digits, hours_text}
-use Rattle.roster_page.specs.Escaped.{escaped, escaped_within, first_text, plain_text, hex_text, hex_digit, entity_text, is_special, is_unseen, front_bytes}
+use Rattle.roster_page.specs.Escaped.{escaped, escaped_within, first_text, plain_text, entity_text, is_special}
 
 -- the byte isn't in the text
 abbrev pub Lacks : (sign : ℕ) → List ℕ → Type 0
@@ -87,22 +88,22 @@ plain_lacks b =
     itself b f t = let e : true ≡ false = sym t ∙ f in cc
 
 first_lacks : (b bytes : ℕ) → Lacks 60 (first_text b bytes)
-unfolding first_text hex_text
+unfolding first_text
 first_lacks b bytes =
-    elim (is_unseen b bytes) as (λ (t : Bool). Lacks 60 (cond t (hex_text b) (plain_text b))) [
-      | true ↦
+    elim (nat_lt 0 bytes && is_printable b) as (λ (t : Bool). Lacks 60 (cond t (plain_text b) (hex_text b))) [
+      | true ↦ plain_lacks b
+      | false ↦
           lacks_more 60 92 (120 ∷ hex_digit (b / 16) ∷ hex_digit (b % 16) ∷ []) (λ e. absurd (omega (arith, e)))
           (lacks_more 60 120 (hex_digit (b / 16) ∷ hex_digit (b % 16) ∷ []) (λ e. absurd (omega (arith, e)))
           (lacks_more 60 (hex_digit (b / 16)) (hex_digit (b % 16) ∷ []) (hex_lacks (b / 16))
           (lacks_more 60 (hex_digit (b % 16)) [] (hex_lacks (b % 16)) (All-nil (λ c. c ≢ 60)))))
-      | false ↦ plain_lacks b
     ]
 
 within_lacks : (within : ℕ) (name : List ℕ) → Lacks 60 (escaped_within within name)
 within_lacks zero [] = All-nil (λ b. b ≢ 60)
 within_lacks (suc k) [] = All-nil (λ b. b ≢ 60)
 within_lacks zero (b ∷ bs) =
-    let n = front_bytes (b ∷ bs) in
+    let n = character_len (b ∷ bs) in
     All-append (λ c. c ≢ 60) (first_text b n) (escaped_within (n - 1) bs) (first_lacks b n) (within_lacks (n - 1) bs)
 within_lacks (suc k) (b ∷ bs) = All-append (λ c. c ≢ 60) (plain_text b) (escaped_within k bs) (plain_lacks b) (within_lacks k bs)
 
