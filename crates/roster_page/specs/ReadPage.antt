@@ -1,5 +1,5 @@
--- How a page is read by a program that knows no more of HTML than the words that stand round the weeks and the shifts: it
--- looks for these words in order, and takes what is between them.
+-- How a page is read by a program that knows no more of HTML than the words that stand round the weeks and the cells:
+-- it looks for these words in order, and takes what is between them.
 use Rattle.std.specs.Prelude.{◌≡◌, ℕ, ◌+◌, List, [], ◌∷◌, length, drop, map, Bool, nat_eq, Option, Some, codes, if◌then◌else◌}
 use Rattle.std.specs.List.{range_with_len, starts_with}
 use Rattle.rwsp_text.specs.Numbers.{number_of}
