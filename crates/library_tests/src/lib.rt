@@ -9,6 +9,8 @@ mod made_problems_tests;
 #[cfg(test)]
 mod nearest_point_tests;
 #[cfg(test)]
+mod plain_words_tests;
+#[cfg(test)]
 mod refutation_log_tests;
 #[cfg(test)]
 mod refutation_terms_tests;

@@ -56,10 +56,12 @@ abbrev pub off_range : Instance → (j : ℕ) → Bounds
 off_range P j = record { least = P.weeks - column_greatest P j; greatest = P.weeks - column_least P j }
 
 -- what the shifts of a day leave for the day off; or that they need more weeks than there are
+unfoldable pub needs_words : (needed weeks : ℕ) → List ℕ
+needs_words needed weeks = codes "which needs " ++ decimal needed ++ codes " of " ++ weeks_words weeks
+
 unfoldable pub off_words : Instance → (j : ℕ) → List ℕ
 off_words P j =
-    if nat_lt P.weeks (column_least P j)
-    then codes "which needs " ++ decimal (column_least P j) ++ codes " of " ++ weeks_words P.weeks
+    if nat_lt P.weeks (column_least P j) then needs_words (column_least P j) P.weeks
     else codes "off " ++ range_words (off_range P j)
 
 -- the least number that is demanded of a shift is above the greatest

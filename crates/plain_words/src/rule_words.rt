@@ -1,11 +1,11 @@
 // A rule in words.
-ghost use Rattle.std.specs.Prelude.{◌≡◌, ◌++◌, ◌+◌, ◌-◌, ◌<◌, ◌≤◌, length, slice_get, IfSome, OnOk};
+ghost use Rattle.std.specs.Prelude.{◌≡◌, ◌++◌, ◌+◌, ◌-◌, ◌*◌, ◌<◌, ◌≤◌, length, slice_get, IfSome, OnOk};
 ghost use Rattle.std.specs.List.{flat_map, range_with_len};
 ghost use Rattle.rwsp_terms.specs.declared.limits.TheConstants.{MOST_WEEKS, MOST_SHIFTS};
 ghost use Rattle.rwsp_terms.specs.Instance.{bounds, shift_count, shift_demand, column_least, column_greatest, IsClass, IsDay, symbol_numbered};
 ghost use Rattle.rwsp_terms.specs.Roster.{IsRule};
 ghost use Rattle.rwsp_model.specs.Sequences.{IsPairOf, IsTripleOf};
-ghost use Rattle.plain_words.specs.RuleWords.{class_words, most_words, least_words, pair_words, triple_words, pair_in_words, triple_in_words, shift_words, wanted_words, off_range, off_words, is_crossed, crossed_words, first_crossed, demand_words, day_words, rule_words};
+ghost use Rattle.plain_words.specs.RuleWords.{class_words, most_words, least_words, pair_words, triple_words, pair_in_words, triple_in_words, shift_words, wanted_words, off_range, needs_words, off_words, is_crossed, crossed_words, first_crossed, demand_words, day_words, rule_words};
 
 use crate::words::{put_days, put_name_words, put_range, put_symbol_words, put_weeks};
 use rwsp_model::Problem;
@@ -13,9 +13,9 @@ use rwsp_terms::{Bounds, Class, Rule, Symbol};
 use rwsp_text::put_number;
 use std::alloc::AllocError;
 
-// Appends the days that the blocks of a class are made of.
+/// Appends the days that the blocks of a class are made of.
 #[tactic(auto, unfolding(crate::specs::RuleWords::class_words))]
-fn put_class(out: &mut Vec<u8>, problem: &Problem, class: Class) -> Result<(), AllocError>
+pub fn put_class(out: &mut Vec<u8>, problem: &Problem, class: Class) -> Result<(), AllocError>
     requires { IsClass problem.now class }
     ensures { OnOk result (out.new.items ≡ out.old.items ++ class_words problem.now class) }
 {
@@ -29,9 +29,9 @@ fn put_class(out: &mut Vec<u8>, problem: &Problem, class: Class) -> Result<(), A
     }
 }
 
-// Appends the greatest length of the blocks of a class.
+/// Appends the greatest length of the blocks of a class.
 #[tactic(auto, unfolding(crate::specs::RuleWords::most_words))]
-fn put_most(out: &mut Vec<u8>, problem: &Problem, class: Class) -> Result<(), AllocError>
+pub fn put_most(out: &mut Vec<u8>, problem: &Problem, class: Class) -> Result<(), AllocError>
     requires { IsClass problem.now class }
     ensures { OnOk result (out.new.items ≡ out.old.items ++ most_words problem.now class) }
 {
@@ -41,9 +41,9 @@ fn put_most(out: &mut Vec<u8>, problem: &Problem, class: Class) -> Result<(), Al
     out.extend_from_slice(b" in a row")
 }
 
-// Appends the least length of the blocks of a class.
+/// Appends the least length of the blocks of a class.
 #[tactic(auto, unfolding(crate::specs::RuleWords::least_words))]
-fn put_least(out: &mut Vec<u8>, problem: &Problem, class: Class) -> Result<(), AllocError>
+pub fn put_least(out: &mut Vec<u8>, problem: &Problem, class: Class) -> Result<(), AllocError>
     requires { IsClass problem.now class }
     ensures { OnOk result (out.new.items ≡ out.old.items ++ least_words problem.now class) }
 {
@@ -83,9 +83,9 @@ fn put_triple(
     put_symbol_words(out, problem, triple.2)
 }
 
-// Appends the forbidden pair at a place.
+/// Appends the forbidden pair at a place.
 #[tactic(auto, unfolding(crate::specs::RuleWords::pair_in_words))]
-fn put_pair_at(out: &mut Vec<u8>, problem: &Problem, place: u32) -> Result<(), AllocError>
+pub fn put_pair_at(out: &mut Vec<u8>, problem: &Problem, place: u32) -> Result<(), AllocError>
     requires { place < length problem.now.pairs }
     ensures { OnOk result (out.new.items
         ≡ out.old.items ++ pair_in_words problem.now (slice_get problem.now.pairs place)) }
@@ -94,9 +94,9 @@ fn put_pair_at(out: &mut Vec<u8>, problem: &Problem, place: u32) -> Result<(), A
     put_pair(out, problem, problem.pairs()[place as usize])
 }
 
-// Appends the forbidden triple at a place.
+/// Appends the forbidden triple at a place.
 #[tactic(auto, unfolding(crate::specs::RuleWords::triple_in_words))]
-fn put_triple_at(out: &mut Vec<u8>, problem: &Problem, place: u32) -> Result<(), AllocError>
+pub fn put_triple_at(out: &mut Vec<u8>, problem: &Problem, place: u32) -> Result<(), AllocError>
     requires { place < length problem.now.triples }
     ensures { OnOk result (out.new.items
         ≡ out.old.items ++ triple_in_words problem.now (slice_get problem.now.triples place)) }
@@ -122,9 +122,9 @@ pub fn demand_of(problem: &Problem, number: u8, day: u32) -> Bounds
     }
 }
 
-// Appends the name of a shift by its number.
+/// Appends the name of a shift by its number.
 #[tactic(auto, unfolding(crate::specs::RuleWords::shift_words))]
-fn put_shift(out: &mut Vec<u8>, problem: &Problem, number: u8) -> Result<(), AllocError>
+pub fn put_shift(out: &mut Vec<u8>, problem: &Problem, number: u8) -> Result<(), AllocError>
     requires { (0 < number) × (number ≤ shift_count problem.now) }
     ensures { OnOk result (out.new.items ≡ out.old.items ++ shift_words problem.now number) }
 {
@@ -176,6 +176,18 @@ fn off_range(problem: &Problem, day: u32) -> Bounds
     }
 }
 
+// Appends that a day needs more weeks than there are.
+#[tactic(auto, unfolding(crate::specs::RuleWords::needs_words))]
+fn put_needs(out: &mut Vec<u8>, needed: u32, weeks: u32) -> Result<(), AllocError>
+    ensures { OnOk result (out.new.items ≡ out.old.items ++ needs_words needed weeks) }
+{
+    out.extend_from_slice(b"which needs ")?;
+    put_number(out, u64::from(needed))?;
+    out.extend_from_slice(b" of ")?;
+    put_weeks(out, weeks)?;
+    Ok(())
+}
+
 // Appends what the shifts of a day leave for the day off, or that they need more weeks than there are.
 #[tactic(auto, unfolding(crate::specs::RuleWords::off_words))]
 fn put_off(out: &mut Vec<u8>, problem: &Problem, day: u32) -> Result<(), AllocError>
@@ -184,10 +196,7 @@ fn put_off(out: &mut Vec<u8>, problem: &Problem, day: u32) -> Result<(), AllocEr
 {
     let needed = least_of_day(problem, day);
     if problem.weeks() < needed {
-        out.extend_from_slice(b"which needs ")?;
-        put_number(out, u64::from(needed))?;
-        out.extend_from_slice(b" of ")?;
-        put_weeks(out, problem.weeks())
+        put_needs(out, needed, problem.weeks())
     } else {
         out.extend_from_slice(b"off ")?;
         put_range(out, off_range(problem, day))
@@ -204,9 +213,14 @@ pub fn is_crossed(problem: &Problem, day: u32, number: u8) -> bool
     range.greatest < range.least
 }
 
-// Appends that no number meets the demand of a shift on a day.
+/// Appends that no number meets the demand of a shift on a day.
 #[tactic(auto, unfolding(crate::specs::RuleWords::crossed_words))]
-fn put_crossed(out: &mut Vec<u8>, problem: &Problem, day: u32, number: u8) -> Result<(), AllocError>
+pub fn put_crossed(
+    out: &mut Vec<u8>,
+    problem: &Problem,
+    day: u32,
+    number: u8,
+) -> Result<(), AllocError>
     requires day { IsDay problem.now day }
     requires shift { (0 < number) × (number ≤ shift_count problem.now) }
     ensures { OnOk result (out.new.items ≡ out.old.items ++ crossed_words problem.now day number) }

@@ -1,0 +1,5 @@
+pub mod Pieces
+pub mod Said
+pub mod Minutes
+pub mod Misfits
+pub mod Sentences

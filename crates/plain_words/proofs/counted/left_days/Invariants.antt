@@ -1,0 +1,10 @@
+use Rattle.std.proofs.Common.{◌≡◌, ◌*◌, ◌≤◌}
+use Rattle.std.specs.List.{range_with_len, sum_by}
+use Rattle.plain_words.specs.Counting.{left_on_day}
+use Rattle.plain_words.proofs.counted.left_days.Given as goal
+
+abbrev pub invariant-loop-i : goal.invariant-loop-i
+invariant-loop-i l = record {
+  total : l.sum ≡ sum_by (left_on_day l.problem) (range_with_len 1 l.i);
+  few : l.sum ≤ 600 * l.i;
+}

@@ -1,0 +1,12 @@
+use Rattle.std.specs.List.{flat_map, range_with_len}
+use Rattle.std.proofs.Common.{length}
+use Rattle.rwsp_terms.specs.Instance.{shift_count}
+use Rattle.rwsp_terms.specs.declared.data.Class.TheVariants.{Off, Work}
+use Rattle.plain_words.specs.Sentences.{shift_slips, crossed_blocks, pair_slips_at, triple_slips_at, day_slips}
+use Rattle.plain_words.proofs.Said.{six_parts}
+use Rattle.plain_words.proofs.slips.put_slips.Goals as goal
+
+pub returns : goal.returns
+returns c =
+    let P = c.args.problem.now in
+    six_parts P (flat_map (shift_slips P) (range_with_len 1 (shift_count P))) (crossed_blocks P Off) (crossed_blocks P Work) (flat_map (pair_slips_at P) (range_with_len 0 (length P.pairs))) (flat_map (triple_slips_at P) (range_with_len 0 (length P.triples))) (flat_map (day_slips P) (range_with_len 1 P.days)) c.args.out.now.items c.put_all_shift_slips.new.out.items c.put_crossed_blocks.new.out.items c.put_crossed_blocks-2.new.out.items c.put_all_pair_slips.new.out.items c.put_all_triple_slips.new.out.items c.put_all_day_slips.new.out.items c.in_ok-put_all_shift_slips.ensures c.in_ok-put_crossed_blocks.ensures c.in_ok-put_crossed_blocks-2.ensures c.in_ok-put_all_pair_slips.ensures c.in_ok-put_all_triple_slips.ensures c.in_ok-put_all_day_slips.ensures

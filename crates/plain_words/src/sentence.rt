@@ -1,0 +1,42 @@
+// What is said of a problem, sentence by sentence.
+use rwsp_terms::{Class, Symbol};
+
+/// A shift whose line has a number for its long name: the line, which shift it is, the number, and what is read as the
+/// bounds of its blocks. Lines and shifts count from 1.
+#[derive(Clone, Copy)]
+pub struct LongNumber {
+    pub line: u32,
+    pub shift: u32,
+    pub long_name: u32,
+    pub least: u32,
+    pub greatest: u32,
+}
+
+/// A sentence about a problem. Rules, days and shifts count from 1, pairs and triples from 0.
+#[derive(Clone, Copy)]
+pub enum Sentence {
+    /// Its weeks, days and shifts.
+    Size,
+    /// The mean of the hours a week that the demand comes to.
+    Hours,
+    /// A rule by its number.
+    OfRule(u32),
+    /// The least block of a class is longer than the greatest.
+    CrossedBlocks(Class),
+    /// The least block of a shift is longer than the greatest of work.
+    LongBlocks(u8),
+    /// A pair, and an equal one behind it.
+    TwicePair(u32, u32),
+    /// A triple, and an equal one behind it.
+    TwiceTriple(u32, u32),
+    /// The demand of a day for a shift has its least number above its greatest.
+    CrossedDemand(u32, u8),
+    /// The demand of a day for a shift has a number above that of the weeks.
+    LargeDemand(u32, u8),
+    /// A day demands more than there are weeks.
+    LargeDay(u32),
+    /// A shift's long name is a number.
+    NumericName(LongNumber),
+    /// No number of blocks of a symbol has as many days as the demand asks for.
+    Counted(Symbol),
+}
