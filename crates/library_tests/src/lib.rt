@@ -3,6 +3,8 @@
 #![tactic(auto)]
 
 #[cfg(test)]
+mod answer_words_tests;
+#[cfg(test)]
 mod crew_calendar_tests;
 #[cfg(test)]
 mod made_problems_tests;

@@ -1,3 +1,7 @@
+pub mod LogWords
+pub mod Fitting
+pub mod OneSaid
+pub mod SaidLaws
 pub mod Pieces
 pub mod Said
 pub mod Minutes

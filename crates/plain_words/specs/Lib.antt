@@ -5,3 +5,10 @@ pub mod Sentences
 pub mod SentenceText
 pub mod ProblemWords
 pub mod Laws
+pub mod Causes
+pub mod Statements
+pub mod LogWords
+pub mod LineAnswers
+pub mod AcceptedRules
+pub mod AnswerWords
+pub mod AnswerLaws

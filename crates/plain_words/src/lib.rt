@@ -1,19 +1,31 @@
-//! What a problem says, in words.
+//! What a problem says, and what the answers of commands say of it, in words.
 #![tactic(auto)]
 
+mod accepted;
+mod answer;
+mod answer_laws;
+mod cause;
 mod counted;
 mod hours;
 mod laws;
+mod line_answer;
+mod log_text;
+mod log_words;
 mod problem;
 mod rule_words;
 mod sentence;
 mod sentence_text;
 mod slips;
 mod span;
+mod statement;
 mod words;
 
+pub use answer::answer_words;
+pub use answer_laws::{answers_say_one, counted_are_leaves_of, named_rules_are_said};
+pub use cause::{Cause, Count, Short};
 pub use laws::{counted_are_leaves, rules_are_said_once};
 pub use problem::problem_words;
 pub use rule_words::put_rule_words;
 pub use sentence::{LongNumber, Sentence};
+pub use statement::{Rosters, Statement};
 pub use words::{put_days, put_name_words, put_range, put_symbol_words, put_weeks};

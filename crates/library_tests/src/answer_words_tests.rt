@@ -1,0 +1,99 @@
+// Answers in words, as they were written by hand.
+use plain_words::answer_words;
+use std::alloc::Global;
+use std::test::Fail;
+use test_helpers::{LONG_BLOCKS, THREE_IN_FIVE, TWOS_IN_SIX, problem_of};
+
+const SHORT: [(&[u8], &[u8]); 12] = [
+    (
+        b"accepted: rules 1 3\n",
+        b"no roster meets these rules together (the log is the proof):\n1: at most 2 days of D in a row\n3: at most 2 days off in a row\n",
+    ),
+    (b"accepted: rules\n", b"there is no roster, whatever the rules\n"),
+    (
+        b"accepted: goal 1 rules 4\n",
+        b"no roster with 1 free weekend or more meets these rules together (the log is the proof):\n4: at least 2 days off in a row\n",
+    ),
+    (
+        b"accepted: least 11 from 8\n",
+        b"11 weeks, and so as many employees, are enough, and 8 to 10 are not\n",
+    ),
+    (
+        b"accepted: least 11 from 11\n",
+        b"11 weeks, and so as many employees, are enough; fewer were not tried\n",
+    ),
+    (b"accepted: none 8 to 10\n", b"8 to 10 weeks have no roster\n"),
+    (
+        b"log refused: fails line 4\n",
+        b"line 4 of the log says what doesn't hold\n",
+    ),
+    (
+        b"log refused: unnamed 4 line 5\n",
+        b"line 5 of the log rests on rule 4, which it doesn't name: at least 2 days off in a row\n",
+    ),
+    (
+        b"roster refused: weeks 0\n",
+        b"the roster has 0 weeks, and the problem another number\n",
+    ),
+    (b"meets\n", b"the roster meets every rule\n"),
+    (b"accepted: rules 3 1\n", b""),
+    (b"meets", b""),
+];
+
+const LOGS: [(&[u8], &[u8], &[u8]); 5] = [
+    (
+        TWOS_IN_SIX,
+        b"rwsp-log 2\nrules 1 2 7\nturn D 1\ndead 1 1 7 rules 1 2\n",
+        b"no roster meets these rules together (the log is the proof):\n1: at most 2 days of D in a row\n2: at least 2 days of D in a row\n7: only that somebody works D on day 1\n",
+    ),
+    (
+        TWOS_IN_SIX,
+        b"rwsp-log 2\nrules 7\nturn D 1\nsplit 2 1 D\nday 1 D over\nopen\n",
+        b"1 case is closed and 1 was left open, so nothing is known of rosters as a whole\n",
+    ),
+    (
+        THREE_IN_FIVE,
+        b"rwsp-log 3\nrules 1 2 7\nturn D 1\nblocks D\n",
+        b"no roster meets these rules together (the log is the proof):\n1: at most 2 days of D in a row\n2: at least 2 days of D in a row\n7: day 1: D 3, off 2\ncounting shows it: 3 days of D cannot be made of blocks of 2 days: 1 block has at most 2 days, and 2 at least 4\n",
+    ),
+    (
+        LONG_BLOCKS,
+        b"rwsp-free 1\nrules 3\ngoal 2\nfree 1 1 rules 3 weights\n",
+        b"no roster with 2 free weekends or more meets these rules together (the log is the proof):\n3: at most 4 days off in a row\n",
+    ),
+    (
+        LONG_BLOCKS,
+        b"rwsp-free 1\nrules\ngoal 0\nopen\n",
+        b"0 cases are closed and 1 was left open, so nothing is known of rosters as a whole\n",
+    ),
+];
+
+fn words(alloc: Global, problem: &[u8], text: &[u8]) -> Result<Vec<u8>, Fail> {
+    if text.len() > 10_000 {
+        return Err(Fail::from("a long text"));
+    }
+    let problem = problem_of(alloc, problem)?;
+    let told = answer_words(alloc, &problem, text)?;
+    match told {
+        Some(told) => Ok(told),
+        None => Ok(Vec::new(alloc)),
+    }
+}
+
+#[test]
+fn short_answers_in_words(rt: HostRuntime) -> Result<(), Fail> {
+    for (text, expected) in SHORT {
+        let told = words(rt.alloc(), TWOS_IN_SIX, text)?;
+        assert_eq!(rt; told.as_slice(), expected);
+    }
+    Ok(())
+}
+
+#[test]
+fn logs_in_words(rt: HostRuntime) -> Result<(), Fail> {
+    for (problem, text, expected) in LOGS {
+        let told = words(rt.alloc(), problem, text)?;
+        assert_eq!(rt; told.as_slice(), expected);
+    }
+    Ok(())
+}

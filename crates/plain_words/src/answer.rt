@@ -1,0 +1,60 @@
+// What an answer says, in words.
+ghost use Rattle.std.specs.Prelude.{◌≤◌, length, IfOk, MatchOption};
+ghost use Rattle.rwsp_terms.specs.declared.limits.TheConstants.{LONGEST_LOG};
+ghost use Rattle.refutation_terms.specs.declared.lines.LogKind.TheVariants.{WithGoal};
+ghost use Rattle.plain_words.specs.AnswerWords.{SaysNothing, OrElse, LogSays, LineOf, AnswerSays};
+
+use crate::accepted::accepted_line_words;
+use crate::line_answer::line_words;
+use crate::log_text::log_words;
+use refutation_log::LogKind;
+use rwsp_model::Problem;
+use std::alloc::{AllocError, Global};
+
+/// What the bytes of an answer say in words, a line for each statement; None where they are no answer to the problem.
+/// The time grows with the bytes.
+pub fn answer_words(
+    alloc: Global,
+    problem: &Problem,
+    bytes: &[u8],
+) -> Result<Option<Vec<u8>>, AllocError>
+    requires { length bytes.now ≤ LONGEST_LOG }
+    ensures { IfOk result (λ found. MatchOption found
+        (SaysNothing (AnswerSays problem.now bytes.now)) (λ v. AnswerSays problem.now bytes.now v.items)) }
+{
+    if let Some(text) = log_words(alloc, problem, LogKind::WithoutGoal, bytes)? {
+        return Ok(Some(text));
+    }
+    let found = behind_logs(alloc, problem, bytes)?;
+    Ok(found)
+}
+
+// What bytes say that are no log without a goal.
+fn behind_logs(
+    alloc: Global,
+    problem: &Problem,
+    bytes: &[u8],
+) -> Result<Option<Vec<u8>>, AllocError>
+    requires { length bytes.now ≤ LONGEST_LOG }
+    ensures { IfOk result (λ found. MatchOption found
+        (SaysNothing (OrElse (LogSays problem.now WithGoal bytes.now) (LineOf problem.now bytes.now)))
+        (λ v. OrElse (LogSays problem.now WithGoal bytes.now) (LineOf problem.now bytes.now) v.items)) }
+{
+    if let Some(text) = log_words(alloc, problem, LogKind::WithGoal, bytes)? {
+        return Ok(Some(text));
+    }
+    let found = line_of(alloc, problem, bytes)?;
+    Ok(found)
+}
+
+// What bytes say that are one line.
+fn line_of(alloc: Global, problem: &Problem, bytes: &[u8]) -> Result<Option<Vec<u8>>, AllocError>
+    ensures { IfOk result (λ found. MatchOption found
+        (SaysNothing (LineOf problem.now bytes.now)) (λ v. LineOf problem.now bytes.now v.items)) }
+{
+    if let Some(text) = accepted_line_words(alloc, problem, bytes)? {
+        return Ok(Some(text));
+    }
+    let found = line_words(alloc, problem, bytes)?;
+    Ok(found)
+}
