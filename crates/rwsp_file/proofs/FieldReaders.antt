@@ -16,10 +16,14 @@ use Rattle.rwsp_model.specs.Validity.{IsSmallRange, is_between, is_small_range}
 use Rattle.rwsp_model.proofs.Limits.{Decides-leb, Decides-between, Decides-small_range}
 use Rattle.rwsp_file.specs.Spelling.{IsDemand, IsRange}
 use Rattle.rwsp_file.specs.Spelling.FileField.{NumberField, DemandField}
-use Rattle.rwsp_file.specs.Reading.{◌>>=◌, or_refuse, limited, number_at, limited_weeks, weeks_at, limited_demand, demand_at, written_demand, range_or, range_of, range_from, is_dot}
+use Rattle.rwsp_file.specs.Reading.{◌>>=◌, or_refuse, limit_of, limited, number_at, limited_weeks, weeks_at, limited_demand, demand_at, written_demand, range_or, range_of, range_from, is_dot}
 use Rattle.rwsp_file.proofs.Readers.{IsReader, Gives, gives_like, gives_some, gives_tested, then_gives, word_reader}
-use Rattle.rwsp_file.specs.declared.refusal.FileRefusal.{FileRefusal}
-use Rattle.rwsp_file.specs.declared.refusal.FileRefusal.TheVariants.{Number, Range}
+use Rattle.rwsp_file.specs.declared.misfit.Misfit.{Misfit}
+use Rattle.rwsp_file.specs.declared.misfit.Misfit.TheVariants.{BadWord}
+use Rattle.rwsp_file.specs.declared.misfit.Fault.TheVariants.{NoNumber, Beyond, TooManyDays}
+use Rattle.rwsp_file.specs.declared.misfit.Place.{Place}
+use Rattle.rwsp_file.specs.declared.misfit.Place.TheVariants.{Weeks}
+use Rattle.rwsp_file.specs.declared.limits.Limit.{Limit}
 use Rattle.std.proofs.lemmas.List.Folds.{list_all-append}
 use Rattle.std.proofs.lemmas.Bool.{eqb-true, and_parts}
 use Rattle.std.proofs.Math.Seq.{take-append_seam, drop-append-add}
@@ -27,20 +31,20 @@ use Rattle.std.proofs.Math.Bool.{and-false}
 use Rattle.std.proofs.lemmas.Option.{same_Some}
 
 -- what is there and passes a test
-gives_checked : {A : Type 0} (P : A → Type 0) (o : Option A) (test : A → Bool) (why bad : FileRefusal) → ((x : A) → Decides (test x) (P x)) → Gives (λ x. P x × (o ≡ Some x)) (or_refuse o why >>= (λ m. if test m then Ok m else Err bad))
+gives_checked : {A : Type 0} (P : A → Type 0) (o : Option A) (test : A → Bool) (why bad : Misfit) → ((x : A) → Decides (test x) (P x)) → Gives (λ x. P x × (o ≡ Some x)) (or_refuse o why >>= (λ m. if test m then Ok m else Err bad))
 gives_checked P o test why bad decides =
     gives_like (λ x h. ((decides x).0 h.1.0, h.0)) (λ x h. (h.1, ((decides x).1 h.0, refl)))
     (then_gives (λ x. x) (gives_some o why) (λ x _. gives_tested (test x) x bad) (λ x y c. c.1))
 
 -- a number that keeps its limit
-pub limited_gives : (limit least greatest : ℕ) (w : Lexeme) → Gives (λ n. ((least ≤ n) × (n ≤ greatest)) × (number_of w.text ≡ Some n)) (limited limit least greatest w)
+pub limited_gives : (awaited : Place) (limit : Limit) (w : Lexeme) → Gives (λ n. ((limit.least ≤ n) × (n ≤ limit.greatest)) × (number_of w.text ≡ Some n)) (limited awaited limit w)
 unfolding limited
-limited_gives limit least greatest w =
-    gives_checked (λ n. (least ≤ n) × (n ≤ greatest)) (number_of w.text) (is_between least greatest) (Number w.line) (Range w.line limit) (Decides-between least greatest)
+limited_gives awaited limit w =
+    gives_checked (λ n. (limit.least ≤ n) × (n ≤ limit.greatest)) (number_of w.text) (is_between limit.least limit.greatest) (BadWord awaited w NoNumber) (BadWord awaited w (Beyond limit)) (Decides-between limit.least limit.greatest)
 
-pub number_reader : (limit least greatest : ℕ) → IsReader (λ n. (least ≤ n) × (n ≤ greatest)) (λ n. NumberField n ∷ []) (number_at limit least greatest)
+pub number_reader : (awaited : Place) (limit : Limit) → IsReader (λ n. (limit.least ≤ n) × (n ≤ limit.greatest)) (λ n. NumberField n ∷ []) (number_at awaited limit)
 unfolding number_at
-number_reader limit least greatest = word_reader NumberField (limited_gives limit least greatest) (λ n w fs ws is s. (is, s)) (λ n w fs ws s. s)
+number_reader awaited limit = word_reader awaited NumberField (limited_gives awaited limit) (λ n w fs ws is s. (is, s)) (λ n w fs ws s. s)
 
 -- weeks that keep both limits
 abbrev pub AreWeeks : ℕ → ℕ → Type 0
@@ -50,11 +54,11 @@ weeks_gives : (days : ℕ) (w : Lexeme) → Gives (λ n. AreWeeks days n × (num
 unfolding limited_weeks
 weeks_gives days w =
     gives_like (λ n h. ((h.0.0, (Decides-leb (n * days) MOST_CELLS).0 h.1.0), h.0.1)) (λ n h. ((h.0.0, h.1), ((Decides-leb (n * days) MOST_CELLS).1 h.0.1, refl)))
-    (then_gives (λ n. n) (limited_gives 2 1 MOST_WEEKS w) (λ m _. gives_tested (nat_le (m * days) MOST_CELLS) m (Range w.line 3)) (λ m n c. c.1))
+    (then_gives (λ n. n) (limited_gives Weeks (limit_of 2 1 MOST_WEEKS) w) (λ m _. gives_tested (nat_le (m * days) MOST_CELLS) m (BadWord Weeks w (TooManyDays m days))) (λ m n c. c.1))
 
 pub weeks_reader : (days : ℕ) → IsReader (AreWeeks days) (λ n. NumberField n ∷ []) (weeks_at days)
 unfolding weeks_at
-weeks_reader days = word_reader NumberField (weeks_gives days) (λ n w fs ws is s. (is, s)) (λ n w fs ws s. s)
+weeks_reader days = word_reader Weeks NumberField (weeks_gives days) (λ n w fs ws is s. (is, s)) (λ n w fs ws s. s)
 
 -- numbers have no dot
 
@@ -149,12 +153,12 @@ demand_only text b (inr r) =
     let both : (number_of text ≡ None) × (range_of text ≡ Some b) = range_only text b r in
     ap (range_or (range_of text)) both.0 ∙ both.1
 
-demand_gives : (w : Lexeme) → Gives (λ b. IsSmallRange b × IsDemand b w.text) (limited_demand w)
+demand_gives : (awaited : Place) (w : Lexeme) → Gives (λ b. IsSmallRange b × IsDemand b w.text) (limited_demand awaited w)
 unfolding limited_demand
-demand_gives w =
+demand_gives awaited w =
     gives_like (λ b h. (h.0, demand_found w.text b h.1)) (λ b h. (h.0, demand_only w.text b h.1))
-    (gives_checked IsSmallRange (written_demand w.text) is_small_range (Number w.line) (Range w.line 5) Decides-small_range)
+    (gives_checked IsSmallRange (written_demand w.text) is_small_range (BadWord awaited w NoNumber) (BadWord awaited w (Beyond (limit_of 5 0 MOST_WEEKS))) Decides-small_range)
 
-pub demand_reader : IsReader IsSmallRange (λ b. DemandField b ∷ []) demand_at
+pub demand_reader : (awaited : Place) → IsReader IsSmallRange (λ b. DemandField b ∷ []) (demand_at awaited)
 unfolding demand_at
-demand_reader = word_reader DemandField demand_gives (λ b w fs ws is s. (is, s)) (λ b w fs ws s. s)
+demand_reader awaited = word_reader awaited DemandField (demand_gives awaited) (λ b w fs ws is s. (is, s)) (λ b w fs ws s. s)

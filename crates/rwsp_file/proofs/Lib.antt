@@ -1,5 +1,6 @@
 pub mod ManySteps
 pub mod Names
+pub mod Taken
 pub mod Lines
 pub mod Readers
 pub mod FieldReaders
@@ -16,3 +17,5 @@ pub mod PrintedLines
 pub mod Printing
 pub mod Lengths
 pub mod TextSteps
+pub mod Pieces
+pub mod Explained

@@ -1,5 +1,5 @@
 -- The tokens of a line and the lexemes that they stand for.
-use Rattle.std.proofs.Common.{◌≡◌, ℕ, zero, suc, ◌+◌, ◌≤◌, List, [], ◌∷◌, length, Bool, true, false, not, cond, Some, None, refl, ap, sym, ◌∙◌, arith, map, take, drop, nat_lt, ◌==◌, ◌||◌}
+use Rattle.std.proofs.Common.{◌≡◌, ℕ, zero, suc, ◌+◌, ◌≤◌, List, [], ◌∷◌, length, Bool, true, false, not, cond, Some, None, refl, ap, sym, ◌∙◌, arith, map, take, drop, nat_lt, ◌==◌, ◌||◌, Result, Ok, Err, IfOk, Vec, Global}
 use Rattle.std.specs.Prelude.{position, unwrap_or, is_some}
 use Rattle.std.specs.List.{prefix_len, AllByRecursion, list_any}
 use Rattle.std.proofs.lemmas.List.{take-map, drop-map}
@@ -11,6 +11,7 @@ use Rattle.rwsp_text.specs.declared.scan.Token.{Token}
 use Rattle.rwsp_file.specs.Spelling.{is_on_line, on_line, past_line}
 use Rattle.rwsp_file.specs.Reading.{Unread}
 use Rattle.rwsp_file.proofs.Names.{prefix_len-map}
+use Rattle.rwsp_file.proofs.Taken.{mapped_twice}
 
 twice_not_cons : (b : Bool) (m n : ℕ) → m ≡ n → cond (not (not b)) (1 + m) 0 ≡ cond b (1 + n) 0
 twice_not_cons true m n e = ap (λ k. 1 + k) e
@@ -79,3 +80,10 @@ line_left bytes tokens rest n line end u v seen same count left = (
 
 pub same_unread : (ls ms : List Lexeme) (a b : ℕ) → (ls ≡ ms) × (a ≡ b) → unread ls a ≡ unread ms b
 same_unread ls ms a b e = ap (λ l. unread l a) e.0 ∙ ap (λ k. unread ms k) e.1
+
+-- the lines of the tokens are those of the lexemes
+pub lines_seen : {E : Type 0} (r : Result (Vec ℕ Global) E) (bytes : List ℕ) (tokens : List Token) (u v : Unread) (end : ℕ) → v ≡ unread (map (lexeme_at bytes) tokens) end → v ≡ u → IfOk r (λ lines. lines.items ≡ map (λ (t : Token). t.line) tokens) →
+    IfOk r (λ lines. lines.items ≡ map (λ (w : Lexeme). w.line) u.lexemes)
+lines_seen (Ok lines) bytes tokens u v end seen same h =
+    h ∙ sym (mapped_twice (lexeme_at bytes) (λ (w : Lexeme). w.line) tokens) ∙ ap (λ (w : Unread). map (λ (x : Lexeme). x.line) w.lexemes) (sym seen ∙ same)
+lines_seen (Err e) bytes tokens u v end seen same h = tt

@@ -1,13 +1,15 @@
 -- The laws of texts, instances and refusals.
 use Rattle.std.proofs.Common.{◌≡◌, ℕ, List, Result, Ok, Err, refl, sym, ◌∙◌}
 use Rattle.std.specs.Prelude.{MatchOption}
+use Rattle.std.specs.Option.{option_map}
 use Rattle.rwsp_text.specs.Lexemes.{lexemes}
 use Rattle.rwsp_terms.specs.Instance.{Instance}
 use Rattle.rwsp_model.proofs.Limits.{valid_keeps}
 use Rattle.rwsp_file.specs.Spelling.{Spell, file_fields, SpellsProblem}
-use Rattle.rwsp_file.specs.Reading.{reading, unread_of, refusal_in}
+use Rattle.rwsp_file.specs.Reading.{reading, unread_of, misfit_in}
+use Rattle.rwsp_file.specs.Misfits.{refusal_of}
 use Rattle.rwsp_file.specs.Laws.{TextsSpellOne, TextsSpellOrFail}
-use Rattle.rwsp_file.specs.declared.refusal.FileRefusal.{FileRefusal}
+use Rattle.rwsp_file.specs.declared.misfit.Misfit.{Misfit}
 use Rattle.rwsp_file.proofs.Readers.{ok_same, given}
 use Rattle.rwsp_file.proofs.Whole.{IsRead, instance_reader}
 use Rattle.rwsp_file.proofs.WordForms.{lexemes_are_words}
@@ -26,11 +28,11 @@ spells_reading bytes P s = (instance_reader.gives (unread_of bytes)).only P (kee
 pub texts_spell_one : TextsSpellOne
 texts_spell_one bytes P Q s t = ok_same P Q (sym (spells_reading bytes P s) ∙ spells_reading bytes Q t)
 
-differ : (P : Instance) (why : FileRefusal) → given P ≡ Err why → ⊥
+differ : (P : Instance) (why : Misfit) → given P ≡ Err why → ⊥
 differ P why e = absurd (cc)
 
 pub texts_spell_or_fail : TextsSpellOrFail
 texts_spell_or_fail bytes = at (reading (unread_of bytes)) refl where
-  at : (r : Result Instance FileRefusal) → reading (unread_of bytes) ≡ r → MatchOption (refusal_in r) ((P : Instance) × SpellsProblem bytes P) (λ why. (P : Instance) → SpellsProblem bytes P → ⊥)
+  at : (r : Result Instance Misfit) → reading (unread_of bytes) ≡ r → MatchOption (option_map refusal_of (misfit_in r)) ((P : Instance) × SpellsProblem bytes P) (λ why. (P : Instance) → SpellsProblem bytes P → ⊥)
   at (Ok P) e = (P, reading_spells bytes P e)
   at (Err why) e = λ P s. differ P why (sym (spells_reading bytes P s) ∙ e)

@@ -1,11 +1,14 @@
 -- Laws of texts, instances and refusals.
-use Rattle.std.specs.Prelude.{◌≡◌, ℕ, ◌≤◌, List, length, MatchOption}
+use Rattle.std.specs.Prelude.{◌≡◌, ℕ, ◌≤◌, List, ◌++◌, length, Some, None, MatchOption, codes}
+use Rattle.std.specs.Fmt.{decimal}
 use Rattle.rwsp_terms.specs.declared.limits.TheConstants.{LONGEST_FILE}
 use Rattle.rwsp_terms.specs.Instance.{Instance}
 use Rattle.rwsp_model.specs.Validity.{IsValid}
 use Rattle.rwsp_file.specs.Spelling.{SpellsProblem}
 use Rattle.rwsp_file.specs.Reading.{file_refusal}
 use Rattle.rwsp_file.specs.Text.{problem_text}
+use Rattle.rwsp_file.specs.RefusalText.{refused_line}
+use Rattle.rwsp_file.specs.RefusalWords.{refusal_words}
 
 -- a text spells at most one instance
 abbrev pub TextsSpellOne : Type 0
@@ -28,3 +31,12 @@ CanonicalTextsSpell =
 -- and is short enough to be read again
 abbrev pub CanonicalTextsAreShort : Type 0
 CanonicalTextsAreShort = (P : Instance) → IsValid P → length (problem_text P) ≤ LONGEST_FILE
+
+-- a text is explained exactly where it is refused, and at the line of the refusal
+abbrev pub RefusalsAreExplained : Type 0
+RefusalsAreExplained =
+    (bytes : List ℕ)
+    → MatchOption (file_refusal bytes)
+    (refusal_words bytes ≡ None)
+    (λ why. (words : List ℕ)
+    × (refusal_words bytes ≡ Some (codes "line " ++ decimal (refused_line why) ++ codes ": " ++ words)))

@@ -1,6 +1,10 @@
 pub mod Spelling
+pub mod Misfits
 pub mod Reading
 pub mod Text
+pub mod RefusalText
+pub mod LikelyCauses
+pub mod RefusalWords
+pub mod LongNumbers
 pub mod Laws
 pub mod Reads
-pub mod RefusalText

@@ -1,5 +1,5 @@
 -- Reading the lexemes of a text one after another, up to the first failure.
-use Rattle.std.specs.Prelude.{ℕ, zero, suc, ◌*◌, List, [], ◌∷◌, ◌++◌, length, Option, Some, None, Result, Ok, Err, Bool, not, ◌&&◌, ◌==◌, nat_le, if◌then◌else◌}
+use Rattle.std.specs.Prelude.{ℕ, zero, suc, ◌*◌, List, [], ◌∷◌, ◌++◌, length, Option, Some, None, Result, Ok, Err, Bool, not, ◌&&◌, ◌==◌, nat_le, if◌then◌else◌, position, unwrap_or, ◌+◌}
 use Rattle.std.specs.Option.{option_map}
 use Rattle.std.specs.List.{list_any, before_first, after_first}
 use Rattle.std.specs.Str.{bytes_eq}
@@ -15,8 +15,15 @@ use Rattle.rwsp_file.specs.Spelling.{on_line, past_line}
 use Rattle.rwsp_file.specs.declared.fields.Size.{Size}
 use Rattle.rwsp_file.specs.declared.fields.Frame.{Frame}
 use Rattle.rwsp_file.specs.declared.row.RowWords.{RowWords}
+use Rattle.rwsp_file.specs.declared.limits.Limit.{Limit}
 use Rattle.rwsp_file.specs.declared.refusal.FileRefusal.{FileRefusal}
-use Rattle.rwsp_file.specs.declared.refusal.FileRefusal.TheVariants.{Ends, Number, Range, Row, Name, Unknown, Extra}
+use Rattle.rwsp_file.specs.declared.misfit.Place.{Place}
+use Rattle.rwsp_file.specs.declared.misfit.Place.TheVariants.{Days, Weeks, Shifts, Demand, ShiftLine, ShiftName, Start, Minutes, LeastBlock, GreatestBlock, LeastOff, GreatestOff, LeastWork, GreatestWork, Pairs, Triples, InPair, InTriple, TextEnd}
+use Rattle.rwsp_file.specs.declared.misfit.Fault.{Fault}
+use Rattle.rwsp_file.specs.declared.misfit.Fault.TheVariants.{NoNumber, Beyond, TooManyDays, WordCount, LongName, OffName, TakenName, NoSymbol, NotEnd}
+use Rattle.rwsp_file.specs.declared.misfit.Misfit.{Misfit}
+use Rattle.rwsp_file.specs.declared.misfit.Misfit.TheVariants.{TextEnds, BadWord}
+use Rattle.rwsp_file.specs.Misfits.{refusal_of}
 
 -- what is left of a text: its lexemes, and the number of the line on which it ends
 pub record Unread : Type 0 where
@@ -24,51 +31,55 @@ pub record Unread : Type 0 where
   pub end : ℕ
 
 infixl 10 ◌>>=◌
-abbrev pub ◌>>=◌ : {A B : Type 0} → Result A FileRefusal → (A → Result B FileRefusal) → Result B FileRefusal
+abbrev pub ◌>>=◌ : {A B : Type 0} → Result A Misfit → (A → Result B Misfit) → Result B Misfit
 (Ok x) >>= f = f x
 (Err e) >>= f = Err e
 
-abbrev pub or_refuse : {A : Type 0} → Option A → FileRefusal → Result A FileRefusal
+abbrev pub or_refuse : {A : Type 0} → Option A → Misfit → Result A Misfit
 or_refuse None e = Err e
 or_refuse (Some x) e = Ok x
 
--- the next lexeme
-abbrev pub next_of : ℕ → List Lexeme → Result (Lexeme × Unread) FileRefusal
-next_of end [] = Err (Ends end)
-next_of end (w ∷ ws) = Ok (w, record { lexemes = ws; end = end })
+-- the next lexeme, with what is awaited there
+abbrev pub next_of : Place → ℕ → List Lexeme → Result (Lexeme × Unread) Misfit
+next_of awaited end [] = Err (TextEnds awaited end)
+next_of awaited end (w ∷ ws) = Ok (w, record { lexemes = ws; end = end })
 
-unfoldable pub next_at : Unread → Result (Lexeme × Unread) FileRefusal
-next_at u = next_of u.end u.lexemes
+unfoldable pub next_at : Place → Unread → Result (Lexeme × Unread) Misfit
+next_at awaited u = next_of awaited u.end u.lexemes
+
+-- a limit: its number, and the least and the greatest number that keep it
+abbrev pub limit_of : (number least greatest : ℕ) → Limit
+limit_of number least greatest = record { number = number; least = least; greatest = greatest }
 
 -- the number that a lexeme spells, where it keeps the limit
-unfoldable pub limited : ℕ → ℕ → ℕ → Lexeme → Result ℕ FileRefusal
-limited limit least greatest w = do
-  n ← or_refuse (number_of w.text) (Number w.line)
-  if is_between least greatest n then Ok n else Err (Range w.line limit)
+unfoldable pub limited : Place → Limit → Lexeme → Result ℕ Misfit
+limited awaited limit w = do
+  n ← or_refuse (number_of w.text) (BadWord awaited w NoNumber)
+  if is_between limit.least limit.greatest n then Ok n else Err (BadWord awaited w (Beyond limit))
 
-unfoldable pub number_at : ℕ → ℕ → ℕ → Unread → Result (ℕ × Unread) FileRefusal
-number_at limit least greatest u = do
-  w ← next_at u
-  n ← limited limit least greatest w.0
+unfoldable pub number_at : Place → Limit → Unread → Result (ℕ × Unread) Misfit
+number_at awaited limit u = do
+  w ← next_at awaited u
+  n ← limited awaited limit w.0
   Ok (n, w.1)
 
 -- the weeks, which limit 2 and then limit 3 bound
-unfoldable pub limited_weeks : ℕ → Lexeme → Result ℕ FileRefusal
+unfoldable pub limited_weeks : ℕ → Lexeme → Result ℕ Misfit
 limited_weeks days w = do
-  n ← limited 2 1 MOST_WEEKS w
-  if nat_le (n * days) MOST_CELLS then Ok n else Err (Range w.line 3)
+  n ← limited Weeks (limit_of 2 1 MOST_WEEKS) w
+  if nat_le (n * days) MOST_CELLS then Ok n else Err (BadWord Weeks w (TooManyDays n days))
 
-unfoldable pub weeks_at : ℕ → Unread → Result (ℕ × Unread) FileRefusal
+unfoldable pub weeks_at : ℕ → Unread → Result (ℕ × Unread) Misfit
 weeks_at days u = do
-  w ← next_at u
+  w ← next_at Weeks u
   n ← limited_weeks days w.0
   Ok (n, w.1)
 
-unfoldable pub size_at : Unread → Result (Size × Unread) FileRefusal
+unfoldable pub size_at : Unread → Result (Size × Unread) Misfit
 size_at u = do
-  days ← number_at 1 1 MOST_DAYS u
+  days ← number_at Days (limit_of 1 1 MOST_DAYS) u
   weeks ← weeks_at days.0 days.1
-  shifts ← number_at 4 1 MOST_SHIFTS weeks.1
+  shifts ← number_at Shifts (limit_of 4 1 MOST_SHIFTS) weeks.1
   Ok (record { days = days.0; weeks = weeks.0; shifts = shifts.0 }, shifts.1)
 
 -- a range from a number to the number behind the second of two dots
@@ -93,50 +104,52 @@ range_or range (Some n) = Some (record { least = n; greatest = n })
 abbrev pub written_demand : List ℕ → Option Bounds
 written_demand text = range_or (range_of text) (number_of text)
 
-unfoldable pub limited_demand : Lexeme → Result Bounds FileRefusal
-limited_demand w = do
-  range ← or_refuse (written_demand w.text) (Number w.line)
-  if is_small_range range then Ok range else Err (Range w.line 5)
+unfoldable pub limited_demand : Place → Lexeme → Result Bounds Misfit
+limited_demand awaited w = do
+  range ← or_refuse (written_demand w.text) (BadWord awaited w NoNumber)
+  if is_small_range range then Ok range else Err (BadWord awaited w (Beyond (limit_of 5 0 MOST_WEEKS)))
 
-unfoldable pub demand_at : Unread → Result (Bounds × Unread) FileRefusal
-demand_at u = do
-  w ← next_at u
-  range ← limited_demand w.0
+unfoldable pub demand_at : Place → Unread → Result (Bounds × Unread) Misfit
+demand_at awaited u = do
+  w ← next_at awaited u
+  range ← limited_demand awaited w.0
   Ok (range, w.1)
 
 -- n things one after another, each of which may depend on the earlier ones
-unfoldable pub many : {X : Type 0} → (List X → Unread → Result (X × Unread) FileRefusal)
-    → ℕ → List X → Unread → Result (List X × Unread) FileRefusal
+unfoldable pub many : {X : Type 0} → (List X → Unread → Result (X × Unread) Misfit)
+    → ℕ → List X → Unread → Result (List X × Unread) Misfit
 many read zero earlier u = Ok (earlier, u)
 many read (suc n) earlier u = read earlier u >>= (λ x. many read n (earlier ++ x.0 ∷ []) x.1)
 
--- each of them read alike
-abbrev pub each : {X : Type 0} → (Unread → Result (X × Unread) FileRefusal)
-    → List X → Unread → Result (X × Unread) FileRefusal
-each read earlier u = read u
+-- each of them read alike, by its number from 1 on
+abbrev pub each : {X : Type 0} → (ℕ → Unread → Result (X × Unread) Misfit)
+    → List X → Unread → Result (X × Unread) Misfit
+each read earlier u = read (length earlier + 1) u
 
 -- the demand of a shift
-abbrev pub demand_row_at : ℕ → Unread → Result (List Bounds × Unread) FileRefusal
-demand_row_at days u = many (each demand_at) days [] u
+abbrev pub demand_row_at : (days shift : ℕ) → Unread → Result (List Bounds × Unread) Misfit
+demand_row_at days shift u = many (each (λ day. demand_at (Demand shift day))) days [] u
 
 -- a row of demands for each shift
-abbrev pub demand_rows_at : Size → Unread → Result (List (List Bounds) × Unread) FileRefusal
+abbrev pub demand_rows_at : Size → Unread → Result (List (List Bounds) × Unread) Misfit
 demand_rows_at size u = many (each (demand_row_at size.days)) size.shifts [] u
 
-abbrev pub row_words : Lexeme → Lexeme → Lexeme → Lexeme → Lexeme → RowWords
-row_words name start minutes least greatest = record {
+abbrev pub row_words : (name start minutes : Lexeme) → Option Lexeme → (least greatest : Lexeme) → RowWords
+row_words name start minutes long_name least greatest = record {
   name = name;
   start = start;
   minutes = minutes;
+  long_name = long_name;
   least = least;
   greatest = greatest;
 }
 
 -- five words, or six of which the fourth is the long name
 abbrev pub words_of_row : List Lexeme → Option RowWords
-words_of_row (name ∷ start ∷ minutes ∷ least ∷ greatest ∷ []) = Some (row_words name start minutes least greatest)
+words_of_row (name ∷ start ∷ minutes ∷ least ∷ greatest ∷ []) =
+    Some (row_words name start minutes None least greatest)
 words_of_row (name ∷ start ∷ minutes ∷ long_name ∷ least ∷ greatest ∷ []) =
-    Some (row_words name start minutes least greatest)
+    Some (row_words name start minutes (Some long_name) least greatest)
 words_of_row words = None
 
 -- at most as long as names are, not the name of the day off, and not the name of an earlier shift
@@ -145,89 +158,105 @@ is_new_name earlier name =
     nat_le (length name) LONGEST_NAME && not (bytes_eq name off_name)
     && not (list_any (λ row. bytes_eq name row.name) earlier)
 
-unfoldable pub new_name : List ShiftRow → Lexeme → Result (List ℕ) FileRefusal
-new_name earlier w = if is_new_name earlier w.text then Ok w.text else Err (Name w.line)
+-- the number of the first shift that has the name
+abbrev pub holder : List ShiftRow → List ℕ → ℕ
+holder earlier name = unwrap_or (position (λ row. bytes_eq name row.name) earlier) 0 + 1
+
+-- what is wrong with a name that is not new
+abbrev pub name_fault : List ShiftRow → List ℕ → Fault
+name_fault earlier name =
+    if nat_le (length name) LONGEST_NAME
+    then (if bytes_eq name off_name then OffName else TakenName (holder earlier name))
+    else LongName
+
+unfoldable pub new_name : List ShiftRow → Lexeme → Result (List ℕ) Misfit
+new_name earlier w =
+    if is_new_name earlier w.text
+    then Ok w.text
+    else Err (BadWord (ShiftName (length earlier + 1)) w (name_fault earlier w.text))
 
 -- the start, the length, and the bounds of the blocks
-unfoldable pub numbers_of_row : RowWords → Result (ℕ × ℕ × Bounds) FileRefusal
-numbers_of_row words = do
-  start ← limited 6 0 GREATEST_BOUND words.start
-  minutes ← limited 6 0 GREATEST_BOUND words.minutes
-  least ← limited 7 0 GREATEST_BOUND words.least
-  greatest ← limited 7 0 GREATEST_BOUND words.greatest
+unfoldable pub numbers_of_row : ℕ → RowWords → Result (ℕ × ℕ × Bounds) Misfit
+numbers_of_row shift words = do
+  start ← limited (Start shift) (limit_of 6 0 GREATEST_BOUND) words.start
+  minutes ← limited (Minutes shift) (limit_of 6 0 GREATEST_BOUND) words.minutes
+  least ← limited (LeastBlock shift) (limit_of 7 0 GREATEST_BOUND) words.least
+  greatest ← limited (GreatestBlock shift) (limit_of 7 0 GREATEST_BOUND) words.greatest
   Ok (start, minutes, record { least = least; greatest = greatest })
 
 -- the shift of its words: its name, and then its numbers
-unfoldable pub shift_of : List ShiftRow → RowWords → Result ShiftRow FileRefusal
+unfoldable pub shift_of : List ShiftRow → RowWords → Result ShiftRow Misfit
 shift_of earlier words = do
   name ← new_name earlier words.name
-  numbers ← numbers_of_row words
+  numbers ← numbers_of_row (length earlier + 1) words
   Ok (record { name = name; start = numbers.0; length = numbers.1; bounds = numbers.2 })
 
--- the words of the next line that has any left
-unfoldable pub row_words_at : Unread → Result (RowWords × Unread) FileRefusal
-row_words_at u = do
-  first ← next_at u
-  words ← or_refuse (words_of_row (first.0 ∷ on_line first.0.line first.1.lexemes)) (Row first.0.line)
+-- the words of the next line that has any left, which is that of the shift
+unfoldable pub row_words_at : ℕ → Unread → Result (RowWords × Unread) Misfit
+row_words_at shift u = do
+  first ← next_at (ShiftLine shift) u
+  words ← or_refuse
+      (words_of_row (first.0 ∷ on_line first.0.line first.1.lexemes))
+      (BadWord (ShiftLine shift) first.0 (WordCount (length (on_line first.0.line first.1.lexemes) + 1)))
   Ok (words, record { lexemes = past_line first.0.line first.1.lexemes; end = first.1.end })
 
-unfoldable pub shift_at : List ShiftRow → Unread → Result (ShiftRow × Unread) FileRefusal
+unfoldable pub shift_at : List ShiftRow → Unread → Result (ShiftRow × Unread) Misfit
 shift_at earlier u = do
-  words ← row_words_at u
+  words ← row_words_at (length earlier + 1) u
   row ← shift_of earlier words.0
   Ok (row, words.1)
 
 -- all shifts
-abbrev pub shift_rows_at : ℕ → Unread → Result (List ShiftRow × Unread) FileRefusal
+abbrev pub shift_rows_at : ℕ → Unread → Result (List ShiftRow × Unread) Misfit
 shift_rows_at count u = many shift_at count [] u
 
-unfoldable pub bounds_at : Unread → Result (Bounds × Unread) FileRefusal
-bounds_at u = do
-  least ← number_at 7 0 GREATEST_BOUND u
-  greatest ← number_at 7 0 GREATEST_BOUND least.1
+unfoldable pub bounds_at : (least greatest : Place) → Unread → Result (Bounds × Unread) Misfit
+bounds_at least_place greatest_place u = do
+  least ← number_at least_place (limit_of 7 0 GREATEST_BOUND) u
+  greatest ← number_at greatest_place (limit_of 7 0 GREATEST_BOUND) least.1
   Ok (record { least = least.0; greatest = greatest.0 }, greatest.1)
 
-unfoldable pub frame_at : Unread → Result (Frame × Unread) FileRefusal
+unfoldable pub frame_at : Unread → Result (Frame × Unread) Misfit
 frame_at u = do
-  off ← bounds_at u
-  work ← bounds_at off.1
-  pairs ← number_at 8 0 MOST_SEQUENCES work.1
-  triples ← number_at 9 0 MOST_SEQUENCES pairs.1
+  off ← bounds_at LeastOff GreatestOff u
+  work ← bounds_at LeastWork GreatestWork off.1
+  pairs ← number_at Pairs (limit_of 8 0 MOST_SEQUENCES) work.1
+  triples ← number_at Triples (limit_of 9 0 MOST_SEQUENCES) pairs.1
   Ok (record { off = off.0; work = work.0; pairs = pairs.0; triples = triples.0 }, triples.1)
 
-unfoldable pub symbol_at : List ShiftRow → Unread → Result (Symbol × Unread) FileRefusal
-symbol_at rows u = do
-  w ← next_at u
-  x ← or_refuse (symbol_among rows w.0.text) (Unknown w.0.line)
+unfoldable pub symbol_at : Place → List ShiftRow → Unread → Result (Symbol × Unread) Misfit
+symbol_at awaited rows u = do
+  w ← next_at awaited u
+  x ← or_refuse (symbol_among rows w.0.text) (BadWord awaited w.0 NoSymbol)
   Ok (x, w.1)
 
-unfoldable pub pair_at : List ShiftRow → Unread → Result ((Symbol × Symbol) × Unread) FileRefusal
-pair_at rows u = do
-  x ← symbol_at rows u
-  y ← symbol_at rows x.1
+unfoldable pub pair_at : List ShiftRow → ℕ → Unread → Result ((Symbol × Symbol) × Unread) Misfit
+pair_at rows pair u = do
+  x ← symbol_at (InPair pair 1) rows u
+  y ← symbol_at (InPair pair 2) rows x.1
   Ok ((x.0, y.0), y.1)
 
-unfoldable pub triple_at : List ShiftRow → Unread → Result ((Symbol × Symbol × Symbol) × Unread) FileRefusal
-triple_at rows u = do
-  x ← symbol_at rows u
-  y ← symbol_at rows x.1
-  z ← symbol_at rows y.1
+unfoldable pub triple_at : List ShiftRow → ℕ → Unread → Result ((Symbol × Symbol × Symbol) × Unread) Misfit
+triple_at rows triple u = do
+  x ← symbol_at (InTriple triple 1) rows u
+  y ← symbol_at (InTriple triple 2) rows x.1
+  z ← symbol_at (InTriple triple 3) rows y.1
   Ok ((x.0, y.0, z.0), z.1)
 
-abbrev pub pairs_at : List ShiftRow → ℕ → Unread → Result (List (Symbol × Symbol) × Unread) FileRefusal
+abbrev pub pairs_at : List ShiftRow → ℕ → Unread → Result (List (Symbol × Symbol) × Unread) Misfit
 pairs_at rows count u = many (each (pair_at rows)) count [] u
 
-abbrev pub triples_at : List ShiftRow → ℕ → Unread → Result (List (Symbol × Symbol × Symbol) × Unread) FileRefusal
+abbrev pub triples_at : List ShiftRow → ℕ → Unread → Result (List (Symbol × Symbol × Symbol) × Unread) Misfit
 triples_at rows count u = many (each (triple_at rows)) count [] u
 
 -- nothing is left
-abbrev pub nothing_of : List Lexeme → Result (Unit {0}) FileRefusal
+abbrev pub nothing_of : List Lexeme → Result (Unit {0}) Misfit
 nothing_of [] = Ok tt
-nothing_of (w ∷ ws) = Err (Extra w.line)
+nothing_of (w ∷ ws) = Err (BadWord TextEnd w NotEnd)
 
 -- the forbidden pairs and triples, with which a text ends
 unfoldable pub sequences_at : List ShiftRow → Frame → Unread
-    → Result (List (Symbol × Symbol) × List (Symbol × Symbol × Symbol)) FileRefusal
+    → Result (List (Symbol × Symbol) × List (Symbol × Symbol × Symbol)) Misfit
 sequences_at rows frame u = do
   pairs ← pairs_at rows frame.pairs u
   triples ← triples_at rows frame.triples pairs.1
@@ -248,7 +277,7 @@ instance_from size demand shifts frame sequences = record {
 }
 
 -- the instance that a text spells, or the first failure
-unfoldable pub reading : Unread → Result Instance FileRefusal
+unfoldable pub reading : Unread → Result Instance Misfit
 reading u = do
   size ← size_at u
   demand ← demand_rows_at size.0 size.1
@@ -257,14 +286,18 @@ reading u = do
   sequences ← sequences_at shifts.0 frame.0 frame.1
   Ok (instance_from size.0 demand.0 shifts.0 frame.0 sequences)
 
-abbrev pub refusal_in : Result Instance FileRefusal → Option FileRefusal
-refusal_in (Ok P) = None
-refusal_in (Err why) = Some why
+abbrev pub misfit_in : {A : Type 0} → Result A Misfit → Option Misfit
+misfit_in (Ok x) = None
+misfit_in (Err misfit) = Some misfit
 
 -- all that there is to read of a text
 abbrev pub unread_of : List ℕ → Unread
 unread_of bytes = record { lexemes = lexemes bytes; end = last_line bytes }
 
--- the first failure in a text, where there is one
+-- the first failure in a text, where there is one: what was awaited and what was found
+abbrev pub first_misfit : List ℕ → Option Misfit
+first_misfit bytes = misfit_in (reading (unread_of bytes))
+
+-- the same as the refusal that it is
 abbrev pub file_refusal : List ℕ → Option FileRefusal
-file_refusal bytes = refusal_in (reading (unread_of bytes))
+file_refusal bytes = option_map refusal_of (first_misfit bytes)

@@ -16,3 +16,13 @@ file_refusal_text (Row number) = at_line (codes "row") number
 file_refusal_text (Name number) = at_line (codes "name") number
 file_refusal_text (Unknown number) = at_line (codes "unknown") number
 file_refusal_text (Extra number) = at_line (codes "extra") number
+
+-- the line that a refusal names
+abbrev pub refused_line : FileRefusal → ℕ
+refused_line (Ends number) = number
+refused_line (Number number) = number
+refused_line (Range number limit) = number
+refused_line (Row number) = number
+refused_line (Name number) = number
+refused_line (Unknown number) = number
+refused_line (Extra number) = number

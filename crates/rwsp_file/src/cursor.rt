@@ -5,11 +5,13 @@ ghost use Rattle.rwsp_text.specs.Places.{lexeme_at, AreWithin};
 ghost use Rattle.rwsp_file.specs.Spelling.{on_line, past_line};
 ghost use Rattle.rwsp_file.specs.Reading.{next_at, limited, number_at, bounds_at};
 ghost use Rattle.rwsp_file.specs.Reads.{ReadsTokens};
+ghost use Rattle.rwsp_file.specs.declared.misfit.Misfit.TheVariants.{BadWord};
 
-use crate::FileRefusal;
 use crate::limits::{BLOCK, Limit};
+use crate::misfit::{Fault, Misfit, Place};
 use rwsp_terms::Bounds;
 use rwsp_text::{Token, number};
+use std::alloc::{AllocError, Global};
 use std::marker::Model;
 
 /// A word of a text, and the number of its line.
@@ -62,17 +64,28 @@ impl<'a> Lexeme<'a> {
         self.line
     }
 
+    /// The word as one that isn't what was awaited.
+    pub fn misfit(&self, awaited: Place, fault: Fault) -> Misfit<'a>
+        ensures { result ≡ BadWord awaited self.now fault }
+    {
+        let word = Lexeme {
+            text: self.text,
+            line: self.line,
+        };
+        Misfit::BadWord(awaited, word, fault)
+    }
+
     /// The number that the word spells, where it keeps the limit.
     #[tactic(auto, unfolding(crate::specs::Reading::limited))]
-    pub fn limited(&self, limit: Limit) -> Result<u32, FileRefusal>
-        ensures value { result ≡ limited limit.number limit.least limit.greatest self.now }
+    pub fn limited(&self, awaited: Place, limit: Limit) -> Result<u32, Misfit<'a>>
+        ensures value { result ≡ limited awaited limit self.now }
         ensures within { IfOk result (λ n. (limit.least ≤ n) × (n ≤ limit.greatest)) }
     {
         let Some(n) = number(self.text) else {
-            return Err(FileRefusal::Number(self.line));
+            return Err(self.misfit(awaited, Fault::NoNumber));
         };
         if n < limit.least || n > limit.greatest {
-            return Err(FileRefusal::Range(self.line, limit.number));
+            return Err(self.misfit(awaited, Fault::Beyond(limit)));
         }
         Ok(n)
     }
@@ -87,31 +100,34 @@ impl<'a> Cursor<'a> {
         Cursor { bytes, tokens, end }
     }
 
-    /// The next word.
+    /// The next word, where something is awaited.
     #[tactic(auto, unfolding(crate::specs::Reading::next_at))]
-    pub fn next(&mut self) -> Result<Lexeme<'a>, FileRefusal>
-        ensures { ReadsTokens (next_at self.old) result self.new }
+    pub fn next(&mut self, awaited: Place) -> Result<Lexeme<'a>, Misfit<'a>>
+        ensures { ReadsTokens (next_at awaited self.old) result self.new }
     {
-        self.pop().ok_or(FileRefusal::Ends(self.end))
+        match self.pop() {
+            Some(word) => Ok(word),
+            None => Err(Misfit::TextEnds(awaited, self.end)),
+        }
     }
 
     /// The next word as a number that keeps the limit.
     #[tactic(auto, unfolding(crate::specs::Reading::number_at))]
-    pub fn number(&mut self, limit: Limit) -> Result<u32, FileRefusal>
-        ensures value { ReadsTokens (number_at limit.number limit.least limit.greatest self.old) result self.new }
+    pub fn number(&mut self, awaited: Place, limit: Limit) -> Result<u32, Misfit<'a>>
+        ensures value { ReadsTokens (number_at awaited limit self.old) result self.new }
         ensures within { IfOk result (λ n. (limit.least ≤ n) × (n ≤ limit.greatest)) }
     {
-        let word = self.next()?;
-        word.limited(limit)
+        let word = self.next(awaited)?;
+        word.limited(awaited, limit)
     }
 
-    /// The next two words as the bounds of blocks.
+    /// The next two words as the bounds of blocks, where these two are awaited.
     #[tactic(auto, unfolding(crate::specs::Reading::bounds_at))]
-    pub fn bounds(&mut self) -> Result<Bounds, FileRefusal>
-        ensures { ReadsTokens (bounds_at self.old) result self.new }
+    pub fn bounds(&mut self, least: Place, greatest: Place) -> Result<Bounds, Misfit<'a>>
+        ensures { ReadsTokens (bounds_at least greatest self.old) result self.new }
     {
-        let least = self.number(BLOCK)?;
-        let greatest = self.number(BLOCK)?;
+        let least = self.number(least, BLOCK)?;
+        let greatest = self.number(greatest, BLOCK)?;
         Ok(Bounds { least, greatest })
     }
 
@@ -131,6 +147,20 @@ impl<'a> Cursor<'a> {
         })
     }
 
+    /// The numbers of the lines of the words that are left.
+    pub fn lines(&self, alloc: Global) -> Result<Vec<u32>, AllocError>
+        ensures { IfOk result (λ v. v.items ≡ map (λ w. w.line) self.now.lexemes) }
+    {
+        lines_of(alloc, self.tokens)
+    }
+
+    /// How many words are left.
+    pub fn len(&self) -> usize
+        ensures { result ≡ length self.now.lexemes }
+    {
+        self.tokens.len()
+    }
+
     /// Takes the words that follow on the line.
     pub fn take_line(&mut self, line: u32) -> Cursor<'a>
         ensures taken { result ≡ record { lexemes = on_line line self.old.lexemes; end = self.old.end } }
@@ -144,6 +174,16 @@ impl<'a> Cursor<'a> {
             end: self.end,
         }
     }
+}
+
+fn lines_of(alloc: Global, tokens: &[Token]) -> Result<Vec<u32>, AllocError>
+    ensures { IfOk result (λ v. v.items ≡ map (λ t. t.line) tokens.now) }
+{
+    let mut lines = Vec::new(alloc);
+    for i in 0..tokens.len() {
+        lines.push(tokens[i].line)?;
+    }
+    Ok(lines)
 }
 
 fn place_past_line(tokens: &[Token], line: u32) -> Option<usize>

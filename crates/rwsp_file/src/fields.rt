@@ -4,10 +4,10 @@ ghost use Rattle.rwsp_terms.specs.declared.limits.TheConstants.{MOST_DAYS, MOST_
 ghost use Rattle.rwsp_file.specs.Reading.{limited_weeks, weeks_at, size_at, demand_at, demand_row_at, demand_rows_at, frame_at};
 ghost use Rattle.rwsp_file.specs.Reads.{ReadsTokens, ReadsUnless};
 
-use crate::FileRefusal;
 use crate::cursor::{Cursor, Lexeme};
 use crate::demand::demand;
 use crate::limits::{CELLS, DAYS, DEMAND, PAIRS, SHIFTS, TRIPLES, WEEKS};
+use crate::misfit::{Fault, Misfit, Place};
 use rwsp_model::Fail;
 use rwsp_terms::{Bounds, DemandRow};
 use std::alloc::Global;
@@ -30,35 +30,35 @@ pub struct Frame {
 }
 
 #[tactic(auto, unfolding(crate::specs::Reading::limited_weeks))]
-fn limited_weeks(days: u32, word: &Lexeme) -> Result<u32, FileRefusal>
+fn limited_weeks<'a>(days: u32, word: &Lexeme<'a>) -> Result<u32, Misfit<'a>>
     requires { days ≤ MOST_DAYS }
     ensures { result ≡ limited_weeks days word.now }
 {
-    let weeks = word.limited(WEEKS)?;
+    let weeks = word.limited(Place::Weeks, WEEKS)?;
     if weeks * days > CELLS.greatest {
-        return Err(FileRefusal::Range(word.line(), CELLS.number));
+        return Err(word.misfit(Place::Weeks, Fault::TooManyDays(weeks, days)));
     }
     Ok(weeks)
 }
 
 #[tactic(auto, unfolding(crate::specs::Reading::weeks_at))]
-fn read_weeks(days: u32, cursor: &mut Cursor) -> Result<u32, FileRefusal>
+fn read_weeks<'a>(days: u32, cursor: &mut Cursor<'a>) -> Result<u32, Misfit<'a>>
     requires { days ≤ MOST_DAYS }
     ensures { ReadsTokens (weeks_at days cursor.old) result cursor.new }
 {
-    let word = cursor.next()?;
+    let word = cursor.next(Place::Weeks)?;
     limited_weeks(days, &word)
 }
 
 /// Reads the numbers of days, weeks and shifts.
 #[tactic(auto, unfolding(crate::specs::Reading::size_at))]
-pub fn read_size(cursor: &mut Cursor) -> Result<Size, FileRefusal>
+pub fn read_size<'a>(cursor: &mut Cursor<'a>) -> Result<Size, Misfit<'a>>
     ensures value { ReadsTokens (size_at cursor.old) result cursor.new }
     ensures few { IfOk result (λ size. size.shifts ≤ MOST_SHIFTS) }
 {
-    let days = cursor.number(DAYS)?;
+    let days = cursor.number(Place::Days, DAYS)?;
     let weeks = read_weeks(days, cursor)?;
-    let shifts = cursor.number(SHIFTS)?;
+    let shifts = cursor.number(Place::Shifts, SHIFTS)?;
     Ok(Size {
         days,
         weeks,
@@ -68,13 +68,13 @@ pub fn read_size(cursor: &mut Cursor) -> Result<Size, FileRefusal>
 
 /// Reads the bounds of the blocks of days off and of work, and the numbers of pairs and triples.
 #[tactic(auto, unfolding(crate::specs::Reading::frame_at))]
-pub fn read_frame(cursor: &mut Cursor) -> Result<Frame, FileRefusal>
+pub fn read_frame<'a>(cursor: &mut Cursor<'a>) -> Result<Frame, Misfit<'a>>
     ensures { ReadsTokens (frame_at cursor.old) result cursor.new }
 {
-    let off = cursor.bounds()?;
-    let work = cursor.bounds()?;
-    let pairs = cursor.number(PAIRS)?;
-    let triples = cursor.number(TRIPLES)?;
+    let off = cursor.bounds(Place::LeastOff, Place::GreatestOff)?;
+    let work = cursor.bounds(Place::LeastWork, Place::GreatestWork)?;
+    let pairs = cursor.number(Place::Pairs, PAIRS)?;
+    let triples = cursor.number(Place::Triples, TRIPLES)?;
     Ok(Frame {
         off,
         work,
@@ -84,30 +84,32 @@ pub fn read_frame(cursor: &mut Cursor) -> Result<Frame, FileRefusal>
 }
 
 #[tactic(auto, unfolding(crate::specs::Reading::demand_at, crate::specs::Reading::limited_demand))]
-fn read_demand_of_day(cursor: &mut Cursor) -> Result<Bounds, FileRefusal>
-    ensures { ReadsTokens (demand_at cursor.old) result cursor.new }
+fn read_demand_of_day<'a>(awaited: Place, cursor: &mut Cursor<'a>) -> Result<Bounds, Misfit<'a>>
+    ensures { ReadsTokens (demand_at awaited cursor.old) result cursor.new }
 {
-    let word = cursor.next()?;
+    let word = cursor.next(awaited)?;
     let Some(range) = demand(word.text()) else {
-        return Err(FileRefusal::Number(word.line()));
+        return Err(word.misfit(awaited, Fault::NoNumber));
     };
     if range.least > DEMAND.greatest || range.greatest > DEMAND.greatest {
-        return Err(FileRefusal::Range(word.line(), DEMAND.number));
+        return Err(word.misfit(awaited, Fault::Beyond(DEMAND)));
     }
     Ok(range)
 }
 
 #[tactic(auto, using(crate::proofs::ManySteps::many_ok, crate::proofs::ManySteps::loop_done))]
-fn read_demand_row(
+fn read_demand_row<'a>(
     alloc: Global,
     days: u32,
-    cursor: &mut Cursor,
-) -> Result<DemandRow, Fail<FileRefusal>>
-    ensures { ReadsUnless (λ row. row) (demand_row_at days cursor.old) result cursor.new }
+    shift: u32,
+    cursor: &mut Cursor<'a>,
+) -> Result<DemandRow, Fail<Misfit<'a>>>
+    ensures { ReadsUnless (λ row. row) (demand_row_at days shift cursor.old) result cursor.new }
 {
     let mut ranges = Vec::new(alloc);
     for day in 0..days {
-        let range = read_demand_of_day(cursor).map_err(Fail::Refused)?;
+        let awaited = Place::Demand(shift, day + 1);
+        let range = read_demand_of_day(awaited, cursor).map_err(Fail::Refused)?;
         ranges.push(range)?;
     }
     Ok(DemandRow::of(ranges))
@@ -115,16 +117,16 @@ fn read_demand_row(
 
 /// Reads a row of demands for each shift.
 #[tactic(auto, using(crate::proofs::ManySteps::many_ok, crate::proofs::ManySteps::loop_done))]
-pub fn read_demand(
+pub fn read_demand<'a>(
     alloc: Global,
     size: Size,
-    cursor: &mut Cursor,
-) -> Result<Vec<DemandRow>, Fail<FileRefusal>>
+    cursor: &mut Cursor<'a>,
+) -> Result<Vec<DemandRow>, Fail<Misfit<'a>>>
     ensures { ReadsUnless (λ v. v.items) (demand_rows_at size cursor.old) result cursor.new }
 {
     let mut rows = Vec::new(alloc);
     for shift in 0..size.shifts {
-        let row = read_demand_row(alloc, size.days, cursor)?;
+        let row = read_demand_row(alloc, size.days, shift + 1, cursor)?;
         rows.push(row)?;
     }
     Ok(rows)

@@ -1,5 +1,5 @@
 // Laws of texts, instances and refusals. Each function's contract is the law.
-ghost use Rattle.rwsp_file.specs.Laws.{CanonicalTextsAreShort, CanonicalTextsSpell, TextsSpellOne, TextsSpellOrFail};
+ghost use Rattle.rwsp_file.specs.Laws.{CanonicalTextsAreShort, CanonicalTextsSpell, RefusalsAreExplained, TextsSpellOne, TextsSpellOrFail};
 
 /// A text spells at most one instance.
 #[tactic(auto, using(crate::proofs::TextLaws::texts_spell_one))]
@@ -23,4 +23,10 @@ pub fn canonical_texts_spell()
 #[tactic(auto, using(crate::proofs::Lengths::canonical_texts_are_short))]
 pub fn canonical_texts_are_short()
     ensures { CanonicalTextsAreShort }
+{}
+
+/// A text is explained exactly where it is refused, and at the line of the refusal.
+#[tactic(auto, using(crate::proofs::Explained::refusals_are_explained))]
+pub fn refusals_are_explained()
+    ensures { RefusalsAreExplained }
 {}

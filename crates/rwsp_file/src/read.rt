@@ -1,16 +1,18 @@
 // Reading problem files.
-ghost use Rattle.std.specs.Prelude.{◌≡◌, ◌==◌, ◌≤◌, count_by, length, Some, IfOk};
+ghost use Rattle.std.specs.Prelude.{◌≡◌, ◌==◌, ◌≤◌, count_by, length, option_map, Some, Ok, IfOk};
 ghost use Rattle.rwsp_terms.specs.declared.limits.TheConstants.{LONGEST_FILE};
 ghost use Rattle.rwsp_text.specs.Lexemes.{last_line};
 ghost use Rattle.rwsp_model.specs.Refusals.{IfRefused};
 ghost use Rattle.rwsp_model.specs.Parts.{instance_of};
 ghost use Rattle.rwsp_file.specs.Spelling.{SpellsProblem};
-ghost use Rattle.rwsp_file.specs.Reading.{reading, unread_of, file_refusal};
+ghost use Rattle.rwsp_file.specs.Misfits.{refusal_of};
+ghost use Rattle.rwsp_file.specs.Reading.{reading, misfit_in, unread_of, file_refusal};
 ghost use Rattle.rwsp_file.specs.Reads.{GivesUnless};
 
 use crate::FileRefusal;
 use crate::cursor::Cursor;
 use crate::fields::{read_demand, read_frame, read_size};
+use crate::misfit::Misfit;
 use crate::row::read_shifts;
 use crate::sequences::read_sequences;
 use rwsp_model::{Fail, Parts, Problem};
@@ -24,15 +26,17 @@ fn count_line_ends(bytes: &[u8]) -> usize
     bytes.iter().filter(|b| **b == b'\n').count()
 }
 
-fn last_line(bytes: &[u8]) -> u32
+/// The number of the line on which the bytes end.
+pub fn last_line(bytes: &[u8]) -> u32
     requires { length bytes.now ≤ LONGEST_FILE }
     ensures { result ≡ last_line bytes.now }
 {
     count_line_ends(bytes) as u32 + 1
 }
 
+/// Reads the numbers and the shifts of a problem, up to the first failure.
 #[tactic(auto, unfolding(crate::specs::Reading::reading))]
-fn read_parts(alloc: Global, cursor: &mut Cursor) -> Result<Parts, Fail<FileRefusal>>
+pub fn read_parts<'a>(alloc: Global, cursor: &mut Cursor<'a>) -> Result<Parts, Fail<Misfit<'a>>>
     ensures { GivesUnless instance_of (reading cursor.old) result }
 {
     let size = read_size(cursor).map_err(Fail::Refused)?;
@@ -65,13 +69,26 @@ fn read_parts(alloc: Global, cursor: &mut Cursor) -> Result<Parts, Fail<FileRefu
     })
 }
 
+// The parts, or the refusal alone.
+fn refused_parts(alloc: Global, cursor: &mut Cursor) -> Result<Parts, Fail<FileRefusal>>
+    ensures ok { IfOk result (λ parts. reading cursor.old ≡ Ok (instance_of parts)) }
+    ensures refused { IfRefused result (λ why. option_map refusal_of (misfit_in (reading cursor.old)) ≡ Some why) }
+{
+    match read_parts(alloc, cursor) {
+        Ok(parts) => Ok(parts),
+        Err(Fail::Refused(misfit)) => Err(Fail::Refused(misfit.refusal())),
+        Err(Fail::Memory) => Err(Fail::Memory),
+    }
+}
+
 fn parts_of(alloc: Global, bytes: &[u8]) -> Result<Parts, Fail<FileRefusal>>
     requires { length bytes.now ≤ LONGEST_FILE }
-    ensures { GivesUnless instance_of (reading (unread_of bytes.now)) result }
+    ensures ok { IfOk result (λ parts. reading (unread_of bytes.now) ≡ Ok (instance_of parts)) }
+    ensures refused { IfRefused result (λ why. file_refusal bytes.now ≡ Some why) }
 {
     let tokens = tokens(alloc, bytes)?;
     let mut cursor = Cursor::of(bytes, &tokens, last_line(bytes));
-    read_parts(alloc, &mut cursor)
+    refused_parts(alloc, &mut cursor)
 }
 
 /// The problem that the bytes spell, or the first failure in them. The cost grows with the bytes.

@@ -1,0 +1,468 @@
+// What is likely the cause of a refusal.
+ghost use Rattle.std.specs.Prelude.{◌≡◌, ◌<◌, ◌≤◌, IfOk, IfSome, length, position};
+ghost use Rattle.rwsp_file.specs.Reads.{ReadsUnless, GivesUnless};
+ghost use Rattle.rwsp_file.specs.LikelyCauses.{or_cause, cause_if, has_byte, has_digit, begins_with, begins_with_mark, begins_with_wide_mark, has_control, has_no_break, dots, is_range_byte, is_range_like, is_demand, is_colon, minutes_from, minutes_of, clock_or_colon, word_cause, range_cause, point_cause, lines_of_words, words_on, is_other_line, other_line, length_cause, row_cause, rows_cause, lines_cause, row_length_cause, shifts_skipped, counts_at, announced, size_cause, own_cause, place_cause, end_cause, bad_word_cause, likely};
+
+use crate::cursor::{Cursor, Lexeme};
+use crate::fields::{read_demand, read_size};
+use crate::limits::{PAIRS, TRIPLES};
+use crate::misfit::{Fault, Misfit, Place};
+use crate::row::read_shifts;
+use rwsp_model::Fail;
+use rwsp_text::number;
+use std::alloc::{AllocError, Global};
+
+/// How many pairs and triples a text announces, and on which line.
+#[derive(Clone, Copy)]
+pub struct Counts {
+    pub line: u32,
+    pub pairs: u32,
+    pub triples: u32,
+}
+
+/// What is likely the cause of a refusal.
+#[derive(Clone, Copy)]
+pub enum Cause {
+    /// The text begins with a byte order mark.
+    ByteOrderMark,
+    /// The text is in UTF-16.
+    Utf16,
+    /// The text has control bytes.
+    NoPlainText,
+    /// A no-break space in place of a blank.
+    NoBreakSpace,
+    /// A comma in place of a blank.
+    Commas,
+    /// A time HH:MM, which is so many minutes from midnight.
+    Clock(u32),
+    /// A colon.
+    Colon,
+    /// A range that isn't written LO..HI.
+    RangeForm,
+    /// A decimal point.
+    DecimalPoint,
+    /// This line has so many words, and there are so many days.
+    OtherLength(u32, usize, u32),
+    /// There are lines of demands of so many shifts, and so many shifts.
+    MissingRow(u32, u32),
+    /// A comment without its `#`.
+    NoComment,
+    /// One of the three numbers with which a text begins is missing.
+    SizesFirst,
+    /// A name of two words.
+    TwoWordName,
+    /// One of the six numbers behind the shifts is missing.
+    FrameNumbers,
+    /// So many pairs and triples are announced.
+    Announced(Counts),
+    /// There are no words.
+    NoWords,
+}
+
+fn or_cause(first: Option<Cause>, other: Option<Cause>) -> Option<Cause>
+    ensures { result ≡ or_cause first other }
+{
+    match first {
+        Some(cause) => Some(cause),
+        None => other,
+    }
+}
+
+fn cause_if(is: bool, cause: Cause) -> Option<Cause>
+    ensures { result ≡ cause_if is cause }
+{
+    if is { Some(cause) } else { None }
+}
+
+fn has_byte(byte: u8, word: &[u8]) -> bool
+    ensures { result ≡ has_byte byte word.now }
+{
+    word.iter().any(|b| *b == byte)
+}
+
+fn has_digit(word: &[u8]) -> bool
+    ensures { result ≡ has_digit word.now }
+{
+    word.iter().any(|b| b.is_ascii_digit())
+}
+
+fn begins_with(start: &[u8], word: &[u8]) -> bool
+    ensures { result ≡ begins_with start.now word.now }
+{
+    start.len() <= word.len() && &word[..start.len()] == start
+}
+
+fn begins_with_mark(word: &[u8]) -> bool
+    ensures { result ≡ begins_with_mark word.now }
+{
+    begins_with(&[239, 187, 191], word)
+}
+
+fn begins_with_wide_mark(word: &[u8]) -> bool
+    ensures { result ≡ begins_with_wide_mark word.now }
+{
+    let little = begins_with(&[255, 254], word);
+    let big = begins_with(&[254, 255], word);
+    little || big
+}
+
+fn has_control(word: &[u8]) -> bool
+    ensures { result ≡ has_control word.now }
+{
+    word.iter().any(|b| *b < 32)
+}
+
+fn has_no_break(word: &[u8]) -> bool
+    ensures { result ≡ has_no_break word.now }
+{
+    let first = has_byte(194, word);
+    let second = has_byte(160, word);
+    first && second
+}
+
+fn dots(word: &[u8]) -> usize
+    ensures { result ≡ dots word.now }
+{
+    word.iter().filter(|b| **b == b'.').count()
+}
+
+fn minutes_from(hours: Option<u32>, minutes: Option<u32>) -> Option<u32>
+    ensures { result ≡ minutes_from hours minutes }
+{
+    let hours = hours?;
+    let minutes = minutes?;
+    if hours < 24 && minutes < 60 {
+        Some(hours * 60 + minutes)
+    } else {
+        None
+    }
+}
+
+fn place_of_colon(word: &[u8]) -> Option<usize>
+    ensures { result ≡ position is_colon word.now }
+{
+    word.iter().position(|b| *b == b':')
+}
+
+// The minutes from midnight of a time.
+fn minutes_of(word: &[u8]) -> Option<u32>
+    ensures { result ≡ minutes_of word.now }
+{
+    let place = place_of_colon(word)?;
+    minutes_from(number(&word[..place]), number(&word[place + 1..]))
+}
+
+fn clock_or_colon(word: &[u8]) -> Cause
+    ensures { result ≡ clock_or_colon (minutes_of word.now) }
+{
+    match minutes_of(word) {
+        Some(minutes) => Cause::Clock(minutes),
+        None => Cause::Colon,
+    }
+}
+
+// What the bytes of a word show that should be a number, wherever it is.
+fn word_cause(word: &[u8]) -> Option<Cause>
+    ensures { result ≡ word_cause word.now }
+{
+    let colon = cause_if(has_byte(b':', word), clock_or_colon(word));
+    let comma = or_cause(cause_if(has_byte(b',', word), Cause::Commas), colon);
+    let no_break = or_cause(cause_if(has_no_break(word), Cause::NoBreakSpace), comma);
+    let control = or_cause(cause_if(has_control(word), Cause::NoPlainText), no_break);
+    let wide = or_cause(cause_if(begins_with_wide_mark(word), Cause::Utf16), control);
+    or_cause(cause_if(begins_with_mark(word), Cause::ByteOrderMark), wide)
+}
+
+fn is_range_byte(b: u8) -> bool
+    ensures { result ≡ is_range_byte b }
+{
+    b.is_ascii_digit() || b == b'-' || b == b'.'
+}
+
+fn is_range_like(word: &[u8]) -> bool
+    ensures { result ≡ is_range_like word.now }
+{
+    word.iter().all(|b| is_range_byte(*b))
+}
+
+fn is_demand(awaited: Place) -> bool
+    ensures { result ≡ is_demand awaited }
+{
+    match awaited {
+        Place::Demand(_, _) => true,
+        _ => false,
+    }
+}
+
+fn range_cause(awaited: Place, word: &[u8]) -> Option<Cause>
+    ensures { result ≡ range_cause awaited word.now }
+{
+    let like = is_demand(awaited) && is_range_like(word);
+    let dash = has_byte(b'-', word);
+    let many = 2 <= dots(word);
+    cause_if(like && (dash || many), Cause::RangeForm)
+}
+
+fn point_cause(word: &[u8]) -> Option<Cause>
+    ensures { result ≡ point_cause word.now }
+{
+    let one = dots(word) == 1;
+    cause_if(is_range_like(word) && one, Cause::DecimalPoint)
+}
+
+// How many words are on the line.
+fn words_on(lines: &[u32], line: u32) -> usize
+    ensures { result ≡ words_on lines.now line }
+{
+    lines.iter().filter(|l| **l == line).count()
+}
+
+fn is_other_line(lines: &[u32], words: u32, last: u32, line: u32) -> bool
+    ensures { result ≡ is_other_line lines.now words last line }
+{
+    line <= last && words_on(lines, line) != words as usize
+}
+
+fn place_of_other(lines: &[u32], words: u32, last: u32) -> Option<usize>
+    ensures place { result ≡ position (is_other_line lines.now words last) lines.now }
+    ensures within { IfSome result (λ k. k < length lines.now) }
+{
+    lines
+        .iter()
+        .position(|line| is_other_line(lines, words, last, *line))
+}
+
+// The first line, up to the last one, which has not so many words. The cost grows with the words, and with the words up
+// to that line times all words.
+fn other_line(lines: &[u32], words: u32, last: u32) -> Option<u32>
+    ensures { result ≡ other_line lines.now words last }
+{
+    let place = place_of_other(lines, words, last)?;
+    Some(lines[place])
+}
+
+fn length_cause(lines: &[u32], days: u32, last: u32) -> Option<Cause>
+    ensures { result ≡ length_cause lines.now days last }
+{
+    let line = other_line(lines, days, last)?;
+    Some(Cause::OtherLength(line, words_on(lines, line), days))
+}
+
+fn row_cause(shifts: u32, shift: u32, day: u32, word: &[u8]) -> Option<Cause>
+    ensures { result ≡ row_cause shifts shift day word.now }
+{
+    let cause = if shift == 1 {
+        Cause::NoComment
+    } else {
+        Cause::MissingRow(shift.saturating_sub(1), shifts)
+    };
+    let letters = !has_digit(word);
+    cause_if(day == 1 && letters, cause)
+}
+
+// What the lines before a word show that should be a demand.
+fn rows_cause(
+    alloc: Global,
+    cursor: &mut Cursor,
+    shift: u32,
+    day: u32,
+    word: &Lexeme,
+) -> Result<Option<Cause>, AllocError>
+    ensures { IfOk result (λ cause. cause ≡ rows_cause cursor.old shift day word.now) }
+{
+    let size = match read_size(cursor) {
+        Ok(size) => size,
+        Err(_) => return Ok(None),
+    };
+    let lines = cursor.lines(alloc)?;
+    let length = length_cause(&lines, size.days, word.line().saturating_sub(1));
+    Ok(or_cause(length, row_cause(size.shifts, shift, day, word.text())))
+}
+
+// What the lines of demands up to a word show.
+fn lines_cause(
+    alloc: Global,
+    cursor: &mut Cursor,
+    word: &Lexeme,
+) -> Result<Option<Cause>, AllocError>
+    ensures { IfOk result (λ cause. cause ≡ lines_cause cursor.old word.now) }
+{
+    let size = match read_size(cursor) {
+        Ok(size) => size,
+        Err(_) => return Ok(None),
+    };
+    let lines = cursor.lines(alloc)?;
+    Ok(length_cause(&lines, size.days, word.line()))
+}
+
+// What is likely where a shift's line has not five or six words.
+fn row_length_cause(
+    alloc: Global,
+    cursor: &mut Cursor,
+    awaited: Place,
+    word: &Lexeme,
+) -> Result<Option<Cause>, AllocError>
+    ensures { IfOk result (λ cause. cause ≡ row_length_cause cursor.old awaited word.now) }
+{
+    match awaited {
+        Place::ShiftLine(shift) => {
+            let lines = lines_cause(alloc, cursor, word)?;
+            let wanted = shift == 1 && has_digit(word.text());
+            Ok(if wanted { lines } else { None })
+        }
+        _ => Ok(None),
+    }
+}
+
+// Past the demands and the shifts.
+fn skip_shifts<'a>(alloc: Global, cursor: &mut Cursor<'a>) -> Result<(), Fail<Misfit<'a>>>
+    ensures { ReadsUnless (λ none. none) (shifts_skipped cursor.old) result cursor.new }
+{
+    let size = read_size(cursor).map_err(Fail::Refused)?;
+    // By calls, so that each drop is one step of the proof.
+    let demand = read_demand(alloc, size, cursor)?;
+    drop(demand);
+    let shifts = read_shifts(alloc, size.shifts, cursor)?;
+    drop(shifts);
+    Ok(())
+}
+
+#[tactic(auto, unfolding(crate::specs::LikelyCauses::counts_at))]
+fn read_counts<'a>(alloc: Global, cursor: &mut Cursor<'a>) -> Result<Counts, Fail<Misfit<'a>>>
+    ensures { GivesUnless (λ counts. counts) (counts_at cursor.old) result }
+{
+    skip_shifts(alloc, cursor)?;
+    cursor
+        .bounds(Place::LeastOff, Place::GreatestOff)
+        .map_err(Fail::Refused)?;
+    cursor
+        .bounds(Place::LeastWork, Place::GreatestWork)
+        .map_err(Fail::Refused)?;
+    let word = cursor.next(Place::Pairs).map_err(Fail::Refused)?;
+    let pairs = word.limited(Place::Pairs, PAIRS).map_err(Fail::Refused)?;
+    let triples = cursor
+        .number(Place::Triples, TRIPLES)
+        .map_err(Fail::Refused)?;
+    Ok(Counts {
+        line: word.line(),
+        pairs,
+        triples,
+    })
+}
+
+// What a text announces, where it goes as far.
+fn announced(alloc: Global, cursor: &mut Cursor) -> Result<Option<Cause>, AllocError>
+    ensures { IfOk result (λ cause. cause ≡ announced (counts_at cursor.old)) }
+{
+    match read_counts(alloc, cursor) {
+        Ok(counts) => Ok(Some(Cause::Announced(counts))),
+        Err(Fail::Refused(_)) => Ok(None),
+        Err(Fail::Memory) => Err(AllocError),
+    }
+}
+
+fn size_cause(word: &[u8]) -> Option<Cause>
+    ensures { result ≡ size_cause word.now }
+{
+    if has_digit(word) {
+        Some(Cause::SizesFirst)
+    } else {
+        Some(Cause::NoComment)
+    }
+}
+
+// What is usual at a place where a word should be a number, or what the lines before a word show that should be a
+// demand.
+fn own_cause(
+    alloc: Global,
+    cursor: &mut Cursor,
+    awaited: Place,
+    word: &Lexeme,
+) -> Result<Option<Cause>, AllocError>
+    ensures { IfOk result (λ cause. cause ≡ own_cause cursor.old awaited word.now) }
+{
+    match awaited {
+        Place::Demand(shift, day) => rows_cause(alloc, cursor, shift, day, word),
+        Place::Days | Place::Weeks | Place::Shifts => Ok(size_cause(word.text())),
+        Place::Start(_) => Ok(cause_if(!has_digit(word.text()), Cause::TwoWordName)),
+        Place::LeastOff
+        | Place::GreatestOff
+        | Place::LeastWork
+        | Place::GreatestWork
+        | Place::Pairs
+        | Place::Triples => Ok(Some(Cause::FrameNumbers)),
+        _ => Ok(None),
+    }
+}
+
+// What a word shows that should be a number, by its place.
+fn place_cause(
+    alloc: Global,
+    cursor: &mut Cursor,
+    awaited: Place,
+    word: &Lexeme,
+) -> Result<Option<Cause>, AllocError>
+    ensures { IfOk result (λ cause. cause ≡ place_cause cursor.old awaited word.now) }
+{
+    let own = own_cause(alloc, cursor, awaited, word)?;
+    let point = or_cause(point_cause(word.text()), own);
+    Ok(or_cause(range_cause(awaited, word.text()), point))
+}
+
+// What is likely where the text ends too early.
+fn end_cause(
+    alloc: Global,
+    cursor: &mut Cursor,
+    awaited: Place,
+) -> Result<Option<Cause>, AllocError>
+    ensures { IfOk result (λ cause. cause ≡ end_cause cursor.old awaited) }
+{
+    match awaited {
+        Place::Days => Ok(Some(Cause::NoWords)),
+        Place::InPair(_, _) | Place::InTriple(_, _) => announced(alloc, cursor),
+        _ => Ok(None),
+    }
+}
+
+// What is likely where a word is refused.
+fn bad_word_cause(
+    alloc: Global,
+    cursor: &mut Cursor,
+    awaited: Place,
+    word: &Lexeme,
+    fault: Fault,
+) -> Result<Option<Cause>, AllocError>
+    ensures { IfOk result (λ cause. cause ≡ bad_word_cause cursor.old awaited word.now fault) }
+{
+    match fault {
+        Fault::NoNumber => {
+            let place = place_cause(alloc, cursor, awaited, word)?;
+            Ok(or_cause(word_cause(word.text()), place))
+        }
+        Fault::WordCount(_) => row_length_cause(alloc, cursor, awaited, word),
+        Fault::NoSymbol => Ok(cause_if(has_byte(b',', word.text()), Cause::Commas)),
+        Fault::NotEnd => announced(alloc, cursor),
+        Fault::Beyond(_)
+        | Fault::TooManyDays(_, _)
+        | Fault::LongName
+        | Fault::OffName
+        | Fault::TakenName(_) => Ok(None),
+    }
+}
+
+/// What is likely the cause of the first failure, where that is plain. The cursor is at the front of the text. The cost
+/// grows with the text.
+pub fn likely(
+    alloc: Global,
+    cursor: &mut Cursor,
+    misfit: &Misfit,
+) -> Result<Option<Cause>, AllocError>
+    ensures { IfOk result (λ cause. cause ≡ likely cursor.old misfit.now) }
+{
+    match misfit {
+        Misfit::TextEnds(awaited, _) => end_cause(alloc, cursor, *awaited),
+        Misfit::BadWord(awaited, word, fault) => {
+            bad_word_cause(alloc, cursor, *awaited, word, *fault)
+        }
+    }
+}
