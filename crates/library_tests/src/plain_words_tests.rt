@@ -1,5 +1,6 @@
 // Problems in words, as they were written by hand.
-use plain_words::{LongNumber, problem_words};
+use plain_words::problem_words;
+use rwsp_file::LongNumber;
 use std::alloc::Global;
 use std::test::Fail;
 use test_helpers::{D_ON_EITHER_DAY, SEQUENCES, TWOS_IN_SIX, problem_of};

@@ -11,7 +11,7 @@ use Rattle.rwsp_terms.specs.declared.data.Class.TheVariants as Classes
 use Rattle.rwsp_terms.specs.Instance.{Instance, shift_count, symbol_numbered, off_symbol, IsSymbol}
 use Rattle.rwsp_terms.specs.Rules.{rules}
 use Rattle.refutation_terms.specs.BlocksLeaf.{BlocksHold}
-use Rattle.plain_words.specs.declared.sentence.LongNumber.{LongNumber}
+use Rattle.rwsp_file.specs.declared.long_numbers.LongNumber.{LongNumber}
 use Rattle.plain_words.specs.declared.sentence.Sentence.{Sentence}
 use Rattle.plain_words.specs.declared.sentence.Sentence.TheVariants.{Size, Hours, OfRule, CrossedBlocks, LongBlocks, TwicePair, TwiceTriple, CrossedDemand, LargeDemand, LargeDay, NumericName, Counted}
 use Rattle.plain_words.specs.Sentences.{said_if, crossed_blocks, long_blocks, shift_slips, twice_pair, twice_triple, pair_slips, triple_slips, pair_slips_at, triple_slips_at, is_same_pair, is_same_triple, demand_slips, day_slips, slips, counted_if, counted, rule_sentences, problem_sentences}

@@ -5,7 +5,7 @@ use Rattle.rwsp_terms.specs.Instance.{Instance, IsSymbol}
 use Rattle.rwsp_terms.specs.Rules.{rules}
 use Rattle.rwsp_terms.specs.declared.data.Symbol.{Symbol}
 use Rattle.refutation_terms.specs.BlocksLeaf.{BlocksHold}
-use Rattle.plain_words.specs.declared.sentence.LongNumber.{LongNumber}
+use Rattle.rwsp_file.specs.declared.long_numbers.LongNumber.{LongNumber}
 use Rattle.plain_words.specs.declared.sentence.Sentence.{Sentence}
 use Rattle.plain_words.specs.declared.sentence.Sentence.TheVariants.{OfRule, Counted}
 use Rattle.plain_words.specs.Sentences.{problem_sentences}

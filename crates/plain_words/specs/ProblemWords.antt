@@ -1,7 +1,7 @@
 -- A problem in words.
 use Rattle.std.specs.Prelude.{ℕ, List}
 use Rattle.rwsp_terms.specs.Instance.{Instance}
-use Rattle.plain_words.specs.declared.sentence.LongNumber.{LongNumber}
+use Rattle.rwsp_file.specs.declared.long_numbers.LongNumber.{LongNumber}
 use Rattle.plain_words.specs.Sentences.{problem_sentences}
 use Rattle.plain_words.specs.SentenceText.{lines}
 

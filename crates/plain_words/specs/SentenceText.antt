@@ -11,7 +11,7 @@ use Rattle.rwsp_terms.specs.declared.data.Rule.TheVariants as TheRules
 use Rattle.rwsp_terms.specs.Instance.{Instance, bounds, shift_count, shift_demand, column_least, name_numbered, symbol_numbered}
 use Rattle.rwsp_terms.specs.Rules.{rule_of}
 use Rattle.rwsp_model.specs.RuleNumbers.{place_of}
-use Rattle.plain_words.specs.declared.sentence.LongNumber.{LongNumber}
+use Rattle.rwsp_file.specs.declared.long_numbers.LongNumber.{LongNumber}
 use Rattle.plain_words.specs.declared.sentence.Sentence.{Sentence}
 use Rattle.plain_words.specs.declared.sentence.Sentence.TheVariants.{Size, Hours, OfRule, CrossedBlocks, LongBlocks, TwicePair, TwiceTriple, CrossedDemand, LargeDemand, LargeDay, NumericName, Counted}
 use Rattle.plain_words.specs.Words.{days_words, weeks_words, range_words, name_words}

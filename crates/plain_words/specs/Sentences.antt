@@ -7,7 +7,7 @@ use Rattle.rwsp_terms.specs.declared.data.Class.{Class}
 use Rattle.rwsp_terms.specs.declared.data.Class.TheVariants as Classes
 use Rattle.rwsp_terms.specs.Instance.{Instance, bounds, shift_count, shift_demand, column_least, symbol_numbered, off_symbol, IsClass, IsDay, IsSymbol}
 use Rattle.rwsp_terms.specs.Rules.{rules}
-use Rattle.plain_words.specs.declared.sentence.LongNumber.{LongNumber}
+use Rattle.rwsp_file.specs.declared.long_numbers.LongNumber.{LongNumber}
 use Rattle.plain_words.specs.declared.sentence.Sentence.{Sentence}
 use Rattle.plain_words.specs.declared.sentence.Sentence.TheVariants.{Size, Hours, OfRule, CrossedBlocks, LongBlocks, TwicePair, TwiceTriple, CrossedDemand, LargeDemand, LargeDay, NumericName, Counted}
 use Rattle.plain_words.specs.RuleWords.{is_crossed}

@@ -26,6 +26,6 @@ pub use cause::{Cause, Count, Short};
 pub use laws::{counted_are_leaves, rules_are_said_once};
 pub use problem::problem_words;
 pub use rule_words::put_rule_words;
-pub use sentence::{LongNumber, Sentence};
+pub use sentence::Sentence;
 pub use statement::{Rosters, Statement};
 pub use words::{put_days, put_name_words, put_range, put_symbol_words, put_weeks};

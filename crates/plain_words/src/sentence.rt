@@ -1,16 +1,6 @@
 // What is said of a problem, sentence by sentence.
+use rwsp_file::LongNumber;
 use rwsp_terms::{Class, Symbol};
-
-/// A shift whose line has a number for its long name: the line, which shift it is, the number, and what is read as the
-/// bounds of its blocks. Lines and shifts count from 1.
-#[derive(Clone, Copy)]
-pub struct LongNumber {
-    pub line: u32,
-    pub shift: u32,
-    pub long_name: u32,
-    pub least: u32,
-    pub greatest: u32,
-}
 
 /// A sentence about a problem. Rules, days and shifts count from 1, pairs and triples from 0.
 #[derive(Clone, Copy)]

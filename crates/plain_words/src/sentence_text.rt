@@ -13,8 +13,9 @@ use crate::rule_words::{
     demand_of, least_of_day, put_crossed, put_least, put_most, put_pair_at, put_rule_words,
     put_shift, put_triple_at,
 };
-use crate::sentence::{LongNumber, Sentence};
+use crate::sentence::Sentence;
 use crate::words::{put_name_words, put_range, put_weeks};
+use rwsp_file::LongNumber;
 use rwsp_model::{Problem, number_of, rule_at};
 use rwsp_terms::{Class, Rule, Symbol};
 use rwsp_text::put_number;
