@@ -8,7 +8,7 @@ use Rattle.crew_calendar.specs.Calendar.{FitsDates, IsNotBefore}
 use Rattle.command_line.specs.Forms.{Field, File, Number, Day, Range, Setting, Perhaps, Form, said_by, forms_text}
 use Rattle.command_line.specs.declared.command.TheConstants.{GREATEST_NUMBER, USUAL_MEND_BUDGET}
 use Rattle.command_line.specs.declared.command.Command.{Command}
-use Rattle.command_line.specs.declared.command.Command.TheVariants.{Trial, OnProblem, OnFiles}
+use Rattle.command_line.specs.declared.command.Command.TheVariants.{Trial, OnProblem, OnFiles, Explain}
 use Rattle.command_line.specs.declared.command.ProblemTask.{ProblemTask}
 use Rattle.command_line.specs.declared.command.ProblemTask.TheVariants.{Plan, Show, Best, Staff, Mend, Rest}
 use Rattle.command_line.specs.declared.command.FilesTask.{FilesTask}
@@ -110,6 +110,13 @@ on_form = record {
   make = λ v. OnFiles v.0 v.1.0 (On v.1.1.0 v.1.1.1.0);
 }
 
+abbrev pub explain_form : Form Command
+explain_form = record {
+  word = codes "explain";
+  fields = problem_file ∷ Perhaps (File (codes "ANSWER")) ∷ [];
+  make = λ v. Explain v.0 v.1.0;
+}
+
 -- the table, in the order of the line of usage
 abbrev pub forms : List (Form Command)
 forms =
@@ -118,7 +125,7 @@ forms =
     ∷ files_form (codes "check-free") (codes "LOG") CheckFree ∷ staff_form
     ∷ files_form (codes "check-staff") (codes "TEXT") CheckStaff ∷ crew_form
     ∷ mend_form ∷ rest_form ∷ files_form (codes "page") (codes "ROSTER") Page
-    ∷ ics_form ∷ on_form ∷ files_form (codes "roster") (codes "ANSWER") Roster ∷ []
+    ∷ ics_form ∷ on_form ∷ files_form (codes "roster") (codes "ANSWER") Roster ∷ explain_form ∷ []
 
 -- the words are a form of the command
 abbrev pub IsForm : CommandWords → Command → Type 0
@@ -141,10 +148,13 @@ abbrev pub file_of : Command → List ℕ
 file_of (Trial number weeks) = []
 file_of (OnProblem file task) = file
 file_of (OnFiles file second task) = file
+file_of (Explain file answer) = file
 
--- the name of the second file
+-- the name of the second file; where `explain` is given no answer, it has the bytes of the problem's file to explain
 abbrev pub second_of : Command → List ℕ
 second_of (OnFiles file second task) = second
+second_of (Explain file None) = file
+second_of (Explain file (Some answer)) = answer
 second_of command = []
 
 -- the command reads a problem's file
@@ -155,6 +165,7 @@ ReadsProblem command = Unit {0}
 -- the command reads a second file
 abbrev pub ReadsSecond : Command → Type 0
 ReadsSecond (OnFiles file second task) = Unit {0}
+ReadsSecond (Explain file answer) = Unit {0}
 ReadsSecond command = ⊥
 
 -- n is from 1 to a limit
@@ -188,6 +199,7 @@ abbrev pub IsInRange : Command → Type 0
 IsInRange (Trial number weeks) = IsUpTo MOST_WEEKS weeks
 IsInRange (OnProblem file task) = IsProblemTaskInRange task
 IsInRange (OnFiles file second task) = IsFilesTaskInRange task
+IsInRange (Explain file answer) = Unit {0}
 
 -- a calendar that the task asks for ends by 9999-12-31, with all duties, and a date isn't before the roster's first day
 abbrev pub EndsInTime : FilesTask → Type 0

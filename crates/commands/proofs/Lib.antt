@@ -15,5 +15,6 @@ pub mod Mends
 pub mod Rests
 pub mod Pages
 pub mod RosterAnswers
+pub mod Explained
 pub mod Scanned
 pub mod GivenBack

@@ -14,6 +14,7 @@ pub mod Ics
 pub mod On
 pub mod AnswerParts
 pub mod Roster
+pub mod Explain
 pub mod Trial
 pub mod Best
 pub mod Staff

@@ -15,9 +15,13 @@ use Rattle.commands.specs.declared.problem_file.ProblemRefusal.TheVariants.{TooL
 abbrev pub IsShortFile : List ℕ → Type 0
 IsShortFile file = length file ≤ LONGEST_FILE
 
+-- one that is
+abbrev pub IsLongFile : List ℕ → Type 0
+IsLongFile file = LONGEST_FILE < length file
+
 -- why the bytes of a problem's file are refused
 abbrev pub IsProblemRefusal : List ℕ → ProblemRefusal → Type 0
-IsProblemRefusal file TooLong = LONGEST_FILE < length file
+IsProblemRefusal file TooLong = IsLongFile file
 IsProblemRefusal file (Refused why) = IsShortFile file × (file_refusal file ≡ Some why)
 
 -- the file isn't too long and spells the problem, where its bytes are known

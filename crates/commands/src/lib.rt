@@ -7,6 +7,7 @@ pub mod check;
 pub mod check_free;
 pub mod check_staff;
 pub mod crew;
+pub mod explain;
 pub mod ics;
 mod log_refusal;
 pub mod mend;
@@ -24,7 +25,7 @@ mod stop;
 pub mod trial;
 pub mod verify;
 
-pub use problem_file::{ProblemRefusal, problem_in, problem_refusal_line};
+pub use problem_file::{ProblemRefusal, problem_bytes_in, problem_in, problem_refusal_line};
 pub use put::not_weekly_line;
 pub use second_file::{SecondKind, second_in, too_long_line};
 pub use stop::Stop;

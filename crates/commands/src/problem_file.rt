@@ -1,9 +1,9 @@
 // The problem's file, read and understood.
-ghost use Rattle.std.specs.Prelude.{◌≡◌, ℕ, List, IfOk, IfErr, IsErrOf};
+ghost use Rattle.std.specs.Prelude.{◌≡◌, ℕ, List, IfOk, IfErr, IsErrOf, MatchOption};
 ghost use Rattle.std.specs.String.{string_bytes};
 ghost use Rattle.rwsp_io.specs.Told.{NeverFall, Rose, Missing, Bytes};
-ghost use Rattle.commands.specs.Files.{IsStop};
-ghost use Rattle.commands.specs.ProblemFile.{IsProblemRead, IsShortFile, problem_refusal_line};
+ghost use Rattle.commands.specs.Files.{WhereTold, Holds, IsStop};
+ghost use Rattle.commands.specs.ProblemFile.{IsProblemRead, IsLongFile, IsShortFile, problem_refusal_line};
 
 use crate::stop::Stop;
 use rwsp_file::{FileRefusal, read_problem};
@@ -51,6 +51,28 @@ fn problem_of(alloc: Global, text: &[u8]) -> Result<Result<Problem, ProblemRefus
         Ok(problem) => Ok(Ok(problem)),
         Err(Fail::Refused(refusal)) => Ok(Err(ProblemRefusal::Refused(refusal))),
         Err(Fail::Memory) => Err(Stop::Memory),
+    }
+}
+
+/// All bytes of a problem's file, for a command that reads more in them than the problem; None where they are too many.
+pub fn problem_bytes_in<S: Shelf>(
+    alloc: Global,
+    shelf: &mut S,
+    name: &str,
+) -> Result<Option<Vec<u8>>, Stop>
+    ensures read { IfOk result (λ found. MatchOption found
+        (WhereTold (S.held shelf.old name.now) IsLongFile)
+        (λ bytes. Holds (S.held shelf.old name.now) bytes.items × IsShortFile bytes.items)) }
+    ensures stop { IfErr result (IsStop (Rose (S.faults shelf.old name.now) (S.faults shelf.new name.now))) }
+    ensures missing { S.held shelf.old name.now ≡ Missing → IsErrOf result Stop.ReadFault }
+    ensures held { (other : List ℕ) → S.held shelf.new other ≡ S.held shelf.old other }
+    ensures faults { NeverFall (S.faults shelf.old) (S.faults shelf.new) }
+{
+    match read_all(alloc, shelf, name, LONGEST_FILE as usize) {
+        Ok(bytes) => Ok(Some(bytes)),
+        Err(ReadFail::Fault) => Err(Stop::ReadFault),
+        Err(ReadFail::TooLong) => Ok(None),
+        Err(ReadFail::Memory) => Err(Stop::Memory),
     }
 }
 

@@ -39,7 +39,7 @@ use Rattle.rwsp_run.specs.declared.jobs.JobAnswer.{JobAnswer}
 use Rattle.rwsp_run.specs.declared.jobs.JobAnswer.TheVariants as Jobs
 use Rattle.rwsp_run.specs.declared.answer.Refusal.TheVariants.{NotWeekly, TooLong}
 use Rattle.rwsp_run.specs.declared.answer.Answer.{Answer}
-use Rattle.rwsp_run.specs.declared.answer.Answer.TheVariants.{Refused, Job}
+use Rattle.rwsp_run.specs.declared.answer.Answer.TheVariants.{Refused, Job, Explained}
 use Rattle.rwsp_run.proofs.OneAnswer.{one_on}
 
 told : (bytes : List ℕ) → Bytes bytes ≢ Silent
@@ -120,4 +120,5 @@ same_for_workers m n name second told P (Refused (NotWeekly days)) h = h
 same_for_workers m n name second told P (Refused (TooLong kind)) h = h
 same_for_workers m n name second told P (Job (Jobs.Check a)) h = h
 same_for_workers m n name second told P (Job a) h = absurd h.1.2
+same_for_workers m n name second told P (Explained words) h = absurd h.1
 same_for_workers m n name second told P a h = absurd h

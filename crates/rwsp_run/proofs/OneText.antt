@@ -10,7 +10,7 @@ use Rattle.commands.specs.Trial.{trial_text}
 use Rattle.rwsp_run.specs.Commands.{job_text}
 use Rattle.rwsp_run.specs.Texts.{IsTextFor}
 use Rattle.rwsp_run.specs.Laws.{TextsAreOne}
-use Rattle.rwsp_run.specs.declared.answer.Answer.TheVariants.{Refused, Trial, Job}
+use Rattle.rwsp_run.specs.declared.answer.Answer.TheVariants.{Refused, Trial, Job, Explained}
 use Rattle.rwsp_run.proofs.Files.{same_problem}
 
 pub one_text : TextsSpellOne → TextsAreOne
@@ -18,6 +18,7 @@ one_text one held words (Refused why) text other there h k = h ∙ sym k
 one_text one held words (Trial trial) text other there h k =
     let same : h.0 ≡ k.0 = same_generated trial.number trial.weeks h.0 k.0 h.1 k.1 in
     h.2 ∙ ap (λ (P : Instance). trial_text P trial) same ∙ sym k.2
+one_text one held words (Explained said) text other there h k = h ∙ sym k
 one_text one held words (Job a) text other there h k =
     let command : k.0 ≡ h.0 = one_form words k.0 h.0 k.1.0 h.1.0 in
     let also = subst (λ (c : Command). IsTextFor (held (file_of c)) (Job a) other) command k.2 in

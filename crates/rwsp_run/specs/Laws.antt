@@ -1,5 +1,5 @@
 -- What answers fit a command line over files whose bytes are known.
-use Rattle.std.specs.Prelude.{◌≡◌, ◌≢◌, ◌⊎◌, ℕ, ◌+◌, ◌≤◌, Bool, List, Some, None}
+use Rattle.std.specs.Prelude.{◌≡◌, ◌≢◌, ◌⊎◌, ◌↔◌, ℕ, ◌+◌, ◌≤◌, Bool, List, Option, Some, None}
 use Rattle.rwsp_terms.specs.declared.limits.TheConstants.{MOST_WEEKS}
 use Rattle.rwsp_io.specs.Told.{Told, Silent, Bytes}
 use Rattle.rwsp_terms.specs.Instance.{Instance}
@@ -7,6 +7,8 @@ use Rattle.rwsp_terms.specs.Roster.{MeetsAll}
 use Rattle.rwsp_terms.specs.declared.data.Symbol.{Symbol}
 use Rattle.rwsp_model.specs.declared.roster.Roster.{Roster}
 use Rattle.rwsp_file.specs.Spelling.{SpellsProblem}
+use Rattle.rwsp_file.specs.Reading.{file_refusal}
+use Rattle.rwsp_file.specs.declared.refusal.FileRefusal.{FileRefusal}
 use Rattle.refutation_terms.specs.Log.{Log}
 use Rattle.refutation_terms.specs.LogText.{log_text}
 use Rattle.refutation_terms.specs.FreeWeekends.{free_weekends}
@@ -19,7 +21,7 @@ use Rattle.crew_size.specs.Laws.{decision_of}
 use Rattle.crew_size.specs.declared.verdict.Staffed.{Staffed}
 use Rattle.command_line.specs.Commands.{CommandWords, ReadsSecond, file_of, second_of}
 use Rattle.command_line.specs.declared.command.Command.{Command}
-use Rattle.command_line.specs.declared.command.Command.TheVariants.{OnProblem, OnFiles}
+use Rattle.command_line.specs.declared.command.Command.TheVariants.{OnProblem, OnFiles, Explain}
 use Rattle.command_line.specs.declared.command.ProblemTask.{ProblemTask}
 use Rattle.command_line.specs.declared.command.ProblemTask.TheVariants.{Plan, Best, Staff}
 use Rattle.command_line.specs.declared.command.FilesTask.{FilesTask}
@@ -31,18 +33,19 @@ use Rattle.commands.specs.Best.{BestsAgree, best_roster}
 use Rattle.commands.specs.Staff.{StaffsAgree}
 use Rattle.ways_out.specs.Agreement.{WaysAgree}
 use Rattle.commands.specs.declared.second_file.SecondKind.TheVariants as Kinds
+use Rattle.commands.specs.declared.explain.Answer.TheVariants as Explanations
 use Rattle.commands.specs.declared.staff.Answer.TheVariants as Staffs
 use Rattle.commands.specs.declared.verify.Answer.TheVariants as Verifies
 use Rattle.commands.specs.declared.check.Answer.TheVariants as Checks
 use Rattle.commands.specs.declared.check_staff.Answer.TheVariants as StaffChecks
 use Rattle.commands.specs.declared.reduce.Answer.TheVariants as Reductions
-use Rattle.rwsp_run.specs.Answers.{IsAnswer, IsAnswerOn, IsAsked}
+use Rattle.rwsp_run.specs.Answers.{IsAnswer, IsAnswerOn, IsAnswerTo, IsAsked}
 use Rattle.rwsp_run.specs.Texts.{IsTextOf}
 use Rattle.rwsp_run.specs.Commands.{job_text}
 use Rattle.rwsp_run.specs.declared.jobs.JobAnswer.{JobAnswer}
 use Rattle.rwsp_run.specs.declared.jobs.JobAnswer.TheVariants as Jobs
 use Rattle.rwsp_run.specs.declared.answer.Answer.{Answer}
-use Rattle.rwsp_run.specs.declared.answer.Answer.TheVariants.{Trial, Job}
+use Rattle.rwsp_run.specs.declared.answer.Answer.TheVariants.{Trial, Job, Explained}
 
 -- the shelf tells what the problem's file holds, or that it isn't there, where the words ask for a command that reads
 -- one
@@ -91,6 +94,14 @@ ProblemsAreAnswered =
     → IsAsked words command → held (file_of command) ≡ Bytes file → IsShortFile file → SpellsProblem file P
     → IsAnswer held words a
     → IsAnswerOn command (held (second_of command)) P a
+
+-- of a file that isn't too long `explain` says why it is refused exactly where the reader refuses it
+abbrev pub RefusalsAreTheReaders : Type 0
+RefusalsAreTheReaders =
+    (held : List ℕ → Told) (name : List ℕ) (second : Option (List ℕ)) (file : List ℕ) (a : Answer)
+    → held name ≡ Bytes file → IsShortFile file → IsAnswerTo (Explain name second) held a
+    → ((text : List ℕ) × (a ≡ Explained (Explanations.Refused text)))
+    ↔ ((why : FileRefusal) × (file_refusal file ≡ Some why))
 
 -- an answer to a task on a problem, whatever its file is called
 abbrev pub IsAnswerOnProblem : ProblemTask → Instance → Answer → Type 0

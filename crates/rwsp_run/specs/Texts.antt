@@ -9,12 +9,13 @@ use Rattle.commands.specs.Lines.{line, not_weekly_line}
 use Rattle.commands.specs.Files.{too_long_line}
 use Rattle.commands.specs.ProblemFile.{IsProblemOf, problem_refusal_line}
 use Rattle.commands.specs.Trial.{IsTrialText}
+use Rattle.commands.specs.Explain.{explain_text}
 use Rattle.rwsp_run.specs.Commands.{job_text, IsPrintable}
 use Rattle.rwsp_run.specs.Answers.{IsAsked}
 use Rattle.rwsp_run.specs.declared.answer.Refusal.{Refusal}
 use Rattle.rwsp_run.specs.declared.answer.Refusal.TheVariants.{Usage, Horizon, Problem, NotWeekly, TooLong}
 use Rattle.rwsp_run.specs.declared.answer.Answer.{Answer}
-use Rattle.rwsp_run.specs.declared.answer.Answer.TheVariants.{Refused, Trial, Job}
+use Rattle.rwsp_run.specs.declared.answer.Answer.TheVariants.{Refused, Trial, Job, Explained}
 
 -- the line of a refusal, which is the same for every problem
 abbrev pub refusal_line : Refusal → List ℕ
@@ -28,10 +29,12 @@ refusal_line (TooLong kind) = too_long_line kind
 abbrev pub IsTextFor : Told → Answer → List ℕ → Type 0
 IsTextFor told (Refused why) text = text ≡ refusal_line why
 IsTextFor told (Trial trial) text = IsTrialText trial text
+IsTextFor told (Explained words) text = text ≡ explain_text words
 IsTextFor told (Job answer) text =
     (P : Instance) × IsProblemOf told P × IsPrintable P answer × (text ≡ job_text P answer)
 
--- the same for the problem's file of the command that the words ask for; of a refusal or a trial it depends on no file
+-- the same for the problem's file of the command that the words ask for; of a refusal, a trial or
+-- an explanation, which holds its own, it depends on no file
 abbrev pub IsTextOf : (List ℕ → Told) → CommandWords → Answer → List ℕ → Type 0
 IsTextOf held words (Job answer) text =
     (command : Command) × IsAsked words command × IsTextFor (held (file_of command)) (Job answer) text

@@ -3,7 +3,7 @@ ghost use Rattle.std.specs.Prelude.{◌≡◌};
 ghost use Rattle.rwsp_run.specs.Status.{status_of_stop};
 
 use crate::jobs::JobAnswer;
-use commands::{ProblemRefusal, SecondKind, Stop, trial};
+use commands::{ProblemRefusal, SecondKind, Stop, explain, trial};
 
 /// Why a command's job isn't begun.
 #[derive(Clone, Copy)]
@@ -26,6 +26,8 @@ pub enum Answer {
     Refused(Refusal),
     Trial(trial::Answer),
     Job(JobAnswer),
+    /// The problem's file, its refusal or an answer, in words.
+    Explained(explain::Answer),
 }
 
 /// How a run ended.
@@ -85,6 +87,7 @@ impl Answer {
             Answer::Refused(_) => 3,
             Answer::Trial(_) => 0,
             Answer::Job(answer) => answer.status(),
+            Answer::Explained(words) => explain::status(words),
         }
     }
 }

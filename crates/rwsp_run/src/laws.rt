@@ -1,5 +1,5 @@
 // Laws of the definitions. Each function's contract is the law.
-ghost use Rattle.rwsp_run.specs.Laws.{AnswersAreOne, TextsAreOne, ProblemsAreAnswered, RefutationsAreAccepted, RostersMeet, ReductionsAreAccepted, StaffTextsAreAccepted, BestRostersAreBest, BestRostersMeet, BestProofsAreAccepted, WorkersMakeNoDifference};
+ghost use Rattle.rwsp_run.specs.Laws.{AnswersAreOne, TextsAreOne, ProblemsAreAnswered, RefutationsAreAccepted, RostersMeet, ReductionsAreAccepted, StaffTextsAreAccepted, BestRostersAreBest, BestRostersMeet, BestProofsAreAccepted, WorkersMakeNoDifference, RefusalsAreTheReaders};
 
 /// What is said of each answer fits no other answer, except those that a search is free to choose. So an answer
 /// comes exactly where what is said of it is true: no other can come but want of memory, and a fault that the counts
@@ -17,6 +17,11 @@ pub fn texts_are_one()
 /// has spent the whole budget.
 pub fn problems_are_answered()
     ensures { ProblemsAreAnswered }
+{}
+
+/// `explain` says why a problem's file is refused exactly where the reader refuses it.
+pub fn refusals_are_the_readers()
+    ensures { RefusalsAreTheReaders }
 {}
 
 /// What `plan` writes as a refutation is accepted by `check` over the same file.

@@ -2,6 +2,7 @@
 ghost use Rattle.std.specs.Prelude.{◌≡◌, ◌≤◌, IfOk};
 ghost use Rattle.std.specs.String.{string_bytes};
 ghost use Rattle.commands.specs.Trial.{IsTrial, IsTrialText};
+ghost use Rattle.commands.specs.Explain.{explain_text};
 ghost use Rattle.rwsp_run.specs.Texts.{refusal_line};
 ghost use Rattle.rwsp_run.specs.Commands.{job_text, IsPrintable};
 ghost use Rattle.rwsp_run.specs.declared.answer.Answer.TheVariants as Answers;
@@ -10,7 +11,7 @@ ghost use Rattle.commands.specs.declared.trial.Answer.{Answer as TrialAnswer};
 use crate::answer::{Answer, Refusal};
 use crate::jobs::{JobAnswer, text_of};
 use command_line::usage;
-use commands::{not_weekly_line, problem_refusal_line, too_long_line, trial};
+use commands::{explain, not_weekly_line, problem_refusal_line, too_long_line, trial};
 use potential_bounds::Gate;
 use rwsp_model::Problem;
 use rwsp_terms::limits::MOST_WEEKS;
@@ -80,6 +81,20 @@ pub fn printed(alloc: Global, problem: &Problem, answer: JobAnswer) -> Result<Re
             text,
         }),
         Err(AllocError) => Err(without_memory(answer)),
+    }
+}
+
+/// The reply of an explanation.
+pub fn explained(alloc: Global, words: explain::Answer) -> Result<Reply, AllocError>
+    ensures answer { IfOk result (λ r. r.answer ≡ Answers.Explained words) }
+    ensures text { IfOk result (λ r. r.text.items ≡ explain_text words) }
+{
+    match explain::text(alloc, &words) {
+        Ok(text) => Ok(Reply {
+            answer: Answer::Explained(words),
+            text,
+        }),
+        Err(AllocError) => Err(without_memory(words)),
     }
 }
 

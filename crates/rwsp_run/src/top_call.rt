@@ -11,6 +11,7 @@ ghost use Rattle.rwsp_run.specs.declared.jobs.JobAnswer.{JobAnswer as AnswerOfJo
 ghost use Rattle.rwsp_run.specs.declared.answer.Answer.TheVariants as Answers;
 
 use crate::answer::{Answer, Outcome, Refusal};
+use crate::explained::reply_on_explain;
 use crate::inputs::{Files, files_for, problem_for};
 use crate::jobs::{answer_on_files, answer_on_problem};
 use crate::reply::{Reply, printed, refused, tried};
@@ -121,6 +122,7 @@ fn reply_on<R: Threads + Sync, S: Shelf, G: Gate>(
                 Err(why) => Ok(refused(alloc, why)?),
             }
         }
+        Command::Explain { file, answer } => reply_on_explain(alloc, shelf, file, answer),
     }
 }
 
