@@ -40,14 +40,27 @@ short_words Shorts.LongProblem = codes "the problem's file has more than 1048576
 short_words Shorts.LongRoster = codes "the roster's file has more than 1048576 bytes"
 short_words Shorts.LongLog = codes "the log's file has more than 536870912 bytes"
 
+-- what an answer with one number says in front of the number
+unfoldable pub count_front : Count → List ℕ
+count_front Counts.RosterWeeks = codes "the roster has "
+count_front Counts.NoEmployee = codes "there is no employee "
+count_front Counts.NotWeekly = codes "the command is for weeks of seven days, and these have "
+count_front Counts.StaffRange = codes "with "
+count_front Counts.RestPairs = codes "the rest would forbid "
+count_front Counts.RestTriples = codes "the rest would forbid "
+
+-- and behind it
+unfoldable pub count_behind : Count → List ℕ
+count_behind Counts.RosterWeeks = codes " weeks, and the problem another number"
+count_behind Counts.NoEmployee = codes ": the problem has fewer weeks"
+count_behind Counts.NotWeekly = []
+count_behind Counts.StaffRange = codes " weeks there are too many days to plan"
+count_behind Counts.RestPairs = codes " pairs, and at most 64 may be forbidden"
+count_behind Counts.RestTriples = codes " triples, and at most 64 may be forbidden"
+
 -- an answer with one number
 unfoldable pub count_words : Count → ℕ → List ℕ
-count_words Counts.RosterWeeks n = codes "the roster has " ++ decimal n ++ codes " weeks, and the problem another number"
-count_words Counts.NoEmployee n = codes "there is no employee " ++ decimal n ++ codes ": the problem has fewer weeks"
-count_words Counts.NotWeekly n = codes "the command is for weeks of seven days, and these have " ++ decimal n
-count_words Counts.StaffRange n = codes "with " ++ decimal n ++ codes " weeks there are too many days to plan"
-count_words Counts.RestPairs n = codes "the rest would forbid " ++ decimal n ++ codes " pairs, and at most 64 may be forbidden"
-count_words Counts.RestTriples n = codes "the rest would forbid " ++ decimal n ++ codes " triples, and at most 64 may be forbidden"
+count_words c n = count_front c ++ decimal n ++ count_behind c
 
 -- a line and why it is refused
 unfoldable pub line_words : Cause → ℕ → List ℕ

@@ -102,11 +102,7 @@ fn named_behind(
 
 // What the words of the line are.
 #[tactic(auto, unfolding(crate::specs::AcceptedRules::accepted_in))]
-fn accepted_in(
-    alloc: Global,
-    problem: &Problem,
-    body: &[u8],
-) -> Result<Option<Named>, AllocError>
+fn accepted_in(alloc: Global, problem: &Problem, body: &[u8]) -> Result<Option<Named>, AllocError>
     ensures value { IfOk result (IsRead (accepted_in problem.now (words_of body.now))) }
     ensures own { IfOk result (λ found. IfSome found (IsOwn problem.now)) }
 {

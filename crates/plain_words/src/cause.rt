@@ -1,6 +1,6 @@
 // Why something is refused, and short answers.
 ghost use Rattle.std.specs.Prelude.{◌≡◌, ◌++◌, OnOk};
-ghost use Rattle.plain_words.specs.Causes.{cause_words, short_words, count_words, line_words, log_cause, roster_cause, staff_cause, file_cause};
+ghost use Rattle.plain_words.specs.Causes.{cause_words, short_words, count_front, count_behind, count_words, line_words, log_cause, roster_cause, staff_cause, file_cause};
 
 use rwsp_text::put_number;
 use std::alloc::AllocError;
@@ -57,22 +57,40 @@ fn put_cause(out: &mut Vec<u8>, cause: Cause) -> Result<(), AllocError>
     ensures { OnOk result (out.new.items ≡ out.old.items ++ cause_words cause) }
 {
     match cause {
-        Cause::LogForm => out.extend_from_slice(b"of the log isn't spelled as a line of a log for this problem"),
+        Cause::LogForm => out.extend_from_slice(
+            b"of the log isn't spelled as a line of a log for this problem",
+        ),
         Cause::LogName => out.extend_from_slice(b"of the log has a name that is no shift's"),
-        Cause::LogIdle => out.extend_from_slice(b"of the log splits on a symbol that isn't left there, or is alone there"),
+        Cause::LogIdle => out.extend_from_slice(
+            b"of the log splits on a symbol that isn't left there, or is alone there",
+        ),
         Cause::LogFails => out.extend_from_slice(b"of the log says what doesn't hold"),
         Cause::LogOpen => out.extend_from_slice(b"of the log leaves a case open"),
         Cause::LogExtra => out.extend_from_slice(b"of the log comes after its end"),
-        Cause::LogTurn => out.extend_from_slice(b"of the log turns to a symbol that need not be there in any week"),
-        Cause::StaffForm => out.extend_from_slice(b"of the text is no heading that may stand there"),
-        Cause::RosterUnknown => out.extend_from_slice(b"of the roster has a name that is no shift's"),
+        Cause::LogTurn => out.extend_from_slice(
+            b"of the log turns to a symbol that need not be there in any week",
+        ),
+        Cause::StaffForm => out.extend_from_slice(
+            b"of the text is no heading that may stand there",
+        ),
+        Cause::RosterUnknown => out.extend_from_slice(
+            b"of the roster has a name that is no shift's",
+        ),
         Cause::RosterWidth => out.extend_from_slice(b"of the roster has not one name for each day"),
         Cause::FileEnds => out.extend_from_slice(b"of the file is its last, and more is awaited"),
-        Cause::FileNumber => out.extend_from_slice(b"of the file has no number where one is awaited"),
-        Cause::FileRow => out.extend_from_slice(b"of the file, a shift's, has not five or six words"),
+        Cause::FileNumber => out.extend_from_slice(
+            b"of the file has no number where one is awaited",
+        ),
+        Cause::FileRow => out.extend_from_slice(
+            b"of the file, a shift's, has not five or six words",
+        ),
         Cause::FileName => out.extend_from_slice(b"of the file has a bad name for a shift"),
-        Cause::FileUnknown => out.extend_from_slice(b"of the file has a name in a sequence that is no shift's"),
-        Cause::FileExtra => out.extend_from_slice(b"of the file has a word behind the last sequence"),
+        Cause::FileUnknown => out.extend_from_slice(
+            b"of the file has a name in a sequence that is no shift's",
+        ),
+        Cause::FileExtra => out.extend_from_slice(
+            b"of the file has a word behind the last sequence",
+        ),
     }
 }
 
@@ -85,12 +103,50 @@ pub(crate) fn put_short(out: &mut Vec<u8>, short: Short) -> Result<(), AllocErro
         Short::Meets => out.extend_from_slice(b"the roster meets every rule"),
         Short::LogEnds => out.extend_from_slice(b"the text ends before the log does"),
         Short::StaffEnds => out.extend_from_slice(b"the text stops before its end"),
-        Short::Horizon => out.extend_from_slice(b"the calendar would reach too far, or the date comes before the roster's first day"),
+        Short::Horizon => out.extend_from_slice(
+            b"the calendar would reach too far, or the date comes before the roster's first day",
+        ),
         Short::NoDuty => out.extend_from_slice(b"the employee has no shift on these days"),
         Short::NoRoster => out.extend_from_slice(b"no roster stands in the answer"),
-        Short::LongProblem => out.extend_from_slice(b"the problem's file has more than 1048576 bytes"),
-        Short::LongRoster => out.extend_from_slice(b"the roster's file has more than 1048576 bytes"),
+        Short::LongProblem => out.extend_from_slice(
+            b"the problem's file has more than 1048576 bytes",
+        ),
+        Short::LongRoster => out.extend_from_slice(
+            b"the roster's file has more than 1048576 bytes",
+        ),
         Short::LongLog => out.extend_from_slice(b"the log's file has more than 536870912 bytes"),
+    }
+}
+
+// Appends what an answer with one number says in front of it.
+#[tactic(auto, unfolding(crate::specs::Causes::count_front))]
+fn put_front(out: &mut Vec<u8>, count: Count) -> Result<(), AllocError>
+    ensures { OnOk result (out.new.items ≡ out.old.items ++ count_front count) }
+{
+    match count {
+        Count::RosterWeeks => out.extend_from_slice(b"the roster has "),
+        Count::NoEmployee => out.extend_from_slice(b"there is no employee "),
+        Count::NotWeekly => out.extend_from_slice(
+            b"the command is for weeks of seven days, and these have ",
+        ),
+        Count::StaffRange => out.extend_from_slice(b"with "),
+        Count::RestPairs => out.extend_from_slice(b"the rest would forbid "),
+        Count::RestTriples => out.extend_from_slice(b"the rest would forbid "),
+    }
+}
+
+// Appends what it says behind the number.
+#[tactic(auto, unfolding(crate::specs::Causes::count_behind))]
+fn put_behind(out: &mut Vec<u8>, count: Count) -> Result<(), AllocError>
+    ensures { OnOk result (out.new.items ≡ out.old.items ++ count_behind count) }
+{
+    match count {
+        Count::RosterWeeks => out.extend_from_slice(b" weeks, and the problem another number"),
+        Count::NoEmployee => out.extend_from_slice(b": the problem has fewer weeks"),
+        Count::NotWeekly => Ok(()),
+        Count::StaffRange => out.extend_from_slice(b" weeks there are too many days to plan"),
+        Count::RestPairs => out.extend_from_slice(b" pairs, and at most 64 may be forbidden"),
+        Count::RestTriples => out.extend_from_slice(b" triples, and at most 64 may be forbidden"),
     }
 }
 
@@ -99,37 +155,9 @@ pub(crate) fn put_short(out: &mut Vec<u8>, short: Short) -> Result<(), AllocErro
 pub(crate) fn put_count(out: &mut Vec<u8>, count: Count, number: u32) -> Result<(), AllocError>
     ensures { OnOk result (out.new.items ≡ out.old.items ++ count_words count number) }
 {
-    match count {
-        Count::RosterWeeks => {
-            out.extend_from_slice(b"the roster has ")?;
-            put_number(out, u64::from(number))?;
-            out.extend_from_slice(b" weeks, and the problem another number")
-        }
-        Count::NoEmployee => {
-            out.extend_from_slice(b"there is no employee ")?;
-            put_number(out, u64::from(number))?;
-            out.extend_from_slice(b": the problem has fewer weeks")
-        }
-        Count::NotWeekly => {
-            out.extend_from_slice(b"the command is for weeks of seven days, and these have ")?;
-            put_number(out, u64::from(number))
-        }
-        Count::StaffRange => {
-            out.extend_from_slice(b"with ")?;
-            put_number(out, u64::from(number))?;
-            out.extend_from_slice(b" weeks there are too many days to plan")
-        }
-        Count::RestPairs => {
-            out.extend_from_slice(b"the rest would forbid ")?;
-            put_number(out, u64::from(number))?;
-            out.extend_from_slice(b" pairs, and at most 64 may be forbidden")
-        }
-        Count::RestTriples => {
-            out.extend_from_slice(b"the rest would forbid ")?;
-            put_number(out, u64::from(number))?;
-            out.extend_from_slice(b" triples, and at most 64 may be forbidden")
-        }
-    }
+    put_front(out, count)?;
+    put_number(out, u64::from(number))?;
+    put_behind(out, count)
 }
 
 /// Appends the number of a line and why it is refused.

@@ -274,11 +274,7 @@ pub(crate) fn body_of(bytes: &[u8]) -> Option<&[u8]>
     bytes.strip_suffix(b"\n".as_slice())
 }
 
-fn line_text(
-    alloc: Global,
-    problem: &Problem,
-    statement: Statement,
-) -> Result<Vec<u8>, AllocError>
+fn line_text(alloc: Global, problem: &Problem, statement: Statement) -> Result<Vec<u8>, AllocError>
     requires { StatementFits problem.now statement }
     ensures { IfOk result (λ v. v.items ≡ statement_line problem.now statement) }
 {

@@ -4,9 +4,9 @@ ghost use Rattle.rwsp_terms.specs.Instance.{IsSymbol};
 ghost use Rattle.rwsp_terms.specs.Rules.{rules};
 ghost use Rattle.plain_words.specs.Statements.{weekends_words, rosters_words, unknown_words, numbered_words, works_words, somebody_words, cases_words, open_words, bad_rule_words, fewer_words, statement_words, statement_line, statements_words, StatementFits, IsOther};
 
-use crate::rule_words::put_rule_words;
-use crate::counted::put_counted;
 use crate::cause::{Cause, Count, Short, put_count, put_line_words, put_short};
+use crate::counted::put_counted;
+use crate::rule_words::put_rule_words;
 use crate::words::{put_name_words, put_range, put_weeks};
 use refutation_terms::Turn;
 use rwsp_model::{Problem, rule_at};
@@ -35,7 +35,10 @@ pub enum Statement {
     /// The rule of this number.
     Named(u32),
     /// Of the rule of this number only that somebody has the symbol of the turn on its day.
-    OnlyTurn { rule: u32, turn: Turn },
+    OnlyTurn {
+        rule: u32,
+        turn: Turn,
+    },
     /// No number of blocks of the symbol has as many days as the demand asks for.
     Counted(Symbol),
     /// How many cases are closed, how many were left open, and of which rosters nothing is known.
@@ -45,19 +48,37 @@ pub enum Statement {
         rosters: Rosters,
     },
     /// Why this line of a text is refused.
-    AtLine { cause: Cause, line: u32 },
+    AtLine {
+        cause: Cause,
+        line: u32,
+    },
     /// A line of a log rests on a rule that the log doesn't name.
-    Unnamed { rule: u32, line: u32 },
+    Unnamed {
+        rule: u32,
+        line: u32,
+    },
     /// A line of a log lists a rule that isn't short.
-    Long { rule: u32, line: u32 },
+    Long {
+        rule: u32,
+        line: u32,
+    },
     /// An answer that has no number.
     Plain(Short),
     /// An answer with one number.
-    Numbered { count: Count, number: u32 },
+    Numbered {
+        count: Count,
+        number: u32,
+    },
     /// This number of weeks is enough, and none from `low` on below it is.
-    Least { weeks: u32, low: u32 },
+    Least {
+        weeks: u32,
+        low: u32,
+    },
     /// None of these numbers of weeks is enough.
-    NoneTo { low: u32, last: u32 },
+    NoneTo {
+        low: u32,
+        last: u32,
+    },
 }
 
 // Appends a number of free weekends.
@@ -130,12 +151,7 @@ fn put_works(out: &mut Vec<u8>, problem: &Problem, x: Symbol) -> Result<(), Allo
 
 // Appends that somebody has the symbol on a day.
 #[tactic(auto, unfolding(crate::specs::Statements::somebody_words))]
-fn put_somebody(
-    out: &mut Vec<u8>,
-    problem: &Problem,
-    x: Symbol,
-    day: u32,
-) -> Result<(), AllocError>
+fn put_somebody(out: &mut Vec<u8>, problem: &Problem, x: Symbol, day: u32) -> Result<(), AllocError>
     requires { IsSymbol problem.now x }
     ensures { OnOk result (out.new.items ≡ out.old.items ++ somebody_words problem.now x day) }
 {
@@ -234,11 +250,7 @@ fn put_fewer(out: &mut Vec<u8>, low: u32, weeks: u32) -> Result<(), AllocError>
 
 // Appends what is said of a text that is refused, of numbers of weeks, or of a short answer.
 #[tactic(auto, unfolding(crate::specs::Statements::statement_words))]
-fn put_other(
-    out: &mut Vec<u8>,
-    problem: &Problem,
-    statement: Statement,
-) -> Result<(), AllocError>
+fn put_other(out: &mut Vec<u8>, problem: &Problem, statement: Statement) -> Result<(), AllocError>
     requires { StatementFits problem.now statement }
     ensures { OnOk result (IsOther statement → out.new.items ≡ out.old.items ++ statement_words problem.now statement) }
 {
@@ -322,7 +334,11 @@ fn put_statement(
 }
 
 /// Appends the line of a statement.
-pub(crate) fn put_line(out: &mut Vec<u8>, problem: &Problem, statement: Statement) -> Result<(), AllocError>
+pub(crate) fn put_line(
+    out: &mut Vec<u8>,
+    problem: &Problem,
+    statement: Statement,
+) -> Result<(), AllocError>
     requires { StatementFits problem.now statement }
     ensures { OnOk result (out.new.items ≡ out.old.items ++ statement_line problem.now statement) }
 {
