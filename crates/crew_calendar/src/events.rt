@@ -11,12 +11,12 @@ ghost use Rattle.crew_calendar.specs.Events.{compact_date, compact_moment, momen
 use crate::content_lines::{put_content_line, put_escaped};
 use crate::duty_lines::{length_of, put_two_digits, start_of};
 use crate::places::symbol_on;
-use shown_names::put_shown;
 use crate::{CivilDate, DAY_MINUTES, MOST_DAYS_LATER, date_after};
 use rwsp_model::{Problem, Roster};
 use rwsp_terms::Symbol;
 use rwsp_terms::limits::LONGEST_CALENDAR;
 use rwsp_text::put_number;
+use shown_names::put_shown;
 use std::alloc::{AllocError, Global};
 
 // Whose calendar it is, and its first date.

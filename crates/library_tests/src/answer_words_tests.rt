@@ -9,7 +9,10 @@ const SHORT: [(&[u8], &[u8]); 12] = [
         b"accepted: rules 1 3\n",
         b"no roster meets these rules together (the log is the proof):\n1: at most 2 days of D in a row\n3: at most 2 days off in a row\n",
     ),
-    (b"accepted: rules\n", b"there is no roster, whatever the rules\n"),
+    (
+        b"accepted: rules\n",
+        b"there is no roster, whatever the rules\n",
+    ),
     (
         b"accepted: goal 1 rules 4\n",
         b"no roster with 1 free weekend or more meets these rules together (the log is the proof):\n4: at least 2 days off in a row\n",
@@ -22,7 +25,10 @@ const SHORT: [(&[u8], &[u8]); 12] = [
         b"accepted: least 11 from 11\n",
         b"11 weeks, and so as many employees, are enough; fewer were not tried\n",
     ),
-    (b"accepted: none 8 to 10\n", b"8 to 10 weeks have no roster\n"),
+    (
+        b"accepted: none 8 to 10\n",
+        b"8 to 10 weeks have no roster\n",
+    ),
     (
         b"log refused: fails line 4\n",
         b"line 4 of the log says what doesn't hold\n",

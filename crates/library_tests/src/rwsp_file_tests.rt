@@ -423,7 +423,8 @@ fn mistakes_are_explained(rt: HostRuntime) -> Result<(), Fail> {
 
 #[test]
 fn numeric_long_names_are_found(rt: HostRuntime) -> Result<(), Fail> {
-    let text = b"2\n1\n3\n1 0\n1 0\n1 0\nD 360 480 1 5\nL 840 480 2 5 6\nN 1320 480 Night 1 1\n1 1\n1 1\n0 0\n";
+    let text =
+        b"2\n1\n3\n1 0\n1 0\n1 0\nD 360 480 1 5\nL 840 480 2 5 6\nN 1320 480 Night 1 1\n1 1\n1 1\n0 0\n";
     let found = numeric_long_names(rt.alloc(), text)?;
     let expected = [LongNumber {
         line: 8,

@@ -1,6 +1,9 @@
 // Counters that should stay within ranges: of each symbol on each weekday, and of free weekends.
+ghost use Rattle.std.specs.Prelude.{◌≡◌, ◌<◌, IfOk};
+
+use crate::cost::{minus, plus};
 use crate::demand::{Demand, Range};
-use crate::grid::{entry_or, whole};
+use crate::table::Table;
 use std::alloc::{AllocError, Global};
 
 /// A count, the range in which it should lie, and what it weighs to be off by one.
@@ -21,113 +24,155 @@ impl Counter {
         }
     }
 
+    // The counter with some more counts.
+    fn counting(self, number: i64) -> Counter {
+        Counter {
+            count: plus(self.count, number),
+            ..self
+        }
+    }
+
     // How far the count is off its range.
     fn deviation(self) -> i64 {
-        let under = self.range.least.saturating_sub(self.count);
-        let over = self.count.saturating_sub(self.range.greatest);
+        let under = minus(self.range.least, self.count);
+        let over = minus(self.count, self.range.greatest);
         under.max(over).max(0)
     }
 
     // What one more costs: the weight where there are enough, and this with a minus where some are lacking.
     fn price(self) -> i64 {
         if self.count < self.range.least {
-            self.weight.wrapping_neg()
+            minus(0, self.weight)
         } else if self.count < self.range.greatest {
             0
         } else {
             self.weight
         }
     }
+
+    fn changed(self, change: Change) -> Counter {
+        match change {
+            Change::Clear => Counter { count: 0, ..self },
+            Change::WeighOne => Counter { weight: 1, ..self },
+            Change::WeighMore if self.deviation() > 0 => Counter {
+                weight: plus(self.weight, 1),
+                ..self
+            },
+            Change::WeighMore => self,
+        }
+    }
 }
 
-/// A counter for each weekday and symbol, and behind these one of free weekends.
+/// What is changed of counters.
+#[derive(Clone, Copy)]
+pub(crate) enum Change {
+    /// All counts become 0.
+    Clear,
+    /// Each counter weighs 1.
+    WeighOne,
+    /// Each counter that is off weighs 1 more (constraint weighting, as in P. Morris's breakout method, 1993).
+    WeighMore,
+}
+
+/// A counter for each weekday and symbol, and one of free weekends.
 #[derive(Drop)]
 pub(crate) struct Counters {
-    symbols: usize,
-    counters: Vec<Counter>,
+    // By weekday and symbol.
+    pub cells: Table<Counter>,
+    weekends: Counter,
 }
 
 impl Counters {
     /// No counts yet, for a demand.
-    pub fn new(alloc: Global, demand: &Demand) -> Result<Counters, AllocError> {
-        let mut counters = Vec::new(alloc);
-        for weekday in 0..demand.days {
-            for symbol in 0..demand.symbols {
-                counters.push(Counter::within(demand.range(symbol, weekday)))?;
-            }
-        }
-        counters.push(Counter::within(demand.weekends()))?;
+    pub fn new(alloc: Global, demand: &Demand) -> Result<Counters, AllocError>
+        ensures weekdays { IfOk result (λ c. c.cells.rows ≡ demand.now.days) }
+        ensures symbols { IfOk result (λ c. c.cells.columns ≡ demand.now.symbols) }
+    {
+        let none = Counter::within(Range::NONE);
+        let mut cells = Table::new(alloc, demand.days, demand.symbols, none)?;
+        put_ranges(&mut cells, demand);
         Ok(Counters {
-            symbols: demand.symbols,
-            counters,
+            cells,
+            weekends: Counter::within(demand.weekends()),
         })
     }
 
-    fn place(&self, symbol: usize, weekday: usize) -> usize {
-        weekday.wrapping_mul(self.symbols).wrapping_add(symbol)
+    pub fn add_to_cell(&mut self, symbol: usize, weekday: usize, number: i64)
+        requires weekday { weekday < self.old.cells.rows }
+        requires symbol { symbol < self.old.cells.columns }
+        ensures weekdays { self.new.cells.rows ≡ self.old.cells.rows }
+        ensures symbols { self.new.cells.columns ≡ self.old.cells.columns }
+    {
+        let counter = self.cells.at(weekday, symbol);
+        self.cells.set(weekday, symbol, counter.counting(number));
     }
 
-    fn weekends_place(&self) -> usize {
-        self.counters.len().wrapping_sub(1)
-    }
-
-    fn add(&mut self, place: usize, number: i64) {
-        if let Some(counter) = self.counters.get_mut(place) {
-            counter.count = counter.count.wrapping_add(number);
-        }
-    }
-
-    fn price_at(&self, place: usize) -> i64 {
-        entry_or(&self.counters, place, Counter::within(Range::NONE)).price()
-    }
-
-    pub fn add_to_cell(&mut self, symbol: usize, weekday: usize, number: i64) {
-        self.add(self.place(symbol, weekday), number);
-    }
-
-    pub fn add_to_weekends(&mut self, number: i64) {
-        self.add(self.weekends_place(), number);
+    pub fn add_to_weekends(&mut self, number: i64)
+        ensures weekdays { self.new.cells.rows ≡ self.old.cells.rows }
+        ensures symbols { self.new.cells.columns ≡ self.old.cells.columns }
+    {
+        self.weekends = self.weekends.counting(number);
     }
 
     /// What one more day of a symbol costs on a weekday.
-    pub fn price(&self, symbol: usize, weekday: usize) -> i64 {
-        self.price_at(self.place(symbol, weekday))
+    pub fn price(&self, symbol: usize, weekday: usize) -> i64
+        requires weekday { weekday < self.now.cells.rows }
+        requires symbol { symbol < self.now.cells.columns }
+    {
+        self.cells.at(weekday, symbol).price()
     }
 
     /// What one more free weekend costs.
     pub fn weekend_price(&self) -> i64 {
-        self.price_at(self.weekends_place())
+        self.weekends.price()
     }
 
     /// How far all counters are off.
     pub fn deviation(&self) -> i64 {
-        let mut sum: i64 = 0;
-        for counter in &self.counters {
-            sum = sum.wrapping_add(counter.deviation());
+        let mut sum = self.weekends.deviation();
+        for counter in self.cells.entries() {
+            sum = plus(sum, counter.deviation());
         }
         sum
     }
 
-    /// Lets each counter weigh 1.
-    pub fn weigh_alike(&mut self) {
-        for counter in &mut self.counters {
-            counter.weight = 1;
+    /// Changes each counter.
+    pub fn change_all(&mut self, change: Change)
+        ensures weekdays { self.new.cells.rows ≡ self.old.cells.rows }
+        ensures symbols { self.new.cells.columns ≡ self.old.cells.columns }
+    {
+        self.weekends = self.weekends.changed(change);
+        change_cells(&mut self.cells, change);
+    }
+}
+
+// Changes each counter of a table.
+fn change_cells(cells: &mut Table<Counter>, change: Change)
+    ensures weekdays { cells.new.rows ≡ cells.old.rows }
+    ensures symbols { cells.new.columns ≡ cells.old.columns }
+{
+    for weekday in 0..cells.rows {
+        for symbol in 0..cells.columns {
+            let counter = cells.at(weekday, symbol);
+            cells.set(weekday, symbol, counter.changed(change));
         }
     }
+}
 
-    /// Lets the counters that are off weigh 1 more (constraint weighting, as in P. Morris's breakout method, 1993).
-    pub fn weigh_more_where_off(&mut self) {
-        for counter in &mut self.counters {
-            if counter.deviation() > 0 {
-                counter.weight = counter.weight.saturating_add(1);
-            }
-        }
-    }
-
-    /// Sets all counts to 0.
-    pub fn clear_counts(&mut self) {
-        for counter in &mut self.counters {
-            counter.count = 0;
+// Puts the counters of the demand's ranges into their places.
+fn put_ranges(cells: &mut Table<Counter>, demand: &Demand)
+    requires weekdays { cells.old.rows ≡ demand.now.days }
+    requires symbols { cells.old.columns ≡ demand.now.symbols }
+    ensures weekdays { cells.new.rows ≡ cells.old.rows }
+    ensures symbols { cells.new.columns ≡ cells.old.columns }
+{
+    for weekday in 0..demand.days {
+        for symbol in 0..demand.symbols {
+            cells.set(
+                weekday,
+                symbol,
+                Counter::within(demand.range(symbol, weekday)),
+            );
         }
     }
 }

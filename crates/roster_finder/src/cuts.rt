@@ -1,8 +1,11 @@
 // Cuts round parts of the steady layer that a fractional roster hardly leaves.
-use crate::grid::{Grid, entry_or, put, rest, whole};
+ghost use Rattle.roster_finder.specs.Uses.{AreUsesOf};
+
+use crate::grid::{entry_or, put, rest, whole};
 use crate::quotas::Quota;
 use crate::setting::Setting;
 use crate::shares::ONE_USE;
+use crate::table::Table;
 use std::alloc::AllocError;
 
 /// The most new cuts that are made at a time.
@@ -39,7 +42,7 @@ impl<'a> Parts<'a> {
     // A part for each node on each weekday.
     fn new(setting: Setting<'a>) -> Result<Parts<'a>, AllocError> {
         let mut above = Vec::new(setting.alloc);
-        for place in 0..setting.demand.days.saturating_mul(setting.layer.nodes()) {
+        for place in 0..setting.demand.days.saturating_mul(setting.layer.nodes) {
             above.push(place)?;
         }
         Ok(Parts { setting, above })
@@ -47,7 +50,7 @@ impl<'a> Parts<'a> {
 
     fn place(&self, weekday: usize, node: usize) -> usize {
         weekday
-            .wrapping_mul(self.setting.layer.nodes())
+            .wrapping_mul(self.setting.layer.nodes)
             .wrapping_add(node)
     }
 
@@ -67,7 +70,7 @@ impl<'a> Parts<'a> {
     // The parts that a step leads from and to.
     fn ends(&self, weekday: usize, number: usize) -> (usize, usize) {
         let next = rest(weekday.wrapping_add(1), self.setting.demand.days);
-        match self.setting.layer.step(number) {
+        match self.setting.layer.steps().get(number) {
             Some(step) => (
                 self.root(self.place(weekday, step.from)),
                 self.root(self.place(next, step.to)),
@@ -108,7 +111,7 @@ impl<'a> Parts<'a> {
     fn cut(&self, part: usize) -> Result<Quota, AllocError> {
         let mut steps = Vec::new(self.setting.alloc);
         for weekday in 0..self.setting.demand.days {
-            for number in 0..self.setting.layer.steps.len() {
+            for number in 0..self.setting.layer.step_count() {
                 let (from, to) = self.ends(weekday, number);
                 if from == part && to != part {
                     steps.push((weekday, number))?;
@@ -146,10 +149,12 @@ impl<'a> Parts<'a> {
 }
 
 // The steps that have a share, those of the greatest shares first.
-fn used_steps(setting: Setting<'_>, uses: &Grid<i64>) -> Result<Vec<Used>, AllocError> {
+fn used_steps(setting: Setting<'_>, uses: &Table<i64>) -> Result<Vec<Used>, AllocError>
+    requires { AreUsesOf setting uses.now }
+{
     let mut used = Vec::new(setting.alloc);
     for weekday in 0..setting.demand.days {
-        for number in 0..setting.layer.steps.len() {
+        for number in 0..setting.layer.step_count() {
             let share = uses.at(weekday, number);
             if share > 0 {
                 used.push(Used {
@@ -179,9 +184,11 @@ fn whole_flow(used: &[Used]) -> i64 {
 /// each weekday.
 pub(crate) fn add_cuts(
     setting: Setting<'_>,
-    uses: &Grid<i64>,
+    uses: &Table<i64>,
     quotas: &mut Vec<Quota>,
-) -> Result<bool, AllocError> {
+) -> Result<bool, AllocError>
+    requires { AreUsesOf setting uses.now }
+{
     let before = quotas.len();
     let used = used_steps(setting, uses)?;
     let mut parts = Parts::new(setting)?;

@@ -1,8 +1,9 @@
 // How often each symbol is wanted on each weekday.
-ghost use Rattle.std.specs.Prelude.{◌≤◌};
+ghost use Rattle.std.specs.Prelude.{◌≡◌, ◌+◌, ◌*◌, ◌<◌, ◌≤◌, IfOk};
 ghost use Rattle.rwsp_terms.specs.Instance.{shift_count};
+ghost use Rattle.rwsp_terms.specs.declared.limits.TheConstants.{MOST_CELLS};
 
-use crate::grid::{Grid, whole};
+use crate::table::Table;
 use rwsp_model::Problem;
 use rwsp_terms::Symbol;
 use std::alloc::{AllocError, Global};
@@ -28,48 +29,81 @@ pub(crate) struct Demand {
     pub days: usize,
     pub weeks: usize,
     pub symbols: usize,
-    pub free: usize,
-    ranges: Grid<Range>,
+    pub free: u32,
+    // By symbol and weekday.
+    ranges: Table<Range>,
+    ghost some_days: { 0 < days },
+    ghost some_weeks: { 0 < weeks },
+    ghost few_cells: { weeks * days ≤ MOST_CELLS },
+    ghost some_symbols: { 0 < symbols },
+    ghost rows: { ranges.rows ≡ symbols },
+    ghost columns: { ranges.columns ≡ days },
 }
 
 impl Demand {
-    pub fn of(alloc: Global, problem: &Problem, free: u32) -> Result<Demand, AllocError> {
+    pub fn of(alloc: Global, problem: &Problem, free: u32) -> Result<Demand, AllocError>
+        ensures { IfOk result (λ d. d.symbols ≡ shift_count problem.now + 1) }
+    {
+        problem.prove_limits();
         let days = problem.days() as usize;
+        let weeks = problem.weeks() as usize;
         let symbols = usize::from(problem.shifts()) + 1;
-        let mut ranges = Grid::new(alloc, symbols, days, Range::NONE)?;
-        for number in 0..problem.shifts() + 1 {
-            put_symbol(&mut ranges, problem, number);
-        }
+        let mut ranges = Table::new(alloc, symbols, days, Range::NONE)?;
+        put_ranges(&mut ranges, problem);
         Ok(Demand {
             days,
-            weeks: problem.weeks() as usize,
+            weeks,
             symbols,
-            free: free as usize,
+            free,
             ranges,
         })
     }
 
     /// The days of a roster.
-    pub fn cells(&self) -> usize {
-        self.days.saturating_mul(self.weeks)
+    #[tactic(auto, using(crate::proofs::Places::some_cells))]
+    pub fn cells(&self) -> usize
+        ensures value { result ≡ self.now.weeks * self.now.days }
+        ensures some { 0 < result }
+        ensures few { result ≤ MOST_CELLS }
+    {
+        self.weeks * self.days
     }
 
     /// How many weekends should be free.
     pub fn weekends(&self) -> Range {
         Range {
-            least: whole(self.free),
-            greatest: whole(self.cells()),
+            least: i64::from(self.free),
+            greatest: self.cells() as i64,
         }
     }
 
-    pub fn range(&self, symbol: usize, weekday: usize) -> Range {
+    pub fn range(&self, symbol: usize, weekday: usize) -> Range
+        requires symbol { symbol < self.now.symbols }
+        requires weekday { weekday < self.now.days }
+    {
         self.ranges.at(symbol, weekday)
     }
 }
 
+// Puts the ranges of all symbols into their places.
+fn put_ranges(ranges: &mut Table<Range>, problem: &Problem)
+    requires rows { ranges.old.rows ≡ shift_count problem.now + 1 }
+    requires columns { ranges.old.columns ≡ problem.now.days }
+    ensures rows { ranges.new.rows ≡ ranges.old.rows }
+    ensures columns { ranges.new.columns ≡ ranges.old.columns }
+{
+    for number in 0..problem.shifts() + 1 {
+        put_symbol(ranges, problem, number);
+    }
+}
+
 // Puts the ranges of a symbol into their places.
-fn put_symbol(ranges: &mut Grid<Range>, problem: &Problem, number: u8)
-    requires { number ≤ shift_count problem.now }
+fn put_symbol(ranges: &mut Table<Range>, problem: &Problem, number: u8)
+    requires symbol { number ≤ shift_count problem.now }
+    requires rows { ranges.old.rows ≡ shift_count problem.now + 1 }
+    requires columns { ranges.old.columns ≡ problem.now.days }
+    ensures rows { ranges.new.rows ≡ ranges.old.rows }
+    ensures columns { ranges.new.columns ≡ ranges.old.columns }
 {
     let symbol = Symbol { number };
     for day in 0..problem.days() {

@@ -1,5 +1,8 @@
 // Words that are on their way to a roster, with their counters.
-use crate::counters::Counters;
+ghost use Rattle.std.specs.Prelude.{◌≡◌, ◌*◌, ◌<◌, ◌≤◌, IfOk};
+ghost use Rattle.roster_finder.specs.Walks.{HaveOneShape, IsWalkOf};
+
+use crate::counters::{Change, Counters};
 use crate::setting::Setting;
 use crate::walk::Walk;
 use std::alloc::AllocError;
@@ -16,19 +19,28 @@ pub(crate) struct Window {
 pub(crate) struct Draft {
     pub walk: Walk,
     pub counters: Counters,
+    ghost weekdays: { counters.cells.rows ≡ walk.days },
+    ghost symbols: { counters.cells.columns ≡ walk.symbols.below },
 }
 
 impl Draft {
-    pub fn new(setting: Setting<'_>) -> Result<Draft, AllocError> {
-        let Setting { alloc, demand, .. } = setting;
-        Ok(Draft {
-            walk: Walk::new(alloc, demand.days, demand.cells())?,
-            counters: Counters::new(alloc, demand)?,
-        })
+    pub fn new(setting: Setting<'_>) -> Result<Draft, AllocError>
+        requires { 0 < setting.layer.now.nodes }
+        ensures walk { IfOk result (λ d. IsWalkOf setting.entry.layer.now d.walk) }
+        ensures days { IfOk result (λ d. d.walk.days ≡ setting.entry.demand.now.days) }
+        ensures cells { IfOk result
+            (λ d. d.walk.cells ≡ setting.entry.demand.now.weeks * setting.entry.demand.now.days) }
+    {
+        let walk = Walk::new(setting)?;
+        let counters = Counters::new(setting.alloc, setting.demand)?;
+        Ok(Draft { walk, counters })
     }
 
     /// Counts the days of a window, and the free weekends that end in it or right behind it, each `times` times.
-    pub fn count(&mut self, window: Window, times: i64) {
+    pub fn count(&mut self, window: Window, times: i64)
+        requires { window.start < self.old.walk.cells }
+        ensures { HaveOneShape self.new.walk self.old.walk }
+    {
         let mut at = window.start;
         for _ in 0..window.len {
             self.count_day(at, times);
@@ -40,20 +52,32 @@ impl Draft {
     }
 
     // Counts a day, and the free weekend that ends on it, if one does.
-    fn count_day(&mut self, position: usize, times: i64) {
+    fn count_day(&mut self, position: usize, times: i64)
+        requires { position < self.old.walk.cells }
+        ensures { HaveOneShape self.new.walk self.old.walk }
+    {
         let weekday = self.walk.weekday(position);
-        self.counters
-            .add_to_cell(self.walk.symbol(position), weekday, times);
+        let symbol = self.walk.symbol(position);
+        self.counters.add_to_cell(symbol, weekday, times);
         if self.walk.ends_weekend(position) {
             self.counters.add_to_weekends(times);
         }
     }
 
     /// Counts all days and free weekends anew.
-    pub fn count_all(&mut self) {
-        self.counters.clear_counts();
-        for position in 0..self.walk.cells() {
+    pub fn count_all(&mut self)
+        ensures { HaveOneShape self.new.walk self.old.walk }
+    {
+        self.counters.change_all(Change::Clear);
+        for position in 0..self.walk.cells {
             self.count_day(position, 1);
         }
+    }
+
+    /// Changes each counter.
+    pub fn change_counters(&mut self, change: Change)
+        ensures { HaveOneShape self.new.walk self.old.walk }
+    {
+        self.counters.change_all(change);
     }
 }

@@ -3,13 +3,19 @@ ghost use Rattle.std.specs.Prelude.{◌≡◌, ◌<◌, ◌≤◌, IfOk, IfSome,
 ghost use Rattle.rwsp_terms.specs.Roster.{IsRoster};
 ghost use Rattle.refutation_terms.specs.FreeWeekends.{free_weekends};
 ghost use Rattle.roster_finder.specs.Found.{IsRosterWith};
+ghost use Rattle.roster_finder.specs.Moves.{IsMoverOf, IsWindowOf};
+ghost use Rattle.roster_finder.specs.Starters.{IsStarterOf};
+ghost use Rattle.roster_finder.specs.Uses.{AreUsesOf};
+ghost use Rattle.roster_finder.specs.declared.finding.TheConstants.{PATIENCE};
+ghost use Rattle.roster_finder.specs.Walks.{HaveOneShape, IsWalkOf};
 
+use crate::counters::Change;
 use crate::demand::Demand;
 use crate::draft::{Draft, Window};
 use crate::random::Random;
 use crate::setting::Setting;
 use crate::shares::Shares;
-use crate::start::Starter;
+use crate::start::{Lead, Starter};
 use crate::steady_layer::SteadyLayer;
 use crate::window::{LONGEST_WINDOW, Mover};
 use roster_checker::{first_broken, free_weekends};
@@ -38,19 +44,19 @@ const MOST_LOOSE_MOVES: usize = 32_000;
 const SHARES_FOR: usize = 16_000;
 
 /// All shares except the first ones are blurred by random numbers below this.
-const SHARES_NOISE: usize = 3_000;
+const SHARES_NOISE: u32 = 3_000;
 
 /// After this many moves a new word is begun.
 const WORD_FOR: usize = 4_000;
 
 /// A word is begun with the best of this many start words.
-const STARTS: usize = 16;
+const STARTS: u32 = 16;
 
 /// The first start word is led also by random numbers below this.
-const FIRST_NOISE: usize = 300;
+const FIRST_NOISE: u32 = 300;
 
 /// By how much this bound grows with each further start word.
-const MORE_NOISE: usize = 200;
+const MORE_NOISE: u32 = 200;
 
 /// After this many moves without a new best the counters that are off weigh more.
 const PATIENCE: usize = 200;
@@ -75,34 +81,56 @@ struct Search<'a> {
     draft: Draft,
     // Another word: the best start word so far.
     other: Draft,
-    starter: Starter<'a>,
-    mover: Mover<'a>,
+    starter: Starter,
+    mover: Mover,
     // The least deviation of the word (of the incumbent), and the moves since it was found.
     least: i64,
     since: usize,
+    ghost nodes: { 0 < setting.layer.now.nodes },
+    ghost days: { draft.walk.days ≡ setting.demand.now.days },
+    ghost draft_walk: { IsWalkOf setting.layer.now draft.walk },
+    ghost other_walk: { IsWalkOf setting.layer.now other.walk },
+    ghost other_shape: { HaveOneShape other.walk draft.walk },
+    ghost starter_room: { IsStarterOf setting.layer.now draft.walk starter },
+    ghost mover_room: { IsMoverOf setting.layer.now mover },
+    ghost uses: { AreUsesOf setting shares.uses },
+    ghost few_moves: { since < PATIENCE },
 }
 
 impl<'a> Search<'a> {
     // A search without a word yet. None where there are no shares.
     fn new(setting: Setting<'a>) -> Result<Option<Search<'a>>, AllocError> {
-        if setting.layer.nodes() == 0 {
+        if setting.layer.nodes == 0 {
             return Ok(None);
         }
         let mut random = Random::new();
         let Some(shares) = Shares::of(setting, &mut random, 0)? else {
             return Ok(None);
         };
-        Ok(Some(Search {
+        let search = Search::of(setting, shares, random)?;
+        Ok(Some(search))
+    }
+
+    // The search that has these shares.
+    fn of(setting: Setting<'a>, shares: Shares, random: Random) -> Result<Search<'a>, AllocError>
+        requires nodes { 0 < setting.layer.now.nodes }
+        requires uses { AreUsesOf setting shares.uses }
+    {
+        let draft = Draft::new(setting)?;
+        let other = Draft::new(setting)?;
+        let starter = Starter::new(setting, &draft)?;
+        let mover = Mover::new(setting)?;
+        Ok(Search {
             setting,
             shares,
             random,
-            draft: Draft::new(setting)?,
-            other: Draft::new(setting)?,
-            starter: Starter::new(setting)?,
-            mover: Mover::new(setting)?,
+            draft,
+            other,
+            starter,
+            mover,
             least: i64::MAX,
             since: 0,
-        }))
+        })
     }
 
     // Makes new shares where their turn has come. Where there are none this time, the old ones stay.
@@ -122,45 +150,62 @@ impl<'a> Search<'a> {
         }
         let mut least = i64::MAX;
         for number in 0..STARTS {
-            let noise = FIRST_NOISE.saturating_add(number.saturating_mul(MORE_NOISE));
-            let has_word = self
-                .starter
-                .start(&self.shares, &mut self.draft, &mut self.random, noise);
-            let deviation = self.draft.counters.deviation();
-            if has_word && deviation < least {
+            let deviation = self.started(FIRST_NOISE + number * MORE_NOISE);
+            if deviation < least {
                 least = deviation;
                 mem::swap(&mut self.draft, &mut self.other);
             }
         }
         mem::swap(&mut self.draft, &mut self.other);
-        self.draft.counters.weigh_alike();
+        self.draft.change_counters(Change::WeighOne);
         self.least = i64::MAX;
         self.since = 0;
         least < i64::MAX
     }
 
+    // Begins the word anew. How far it is off the demand; as far as possible where there is none.
+    fn started(&mut self, noise: u32) -> i64 {
+        let lead = Lead {
+            shares: &self.shares,
+            noise,
+        };
+        let layer = self.setting.layer;
+        if self
+            .starter
+            .start(layer, lead, &mut self.draft, &mut self.random)
+        {
+            self.draft.counters.deviation()
+        } else {
+            i64::MAX
+        }
+    }
+
     // Rewrites a window, and lets counters weigh more where that hasn't helped for long.
     fn rewrite(&mut self) {
         let window = self.drawn_window();
+        let layer = self.setting.layer;
         self.mover
-            .rewrite(&mut self.draft, &mut self.random, window);
+            .rewrite(layer, &mut self.draft, &mut self.random, window);
         let deviation = self.draft.counters.deviation();
         if deviation < self.least {
             self.least = deviation;
             self.since = 0;
             return;
         }
-        self.since = self.since.saturating_add(1);
-        if self.since % PATIENCE == 0 {
-            self.draft.counters.weigh_more_where_off();
+        self.since += 1;
+        if self.since == PATIENCE {
+            self.since = 0;
+            self.draft.change_counters(Change::WeighMore);
         }
     }
 
     // A window of a week at most, anywhere.
-    fn drawn_window(&mut self) -> Window {
-        let cells = self.draft.walk.cells();
+    fn drawn_window(&mut self) -> Window
+        ensures { IsWindowOf self.new.draft.walk result }
+    {
+        let cells = self.draft.walk.cells;
         let longest = self.setting.demand.days.min(LONGEST_WINDOW);
-        let len = self.random.below(longest).saturating_add(1);
+        let len = self.random.below(longest) + 1;
         Window {
             start: self.random.below(cells),
             len: len.min(cells / 2),
@@ -174,8 +219,11 @@ impl<'a> Search<'a> {
             Patience::Long if self.shares.hang_together => MOST_MOVES,
             Patience::Long => MOST_LOOSE_MOVES,
         };
-        let affordable = MOST_STEP_MOVES.checked_div(self.setting.layer.steps.len());
-        affordable.unwrap_or(0).min(most)
+        // A layer of no step has no word.
+        match MOST_STEP_MOVES.checked_div(self.setting.layer.step_count()) {
+            Some(affordable) => affordable.min(most),
+            None => 0,
+        }
     }
 
     // Rewrites windows until the word is a roster that meets every rule and has `free` free weekends at least.
@@ -188,6 +236,7 @@ impl<'a> Search<'a> {
         requires { 0 < free → problem.now.days ≡ 7 }
         ensures { IfOk result (λ found. IfSome found (IsRosterWith problem.now free)) }
     {
+        // The words that met the demand and were refused, each with all its cells.
         let mut refused: usize = 0;
         for turn in 0..self.most_moves(patience) {
             self.renew_shares(turn)?;
@@ -200,7 +249,7 @@ impl<'a> Search<'a> {
                 if let Some(roster) = met {
                     return Ok(Some(roster));
                 }
-                refused = refused.saturating_add(self.draft.walk.cells());
+                refused += self.draft.walk.cells;
             }
             self.rewrite();
         }
@@ -284,7 +333,12 @@ impl<'a> Model for RosterFinder<'a> {
 
     ghost Value = { Instance };
 
+    ghost use Rattle.std.specs.Prelude.{◌≡◌, ◌+◌};
+    ghost use Rattle.rwsp_terms.specs.Instance.{shift_count};
+
     ghost view = { λ f. f.problem.now };
+
+    ghost invariant = { λ f. f.layer.symbols ≡ shift_count f.problem.now + 1 };
 }
 
 impl<'a> RosterFinder<'a> {

@@ -51,11 +51,6 @@ impl<T: Copy + Drop> Grid<T> {
             &[]
         }
     }
-
-    /// Writes the outside's value everywhere.
-    pub fn clear(&mut self) {
-        set_all(&mut self.entries, self.outside);
-    }
 }
 
 /// The entry of a list, or another value where it has none there.

@@ -1,7 +1,7 @@
 // Heavy clean words: those of many weeks, and the parts of them that lead round.
 use crate::grid::{Grid, entry_or, put, rest, set_all, whole};
 use crate::setting::Setting;
-use crate::steady_layer::Step;
+use crate::step::Step;
 use std::alloc::AllocError;
 use std::mem;
 
@@ -39,9 +39,9 @@ impl<'a> Weigher<'a> {
         let days = demand.days.saturating_mul(weeks);
         Ok(Weigher {
             setting,
-            weights: vec![in alloc; 0; layer.nodes()]?,
-            next_weights: vec![in alloc; 0; layer.nodes()]?,
-            last_steps: Grid::new(alloc, days, layer.nodes(), 0)?,
+            weights: vec![in alloc; 0; layer.nodes]?,
+            next_weights: vec![in alloc; 0; layer.nodes]?,
+            last_steps: Grid::new(alloc, days, layer.nodes, 0)?,
         })
     }
 
@@ -65,7 +65,7 @@ impl<'a> Weigher<'a> {
     fn weigh_day(&mut self, weights: &[i64], day: usize) {
         set_all(&mut self.next_weights, NEVER);
         let mut number: u32 = 0;
-        for (step, weight) in self.setting.layer.steps.iter().zip(weights.iter()) {
+        for (step, weight) in self.setting.layer.steps().iter().zip(weights.iter()) {
             let before = entry_or(&self.weights, step.from, NEVER);
             let weight = before.wrapping_add(*weight);
             if weight > entry_or(&self.next_weights, step.to, NEVER) {
@@ -96,7 +96,12 @@ impl<'a> Weigher<'a> {
         for day in (0..days).rev() {
             let number = self.last_steps.at(day, node) as usize;
             taken.push(number)?;
-            node = self.setting.layer.step(number).map_or(0, |step| step.from);
+            node = self
+                .setting
+                .layer
+                .steps()
+                .get(number)
+                .map_or(0, |step| step.from);
         }
         Ok(taken)
     }
@@ -109,7 +114,7 @@ impl<'a> Weigher<'a> {
             demand,
         } = self.setting;
         let part = best_part(&self.places_of(weights, taken)?);
-        let mut uses = Grid::new(alloc, demand.days, layer.steps.len(), 0i64)?;
+        let mut uses = Grid::new(alloc, demand.days, layer.step_count(), 0i64)?;
         let first = part.first.wrapping_mul(demand.days);
         for day in first..part.last.wrapping_mul(demand.days) {
             let back = taken.len().wrapping_sub(day).wrapping_sub(1);
@@ -131,7 +136,8 @@ impl<'a> Weigher<'a> {
         let mut weight: i64 = 0;
         let mut weekday: usize = 0;
         for number in taken.iter().rev() {
-            let Some(Step { from, to, .. }) = self.setting.layer.step(*number) else {
+            let Some(Step { from, to, .. }) = self.setting.layer.steps().get(*number).copied()
+            else {
                 break;
             };
             if places.is_empty() {

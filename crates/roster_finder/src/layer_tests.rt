@@ -1,12 +1,15 @@
 // The steady layer against a listing of all words, and the cuts round parts that aren't joined.
+ghost use Rattle.std.specs.Prelude.{◌≡◌, ◌<◌, length, IfOk};
+ghost use Rattle.rwsp_terms.specs.Instance.{shift_count};
+
 use crate::cuts::add_cuts;
 use crate::demand::Demand;
 use crate::finding::met_roster;
-use crate::grid::Grid;
 use crate::quotas::Quota;
 use crate::setting::Setting;
 use crate::shares::ONE_USE;
 use crate::steady_layer::SteadyLayer;
+use crate::table::Table;
 use rwsp_model::{Parts, Problem};
 use rwsp_terms::{Bounds, DemandRow, Name, ShiftRow, Symbol};
 use std::alloc::{AllocError, Global};
@@ -61,9 +64,14 @@ fn word_of(alloc: Global, number: usize) -> Result<Vec<usize>, AllocError> {
 }
 
 // Where a word leads from a node.
-fn end_of(layer: &SteadyLayer, node: usize, word: &[usize]) -> Option<usize> {
+fn end_of(layer: &SteadyLayer, node: usize, word: &[usize]) -> Option<usize>
+    requires { node < layer.now.nodes }
+{
     let mut at = node;
     for symbol in word {
+        if *symbol >= layer.symbols {
+            return None;
+        }
         at = layer.next(at, *symbol)?;
     }
     Some(at)
@@ -71,7 +79,7 @@ fn end_of(layer: &SteadyLayer, node: usize, word: &[usize]) -> Option<usize> {
 
 // Whether a word leads from some node back to this node.
 fn leads_round(layer: &SteadyLayer, word: &[usize]) -> bool {
-    for node in 0..layer.nodes() {
+    for node in 0..layer.nodes {
         if end_of(layer, node, word) == Some(node) {
             return true;
         }
@@ -132,9 +140,14 @@ fn two_weeks(alloc: Global) -> Result<Parts, AllocError> {
 }
 
 // Uses the steps of a week of five days D and two days off once, which begins on a weekday.
-fn use_week(layer: &SteadyLayer, uses: &mut Grid<i64>, first: usize) {
+fn use_week(layer: &SteadyLayer, uses: &mut Table<i64>, first: usize)
+    requires weekdays { 0 < uses.old.rows }
+    requires steps { uses.old.columns ≡ length layer.now.steps.items }
+    ensures weekdays { uses.new.rows ≡ uses.old.rows }
+    ensures steps { uses.new.columns ≡ uses.old.columns }
+{
     let week = [1, 1, 1, 1, 1, 0, 0];
-    for node in 0..layer.nodes() {
+    for node in 0..layer.nodes {
         if end_of(layer, node, &week) == Some(node) {
             use_steps(layer, uses, node, first, &week);
         }
@@ -142,15 +155,25 @@ fn use_week(layer: &SteadyLayer, uses: &mut Grid<i64>, first: usize) {
 }
 
 // Uses the steps of a word from a node on.
-fn use_steps(layer: &SteadyLayer, uses: &mut Grid<i64>, node: usize, first: usize, word: &[usize]) {
+fn use_steps(layer: &SteadyLayer, uses: &mut Table<i64>, node: usize, first: usize, word: &[usize])
+    requires node { node < layer.now.nodes }
+    requires weekdays { 0 < uses.old.rows }
+    requires steps { uses.old.columns ≡ length layer.now.steps.items }
+    ensures weekdays { uses.new.rows ≡ uses.old.rows }
+    ensures steps { uses.new.columns ≡ uses.old.columns }
+{
     let mut at = node;
-    let mut weekday = first;
+    let mut weekday = first % uses.rows;
     for symbol in word {
-        if let Some(number) = layer.step_number(at, *symbol) {
-            uses.set(weekday % 7, number, ONE_USE);
-            at = layer.next(at, *symbol).unwrap_or(0);
+        if *symbol >= layer.symbols {
+            return;
         }
-        weekday = weekday.wrapping_add(1);
+        let Some(number) = layer.step_number(at, *symbol) else {
+            return;
+        };
+        uses.set(weekday, number, ONE_USE);
+        at = layer.step(number).to;
+        weekday = (weekday + 1) % uses.rows;
     }
 }
 
@@ -163,7 +186,7 @@ fn cuts_of_weeks(alloc: Global, problem: &Problem) -> Result<Vec<usize>, AllocEr
         layer: &layer,
         demand: &demand,
     };
-    let mut uses = Grid::new(alloc, 7, layer.steps.len(), 0i64)?;
+    let mut uses = Table::new(alloc, demand.days, layer.step_count(), 0i64)?;
     use_week(&layer, &mut uses, 0);
     use_week(&layer, &mut uses, 1);
     let mut quotas: Vec<Quota> = Vec::new(alloc);

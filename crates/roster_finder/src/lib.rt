@@ -2,6 +2,7 @@
 //! that word, each rewritten in the best way. It answers a checked roster, or nothing.
 #![tactic(auto)]
 
+mod cost;
 mod counters;
 mod cuts;
 mod demand;
@@ -9,16 +10,22 @@ mod draft;
 mod finding;
 mod grid;
 mod heavy_word;
+mod laws;
 #[cfg(test)]
 mod layer_tests;
 mod mixture;
+mod nodes;
+mod numbers;
 mod quotas;
 mod random;
 mod setting;
 mod shares;
 mod start;
 mod steady_layer;
+mod step;
+mod table;
 mod walk;
 mod window;
 
 pub use finding::{Patience, RosterFinder};
+pub use laws::closed_walks_are_clean;

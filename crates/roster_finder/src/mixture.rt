@@ -1,10 +1,14 @@
 // The restricted master of column generation: a mixture of clean words, its columns, that comes near to the demand.
+ghost use Rattle.std.specs.Prelude.{◌≡◌, IfOk};
+ghost use Rattle.roster_finder.specs.Uses.{AreUsesOf};
+
 use crate::demand::Range;
 use crate::grid::{Grid, entry_or, quotient, whole};
 use crate::heavy_word::{HeavyWord, Weigher};
 use crate::quotas::Quota;
 use crate::random::Random;
 use crate::setting::Setting;
+use crate::table::Table;
 use nearest_point::{Hull, SCALE};
 use std::alloc::{AllocError, Global};
 
@@ -53,7 +57,7 @@ enum Addition {
 pub(crate) struct Mixture<'a> {
     setting: Setting<'a>,
     // Weights are blurred by random numbers below this.
-    noise: usize,
+    noise: u32,
     /// What else the mixture has to come to: free weekends, and cuts that it is led over.
     pub quotas: Vec<Quota>,
     // The ranges of the coordinates: those of the demand first, and then those of the quotas.
@@ -74,7 +78,7 @@ pub(crate) struct Mixture<'a> {
 
 impl<'a> Mixture<'a> {
     /// No words yet, and no cuts.
-    pub fn new(setting: Setting<'a>, noise: usize) -> Result<Mixture<'a>, AllocError> {
+    pub fn new(setting: Setting<'a>, noise: u32) -> Result<Mixture<'a>, AllocError> {
         let Setting {
             alloc,
             layer,
@@ -97,7 +101,7 @@ impl<'a> Mixture<'a> {
             long_weeks,
             words: Vec::new(alloc),
             weigher: Weigher::new(setting, long_weeks)?,
-            weights: Grid::new(alloc, demand.days, layer.steps.len(), 0)?,
+            weights: Grid::new(alloc, demand.days, layer.step_count(), 0)?,
         })
     }
 
@@ -122,7 +126,7 @@ impl<'a> Mixture<'a> {
     // How many words may be weighed.
     fn affordable_rounds(&self) -> usize {
         let days = self.setting.demand.days.saturating_mul(self.word_weeks);
-        let looks = days.saturating_mul(self.setting.layer.steps.len());
+        let looks = days.saturating_mul(self.setting.layer.step_count());
         times_within(MOST_LOOKS, looks).min(self.rounds)
     }
 
@@ -179,7 +183,7 @@ impl<'a> Mixture<'a> {
 
     fn set_weights(&mut self, random: &mut Random, far: i64) {
         for weekday in 0..self.setting.demand.days {
-            for (number, step) in self.setting.layer.steps.iter().enumerate() {
+            for (number, step) in self.setting.layer.steps().iter().enumerate() {
                 let weight = self.weight(self.coordinate(step.symbol, weekday), far);
                 let blurred = weight.wrapping_add(random.noise(self.noise));
                 self.weights.set(weekday, number, blurred);
@@ -206,19 +210,26 @@ impl<'a> Mixture<'a> {
 
     /// How often the mixture takes each step on each weekday as it goes through all weeks once, by weekday and step, in
     /// parts of a use: one use counts `one_use`.
-    pub fn uses(&self, one_use: i64) -> Result<Grid<i64>, AllocError> {
-        let Setting {
-            alloc,
-            layer,
-            demand,
-        } = self.setting;
-        let mut uses = Grid::new(alloc, demand.days, layer.steps.len(), 0)?;
-        for weekday in 0..demand.days {
-            for number in 0..layer.steps.len() {
+    pub fn uses(&self, setting: Setting<'_>, one_use: i64) -> Result<Table<i64>, AllocError>
+        ensures { IfOk result (AreUsesOf setting.entry) }
+    {
+        let days = setting.demand.days;
+        let steps = setting.layer.step_count();
+        let mut uses = Table::new(setting.alloc, days, steps, 0)?;
+        self.put_uses(&mut uses, one_use);
+        Ok(uses)
+    }
+
+    // Writes how often each step is taken on each weekday.
+    fn put_uses(&self, uses: &mut Table<i64>, one_use: i64)
+        ensures weekdays { uses.new.rows ≡ uses.old.rows }
+        ensures steps { uses.new.columns ≡ uses.old.columns }
+    {
+        for weekday in 0..uses.rows {
+            for number in 0..uses.columns {
                 uses.set(weekday, number, self.mixed_uses(weekday, number, one_use));
             }
         }
-        Ok(uses)
     }
 
     fn mixed_uses(&self, weekday: usize, number: usize, one_use: i64) -> i64 {
@@ -267,7 +278,7 @@ impl<'a> Mixture<'a> {
         for (step, uses) in self
             .setting
             .layer
-            .steps
+            .steps()
             .iter()
             .zip(word.uses.row(weekday).iter())
         {

@@ -1,5 +1,5 @@
 // Steps of which a roster takes a least number.
-use crate::grid::{Grid, whole};
+use crate::grid::Grid;
 use crate::setting::Setting;
 use std::alloc::AllocError;
 
@@ -15,7 +15,7 @@ impl Quota {
     pub fn of_weekends(setting: Setting<'_>) -> Result<Quota, AllocError> {
         let mut steps = Vec::new(setting.alloc);
         for weekday in 0..setting.demand.days {
-            for (number, step) in setting.layer.steps.iter().enumerate() {
+            for (number, step) in setting.layer.steps().iter().enumerate() {
                 if step.ends_weekend(weekday) {
                     steps.push((weekday, number))?;
                 }
@@ -23,7 +23,7 @@ impl Quota {
         }
         Ok(Quota {
             steps,
-            least: whole(setting.demand.free),
+            least: i64::from(setting.demand.free),
         })
     }
 

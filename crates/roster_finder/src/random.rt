@@ -1,4 +1,5 @@
 // Random numbers that are the same in each run.
+ghost use Rattle.std.specs.Prelude.{◌<◌, ◌^◌};
 
 /// The numbers of a linear congruential generator of 64 bits (D. Knuth, 1997).
 const FACTOR: u64 = 6364136223846793005;
@@ -16,21 +17,29 @@ impl Random {
         Random { state: INCREMENT }
     }
 
-    /// A number below the limit; 0 where the limit is 0.
-    pub fn below(&mut self, limit: usize) -> usize {
+    // The next number. The generator's states are numbers modulo 2^64, so it wraps; their high bits are the random ones.
+    fn draw(&mut self) -> u32
+        ensures { result < 2 ^ 31 }
+    {
         self.state = self.state.wrapping_mul(FACTOR).wrapping_add(INCREMENT);
-        // The high bits are the random ones.
-        let high = (self.state >> 33) as usize;
-        if limit == 0 { 0 } else { high % limit }
+        (self.state >> 33) as u32
     }
 
-    /// The same as a cost.
-    pub fn noise(&mut self, limit: usize) -> i64 {
-        i64::try_from(self.below(limit)).unwrap_or(0)
+    /// A number below the limit.
+    pub fn below(&mut self, limit: usize) -> usize
+        requires { 0 < limit }
+        ensures { result < limit }
+    {
+        self.draw() as usize % limit
     }
 
-    /// True in half of the cases.
-    pub fn is_heads(&mut self) -> bool {
-        self.below(2) == 0
+    /// A cost below the limit; 0 where the limit is 0.
+    pub fn noise(&mut self, limit: u32) -> i64 {
+        let drawn = self.draw();
+        if limit == 0 {
+            0
+        } else {
+            i64::from(drawn % limit)
+        }
     }
 }

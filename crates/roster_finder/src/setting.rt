@@ -1,4 +1,6 @@
 // What a search goes over.
+ghost use Rattle.std.specs.Prelude.{◌≡◌};
+
 use crate::demand::Demand;
 use crate::steady_layer::SteadyLayer;
 use std::alloc::Global;
@@ -9,4 +11,5 @@ pub(crate) struct Setting<'a> {
     pub alloc: Global,
     pub layer: &'a SteadyLayer,
     pub demand: &'a Demand,
+    ghost symbols: { layer.now.symbols ≡ demand.now.symbols },
 }

@@ -1,11 +1,13 @@
 // Fractional rosters.
+ghost use Rattle.std.specs.Prelude.{IfOk, IfSome, OnOk};
+ghost use Rattle.roster_finder.specs.Uses.{AreUsesOf};
+
 use crate::cuts::add_cuts;
-use crate::grid::Grid;
 use crate::mixture::Mixture;
 use crate::random::Random;
 use crate::setting::Setting;
+use crate::table::Table;
 use std::alloc::AllocError;
-use std::mem;
 
 /// Shares are given in parts of a use; this many parts are one use.
 pub(crate) const ONE_USE: i64 = 4_096;
@@ -19,7 +21,7 @@ pub(crate) struct Shares {
     /// Whether they are led over all cuts. Where none are, there is hardly a roster.
     pub hang_together: bool,
     /// By weekday and step, in parts of a use.
-    pub uses: Grid<i64>,
+    pub uses: Table<i64>,
 }
 
 impl Shares {
@@ -28,15 +30,17 @@ impl Shares {
     pub fn of(
         setting: Setting<'_>,
         random: &mut Random,
-        noise: usize,
-    ) -> Result<Option<Shares>, AllocError> {
+        noise: u32,
+    ) -> Result<Option<Shares>, AllocError>
+        ensures { IfOk result (λ found. IfSome found (λ s. AreUsesOf setting.entry s.uses)) }
+    {
         let mut mixture = Mixture::new(setting, noise)?;
         if !mixture.approach(random)? {
             return Ok(None);
         }
         let mut shares = Shares {
             hang_together: true,
-            uses: mixture.uses(ONE_USE)?,
+            uses: mixture.uses(setting, ONE_USE)?,
         };
         shares.lead_over_cuts(setting, random, &mut mixture)?;
         Ok(Some(shares))
@@ -49,7 +53,10 @@ impl Shares {
         setting: Setting<'_>,
         random: &mut Random,
         mixture: &mut Mixture<'_>,
-    ) -> Result<(), AllocError> {
+    ) -> Result<(), AllocError>
+        requires { AreUsesOf setting self.old.uses }
+        ensures { OnOk result (AreUsesOf setting.entry self.new.uses) }
+    {
         for _ in 0..CUTTING_TURNS {
             if !add_cuts(setting, &self.uses, &mut mixture.quotas)? {
                 break;
@@ -59,8 +66,8 @@ impl Shares {
                 self.hang_together = false;
                 break;
             }
-            let led = mixture.uses(ONE_USE)?;
-            drop(mem::replace(&mut self.uses, led));
+            let led = mixture.uses(setting, ONE_USE)?;
+            self.uses = led;
         }
         Ok(())
     }

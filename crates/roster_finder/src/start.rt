@@ -1,10 +1,13 @@
 // Start words: closed walks that follow the shares.
+ghost use Rattle.std.specs.Prelude.{◌≡◌, ◌+◌, ◌*◌, ◌<◌, ◌≤◌, length, IfOk, IfSome};
+
+use crate::cost::{minus, plus, sum_of, times};
 use crate::draft::Draft;
-use crate::grid::{Grid, quotient};
 use crate::random::Random;
 use crate::setting::Setting;
 use crate::shares::{ONE_USE, Shares};
-use crate::steady_layer::Step;
+use crate::steady_layer::SteadyLayer;
+use crate::table::Table;
 use std::alloc::AllocError;
 
 /// What a step counts that is still due.
@@ -16,46 +19,59 @@ const NO_SHARE: i64 = 1_000_000;
 /// So often a first node is drawn at most.
 const DRAWS: usize = 20;
 
-/// Room for start words.
-#[derive(Drop)]
-pub(crate) struct Starter<'a> {
-    setting: Setting<'a>,
-    // By day and node: whether the walk can be closed from there.
-    closes: Grid<bool>,
-    // By weekday and step: how often it was taken.
-    taken: Grid<i64>,
+/// What a start word follows: shares, and random numbers below `noise`.
+#[derive(Clone, Copy)]
+pub(crate) struct Lead<'a> {
+    pub shares: &'a Shares,
+    pub noise: u32,
 }
 
-impl<'a> Starter<'a> {
-    pub fn new(setting: Setting<'a>) -> Result<Starter<'a>, AllocError> {
-        let Setting {
-            alloc,
-            layer,
-            demand,
-        } = setting;
-        let days = demand.cells().saturating_add(1);
+/// Room for start words.
+#[derive(Drop)]
+pub(crate) struct Starter {
+    // By day and node: whether the walk can be closed from there.
+    closes: Table<bool>,
+    // By weekday and step: how often it was taken.
+    taken: Table<i64>,
+    ghost some_days: { 0 < closes.rows },
+}
+
+impl Starter {
+    ghost use Rattle.roster_finder.specs.Starters.{AreSharesOf, IsStarterOf};
+    ghost use Rattle.roster_finder.specs.Walks.{HaveOneShape, IsWalkOf};
+
+    pub fn new(setting: Setting<'_>, draft: &Draft) -> Result<Starter, AllocError>
+        ensures { IfOk result (IsStarterOf setting.entry.layer.now draft.now.walk) }
+    {
+        let Setting { alloc, layer, .. } = setting;
+        let walk = &draft.walk;
         Ok(Starter {
-            setting,
-            closes: Grid::new(alloc, days, layer.nodes(), false)?,
-            taken: Grid::new(alloc, demand.days, layer.steps.len(), 0)?,
+            closes: Table::new(alloc, walk.cells + 1, layer.nodes, false)?,
+            taken: Table::new(alloc, walk.days, layer.step_count(), 0)?,
         })
     }
 
-    /// Rounds the shares to a word and counts it, led also by random numbers below `noise`. False where each of the
-    /// first nodes that were drawn has no closed walk.
+    /// Rounds the shares to a word and counts it. False where each of the first nodes that were drawn has no closed
+    /// walk.
     pub fn start(
         &mut self,
-        shares: &Shares,
+        layer: &SteadyLayer,
+        lead: Lead<'_>,
         draft: &mut Draft,
         random: &mut Random,
-        noise: usize,
-    ) -> bool {
+    ) -> bool
+        requires nodes { 0 < layer.now.nodes }
+        requires walk { IsWalkOf layer.now draft.old.walk }
+        requires starter { IsStarterOf layer.now draft.old.walk self.old }
+        requires shares { AreSharesOf layer.now draft.old.walk lead.shares.now }
+        ensures walk { HaveOneShape draft.new.walk draft.old.walk }
+        ensures starter { IsStarterOf layer.now draft.new.walk self.new }
+    {
         for _ in 0..DRAWS {
-            let first = self.drawn_node(shares, random);
-            self.mark_closing(first);
+            let first = drawn_node(layer, lead.shares, random);
+            self.mark_closing(layer, first);
             if self.closes.at(0, first) {
-                draft.walk.set_node(0, first);
-                self.write(shares, draft, random, noise);
+                self.write(layer, lead, draft, random, first);
                 draft.count_all();
                 return true;
             }
@@ -63,81 +79,78 @@ impl<'a> Starter<'a> {
         false
     }
 
-    // A node to begin with: that of a step on the first weekday, drawn by the shares.
-    fn drawn_node(&self, shares: &Shares, random: &mut Random) -> usize {
-        let mut sum: i64 = 0;
-        for share in shares.uses.row(0) {
-            sum = sum.wrapping_add(*share);
-        }
-        let mut drawn = random.noise(usize::try_from(sum).unwrap_or(0));
-        for (step, share) in self
-            .setting
-            .layer
-            .steps
-            .iter()
-            .zip(shares.uses.row(0).iter())
-        {
-            if drawn < *share {
-                return step.from;
-            }
-            drawn = drawn.wrapping_sub(*share);
-        }
-        random.below(self.setting.layer.nodes())
-    }
-
     // Marks on each day the nodes from which the first node is reached in the end.
     // Costs a look at each step on each day.
-    fn mark_closing(&mut self, first: usize) {
-        let cells = self.setting.demand.cells();
-        self.closes.clear();
+    fn mark_closing(&mut self, layer: &SteadyLayer, first: usize)
+        requires first { first < layer.now.nodes }
+        requires nodes { self.old.closes.columns ≡ layer.now.nodes }
+        ensures closes { (self.new.closes.rows ≡ self.old.closes.rows)
+            × (self.new.closes.columns ≡ self.old.closes.columns) }
+        ensures taken { (self.new.taken.rows ≡ self.old.taken.rows)
+            × (self.new.taken.columns ≡ self.old.taken.columns) }
+    {
+        let cells = self.closes.rows - 1;
+        self.closes.fill(false);
         self.closes.set(cells, first, true);
         for day in (0..cells).rev() {
-            for step in &self.setting.layer.steps {
-                if self.closes.at(day.wrapping_add(1), step.to) {
-                    self.closes.set(day, step.from, true);
-                }
-            }
+            mark_day(&mut self.closes, layer, day);
         }
     }
 
     // Writes the word day by day from its first node.
-    fn write(&mut self, shares: &Shares, draft: &mut Draft, random: &mut Random, noise: usize) {
-        self.taken.clear();
-        for day in 0..draft.walk.cells() {
-            if let Some(number) = self.best_step(shares, draft, random, day, noise) {
-                self.take(draft, day, number);
+    fn write(
+        &mut self,
+        layer: &SteadyLayer,
+        lead: Lead<'_>,
+        draft: &mut Draft,
+        random: &mut Random,
+        first: usize,
+    )
+        requires first { first < layer.now.nodes }
+        requires walk { IsWalkOf layer.now draft.old.walk }
+        requires starter { IsStarterOf layer.now draft.old.walk self.old }
+        requires shares { AreSharesOf layer.now draft.old.walk lead.shares.now }
+        ensures walk { HaveOneShape draft.new.walk draft.old.walk }
+        ensures starter { IsStarterOf layer.now draft.new.walk self.new }
+    {
+        self.taken.fill(0);
+        let mut node = first;
+        for day in 0..draft.walk.cells {
+            draft.walk.set_node(day, node);
+            let weekday = draft.walk.weekday(day);
+            let place = Place { day, weekday, node };
+            if let Some(number) = self.best_step(layer, lead, random, place) {
+                let taken = self.taken.at(weekday, number);
+                self.taken.set(weekday, number, plus(taken, 1));
+                draft.walk.set_symbol(day, layer.step(number).symbol);
+                node = layer.step(number).to;
             }
-        }
-    }
-
-    // Takes a step on a day.
-    fn take(&mut self, draft: &mut Draft, day: usize, number: usize) {
-        let weekday = draft.walk.weekday(day);
-        let taken = self.taken.at(weekday, number);
-        self.taken.set(weekday, number, taken.wrapping_add(1));
-        if let Some(step) = self.setting.layer.step(number) {
-            draft.walk.set_symbol(day, step.symbol);
-            draft.walk.set_node(day.wrapping_add(1), step.to);
         }
     }
 
     // The number of the step that is most due among those after which the walk can be closed.
     fn best_step(
         &self,
-        shares: &Shares,
-        draft: &Draft,
+        layer: &SteadyLayer,
+        lead: Lead<'_>,
         random: &mut Random,
-        day: usize,
-        noise: usize,
-    ) -> Option<usize> {
-        let weekday = draft.walk.weekday(day);
+        place: Place,
+    ) -> Option<usize>
+        requires day { place.day + 1 < self.now.closes.rows }
+        requires node { place.node < layer.now.nodes }
+        requires nodes { self.now.closes.columns ≡ layer.now.nodes }
+        requires weekday { (place.weekday < self.now.taken.rows) × (place.weekday < lead.shares.now.uses.rows) }
+        requires steps { (self.now.taken.columns ≡ length layer.now.steps.items)
+            × (lead.shares.now.uses.columns ≡ length layer.now.steps.items) }
+        ensures { IfSome result (λ n. n < length layer.now.steps.items) }
+    {
         let mut most = i64::MIN;
-        let mut best = None;
-        for symbol in 0..self.setting.layer.symbols {
-            if let Some(number) = self.closing_step(day, draft.walk.node(day), symbol) {
-                let due = self
-                    .due(shares, weekday, number)
-                    .wrapping_add(random.noise(noise));
+        let mut best: Option<usize> = None;
+        for symbol in 0..layer.symbols {
+            if let Some(number) = self.closing_step(layer, place, symbol) {
+                let taken = self.taken.at(place.weekday, number);
+                let share = lead.shares.uses.at(place.weekday, number);
+                let due = plus(due_of(share, taken), random.noise(lead.noise));
                 if due > most {
                     most = due;
                     best = Some(number);
@@ -148,25 +161,71 @@ impl<'a> Starter<'a> {
     }
 
     // The number of the step by a symbol, if the walk can be closed after it.
-    fn closing_step(&self, day: usize, node: usize, symbol: usize) -> Option<usize> {
-        let number = self.setting.layer.step_number(node, symbol)?;
-        let Step { to, .. } = self.setting.layer.step(number)?;
-        if self.closes.at(day.wrapping_add(1), to) {
+    fn closing_step(&self, layer: &SteadyLayer, place: Place, symbol: usize) -> Option<usize>
+        requires day { place.day + 1 < self.now.closes.rows }
+        requires node { place.node < layer.now.nodes }
+        requires nodes { self.now.closes.columns ≡ layer.now.nodes }
+        requires symbol { symbol < layer.now.symbols }
+        ensures { IfSome result (λ n. n < length layer.now.steps.items) }
+    {
+        let number = layer.step_number(place.node, symbol)?;
+        if self.closes.at(place.day + 1, layer.step(number).to) {
             Some(number)
         } else {
             None
         }
     }
+}
 
-    // What a step counts on a weekday by its share and by how often it was taken.
-    fn due(&self, shares: &Shares, weekday: usize, number: usize) -> i64 {
-        let share = shares.uses.at(weekday, number);
-        let taken = STEP_DUE.wrapping_mul(self.taken.at(weekday, number));
-        let wanted = if share == 0 {
-            -NO_SHARE
-        } else {
-            quotient(STEP_DUE.wrapping_mul(share), ONE_USE)
-        };
-        wanted.wrapping_sub(taken)
+// A place of a word: its day, and the node before it.
+#[derive(Clone, Copy)]
+struct Place {
+    day: usize,
+    weekday: usize,
+    node: usize,
+}
+
+// Marks on a day the nodes from which a step leads to a marked node of the next day.
+fn mark_day(closes: &mut Table<bool>, layer: &SteadyLayer, day: usize)
+    requires day { day + 1 < closes.old.rows }
+    requires nodes { closes.old.columns ≡ layer.now.nodes }
+    ensures rows { closes.new.rows ≡ closes.old.rows }
+    ensures columns { closes.new.columns ≡ closes.old.columns }
+{
+    for number in 0..layer.step_count() {
+        let step = layer.step(number);
+        if closes.at(day + 1, step.to) {
+            closes.set(day, step.from, true);
+        }
     }
+}
+
+// A node to begin with: that of a step on the first weekday, drawn by the shares.
+fn drawn_node(layer: &SteadyLayer, shares: &Shares, random: &mut Random) -> usize
+    requires nodes { 0 < layer.now.nodes }
+    requires weekdays { 0 < shares.now.uses.rows }
+    requires steps { shares.now.uses.columns ≡ length layer.now.steps.items }
+    ensures { result < layer.now.nodes }
+{
+    // The shares of a weekday are some thousand uses at most, so that their sum is a number of 32 bits.
+    let sum = u32::try_from(sum_of(shares.uses.row(0))).unwrap_or(0);
+    let mut drawn = random.noise(sum);
+    for number in 0..layer.step_count() {
+        let share = shares.uses.at(0, number);
+        if drawn < share {
+            return layer.step(number).from;
+        }
+        drawn = minus(drawn, share);
+    }
+    random.below(layer.nodes)
+}
+
+// What a step counts by its share and by how often it was taken.
+fn due_of(share: i64, taken: i64) -> i64 {
+    let wanted = if share == 0 {
+        -NO_SHARE
+    } else {
+        times(STEP_DUE, share) / ONE_USE
+    };
+    minus(wanted, times(STEP_DUE, taken))
 }

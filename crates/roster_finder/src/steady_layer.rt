@@ -1,28 +1,14 @@
 // The one layer that long clean words pass through day by day.
-use crate::grid::{Grid, entry_or, put};
+ghost use Rattle.std.specs.Prelude.{◌≡◌, ℕ, ◌+◌, ◌*◌, ◌<◌, ◌≤◌, ◌^◌, length, All, IfOk, IfSome};
+ghost use Rattle.rwsp_terms.specs.Instance.{shift_count};
+ghost use Rattle.roster_finder.specs.Steps.{IsStepWithin, IsBelow};
+
+use crate::nodes::{Nodes, move_of};
+use crate::numbers::Numbers;
+use crate::step::Step;
 use clean_words::{Automaton, Told};
 use rwsp_model::Problem;
 use std::alloc::{AllocError, Global};
-
-/// The last weekday of a weekend, which has two days.
-pub(crate) const LAST_OF_WEEKEND: usize = 6;
-
-/// One step through the layer.
-#[derive(Clone, Copy)]
-pub(crate) struct Step {
-    pub from: usize,
-    pub to: usize,
-    pub symbol: usize,
-    /// Whether the symbol is the day off, like the one before.
-    pub stays_off: bool,
-}
-
-impl Step {
-    /// Whether the step makes a weekend free where it is taken on a weekday.
-    pub fn ends_weekend(self, weekday: usize) -> bool {
-        self.stays_off && weekday == LAST_OF_WEEKEND
-    }
-}
 
 /// The nodes that clean words without beginning and end pass through, and the steps between them. A node is a state of
 /// the automaton of the short rules, where each state tells the last symbol. A part of a clean word is clean, so a closed
@@ -31,140 +17,192 @@ impl Step {
 pub(crate) struct SteadyLayer {
     /// The number of symbols, the day off among them.
     pub symbols: usize,
-    /// The steps, by their numbers.
-    pub steps: Vec<Step>,
+    /// The number of nodes.
+    pub nodes: usize,
+    steps: Vec<Step>,
     // The last symbol of each node.
-    last: Vec<usize>,
-    // The number of the step out of each node by each symbol.
-    out: Grid<Option<usize>>,
+    last: Numbers,
+    // The number of the step out of each node by each symbol, node by node.
+    out: Vec<Option<usize>>,
+    ghost steps_within: { All (IsStepWithin nodes symbols) steps.items },
+    ghost last_whole: { length last.entries.items ≡ nodes },
+    ghost last_below: { last.below ≡ symbols },
+    ghost out_whole: { length out.items ≡ symbols * nodes },
+    ghost out_within: { All (IsBelow (length steps.items)) out.items },
 }
 
 impl SteadyLayer {
     /// The layer of a problem's words.
-    pub fn of(alloc: Global, problem: &Problem) -> Result<SteadyLayer, AllocError> {
+    pub fn of(alloc: Global, problem: &Problem) -> Result<SteadyLayer, AllocError>
+        ensures { IfOk result (λ l. l.symbols ≡ shift_count problem.now + 1) }
+    {
         let automaton = Automaton::of_short_rules(alloc, problem, Told::LastSymbol)?;
-        let nodes = numbers_of(alloc, &passed_states(alloc, &automaton)?)?;
-        let count = nodes.iter().filter(|node| node.is_some()).count();
+        let nodes = Nodes::of(alloc, &automaton)?;
         let symbols = usize::from(problem.shifts()) + 1;
-        let mut layer = SteadyLayer {
+        let last = last_symbols(alloc, &automaton, &nodes, symbols)?;
+        let steps = steps_between(alloc, &automaton, &nodes, &last)?;
+        let out = numbered_out(alloc, &steps, nodes.count, symbols)?;
+        Ok(SteadyLayer {
             symbols,
-            steps: Vec::new(alloc),
-            last: vec![in alloc; 0; count]?,
-            out: Grid::new(alloc, count, symbols, None)?,
-        };
-        layer.set_last_symbols(&automaton, &nodes);
-        layer.add_steps(&automaton, &nodes)?;
-        Ok(layer)
+            nodes: nodes.count,
+            steps,
+            last,
+            out,
+        })
     }
 
-    // Notes the last symbol of each node: that of each step which leads there.
-    fn set_last_symbols(&mut self, automaton: &Automaton, nodes: &[Option<usize>]) {
-        for step in automaton.steps() {
-            if let Some(to) = entry_or(nodes, step.to as usize, None) {
-                put(&mut self.last, to, usize::from(step.symbol.number));
-            }
-        }
+    /// The number of steps.
+    pub fn step_count(&self) -> usize
+        ensures { result ≡ length self.now.steps.items }
+    {
+        self.steps.len()
     }
 
-    // Adds the steps between nodes.
-    fn add_steps(
-        &mut self,
-        automaton: &Automaton,
-        nodes: &[Option<usize>],
-    ) -> Result<(), AllocError> {
-        for step in automaton.steps() {
-            let from = entry_or(nodes, step.from as usize, None);
-            let to = entry_or(nodes, step.to as usize, None);
-            if let (Some(from), Some(to)) = (from, to) {
-                let symbol = usize::from(step.symbol.number);
-                let stays_off = symbol == 0 && self.last(from) == 0;
-                self.out.set(from, symbol, Some(self.steps.len()));
-                self.steps.push(Step {
-                    from,
-                    to,
-                    symbol,
-                    stays_off,
-                })?;
-            }
-        }
-        Ok(())
-    }
-
-    /// The number of nodes.
-    pub fn nodes(&self) -> usize {
-        self.last.len()
+    pub fn steps(&self) -> &[Step]
+        ensures { result.now ≡ self.now.steps.items }
+    {
+        &self.steps
     }
 
     /// The last symbol of a node.
-    pub fn last(&self, node: usize) -> usize {
-        entry_or(&self.last, node, 0)
-    }
-
-    /// The number of the step out of a node by a symbol.
-    pub fn step_number(&self, node: usize, symbol: usize) -> Option<usize> {
-        self.out.at(node, symbol)
+    pub fn last(&self, node: usize) -> usize
+        requires { node < self.now.nodes }
+        ensures { result < self.now.symbols }
+    {
+        self.last.at(node)
     }
 
     /// The step of a number.
-    pub fn step(&self, number: usize) -> Option<Step> {
-        self.steps.get(number).copied()
+    pub fn step(&self, number: usize) -> Step
+        requires { number < length self.now.steps.items }
+        ensures { IsStepWithin self.now.nodes self.now.symbols result }
+    {
+        self.steps[number]
+    }
+
+    /// The number of the step out of a node by a symbol.
+    #[tactic(auto, using(crate::proofs::Places::place_within))]
+    pub fn step_number(&self, node: usize, symbol: usize) -> Option<usize>
+        requires node { node < self.now.nodes }
+        requires symbol { symbol < self.now.symbols }
+        ensures { IfSome result (λ n. n < length self.now.steps.items) }
+    {
+        self.out[node * self.symbols + symbol]
     }
 
     /// The node that follows on a node by a symbol.
-    pub fn next(&self, node: usize, symbol: usize) -> Option<usize> {
-        let step = self.step(self.step_number(node, symbol)?)?;
-        Some(step.to)
+    pub fn next(&self, node: usize, symbol: usize) -> Option<usize>
+        requires node { node < self.now.nodes }
+        requires symbol { symbol < self.now.symbols }
+        ensures { IfSome result (λ n. n < self.now.nodes) }
+    {
+        let number = self.step_number(node, symbol)?;
+        Some(self.step(number).to)
     }
 }
 
-// For each state that is marked, its number among them.
-fn numbers_of(alloc: Global, marks: &[bool]) -> Result<Vec<Option<usize>>, AllocError> {
-    let mut numbers = Vec::new(alloc);
-    let mut next: usize = 0;
-    for is_marked in marks {
-        if *is_marked {
-            numbers.push(Some(next))?;
-            next = next.wrapping_add(1);
-        } else {
-            numbers.push(None)?;
-        }
-    }
-    Ok(numbers)
-}
-
-// The states that words without beginning and end pass through: states are left out until a step enters and a step
-// leaves each of those that are left. Costs a look at each step for each time that some are left out.
-fn passed_states(alloc: Global, automaton: &Automaton) -> Result<Vec<bool>, AllocError> {
-    let states = automaton.states();
-    let mut passed = vec![in alloc; true; states]?;
-    for _ in 0..states {
-        let still = still_passed(alloc, automaton, &passed)?;
-        let is_stable = still == passed;
-        passed = still;
-        if is_stable {
-            break;
-        }
-    }
-    Ok(passed)
-}
-
-// The states that a step enters and a step leaves, of the steps between states that are passed.
-fn still_passed(
+// The last symbol of each node: that of each step which leads there.
+fn last_symbols(
     alloc: Global,
     automaton: &Automaton,
-    passed: &[bool],
-) -> Result<Vec<bool>, AllocError> {
-    let mut entered = vec![in alloc; false; passed.len()]?;
-    let mut left = vec![in alloc; false; passed.len()]?;
-    for step in automaton.steps() {
-        let (from, to) = (step.from as usize, step.to as usize);
-        if entry_or(passed, from, false) && entry_or(passed, to, false) {
-            put(&mut left, from, true);
-            put(&mut entered, to, true);
+    nodes: &Nodes,
+    symbols: usize,
+) -> Result<Numbers, AllocError>
+    requires nodes { length nodes.now.numbers.items ≡ length automaton.now.moves }
+    requires symbols { symbols ≡ shift_count automaton.now.problem + 1 }
+    ensures whole { IfOk result (λ last. length last.entries.items ≡ nodes.now.count) }
+    ensures below { IfOk result (λ last. last.below ≡ symbols) }
+{
+    let mut last = Numbers::zeros(alloc, nodes.count, symbols)?;
+    for number in 0..automaton.steps().len() {
+        let step = move_of(automaton, number);
+        if let Some(to) = nodes.at(step.to as usize) {
+            last.set(to, usize::from(step.symbol.number));
         }
     }
-    for (is_entered, is_left) in entered.iter_mut().zip(left.iter()) {
-        *is_entered = *is_entered && *is_left;
+    Ok(last)
+}
+
+// The steps between nodes, whose last symbols are given.
+fn steps_between(
+    alloc: Global,
+    automaton: &Automaton,
+    nodes: &Nodes,
+    last: &Numbers,
+) -> Result<Vec<Step>, AllocError>
+    requires nodes { length nodes.now.numbers.items ≡ length automaton.now.moves }
+    requires whole { length last.now.entries.items ≡ nodes.now.count }
+    requires below { last.now.below ≡ shift_count automaton.now.problem + 1 }
+    ensures { IfOk result (λ steps. All (IsStepWithin nodes.now.count last.now.below) steps.items) }
+{
+    let mut steps = Vec::new(alloc);
+    for number in 0..automaton.steps().len() {
+        if let Some(step) = step_between(automaton, nodes, last, number) {
+            steps.push(step)?;
+        }
     }
-    Ok(entered)
+    Ok(steps)
+}
+
+// The step of a number, where it is one between nodes.
+fn step_between(automaton: &Automaton, nodes: &Nodes, last: &Numbers, number: usize) -> Option<Step>
+    requires number { number < length automaton.now.steps }
+    requires nodes { length nodes.now.numbers.items ≡ length automaton.now.moves }
+    requires whole { length last.now.entries.items ≡ nodes.now.count }
+    requires below { last.now.below ≡ shift_count automaton.now.problem + 1 }
+    ensures { IfSome result (IsStepWithin nodes.now.count last.now.below) }
+{
+    let step = move_of(automaton, number);
+    let from = nodes.at(step.from as usize)?;
+    let to = nodes.at(step.to as usize)?;
+    let symbol = usize::from(step.symbol.number);
+    Some(Step {
+        from,
+        to,
+        symbol,
+        stays_off: symbol == 0 && last.at(from) == 0,
+    })
+}
+
+// The number of the step out of each node by each symbol, node by node.
+fn numbered_out(
+    alloc: Global,
+    steps: &[Step],
+    nodes: usize,
+    symbols: usize,
+) -> Result<Vec<Option<usize>>, AllocError>
+    requires { All (IsStepWithin nodes symbols) steps.now }
+    ensures whole { IfOk result (λ out. length out.items ≡ symbols * nodes) }
+    ensures within { IfOk result (λ out. All (IsBelow (length steps.now)) out.items) }
+{
+    // No memory holds more places than a number of it can count.
+    let Some(places) = symbols.checked_mul(nodes) else {
+        return Err(AllocError);
+    };
+    let mut out = vec![in alloc; None; places]?;
+    for number in 0..steps.len() {
+        let step = steps[number];
+        put_number(&mut out, place_out(step, nodes, symbols), number);
+    }
+    Ok(out)
+}
+
+// The place of the number of a step.
+#[tactic(auto, using(crate::proofs::Places::place_within))]
+fn place_out(step: Step, nodes: usize, symbols: usize) -> usize
+    requires within { IsStepWithin nodes symbols step }
+    requires few { symbols * nodes < 2 ^ 64 }
+    ensures { result < symbols * nodes }
+{
+    step.from * symbols + step.symbol
+}
+
+// Writes the number of a step.
+fn put_number(out: &mut Vec<Option<usize>>, place: usize, number: usize)
+    requires { place < length out.old.items }
+    ensures long { length out.new.items ≡ length out.old.items }
+    ensures below { (bound : ℕ) → number < bound
+        → All (IsBelow bound) out.old.items → All (IsBelow bound) out.new.items }
+{
+    out[place] = Some(number);
 }

@@ -1,77 +1,115 @@
 // Closed walks through the steady layer: clean cyclic words.
-use crate::grid::{entry_or, put, rest};
-use crate::steady_layer::{LAST_OF_WEEKEND, SteadyLayer};
-use std::alloc::{AllocError, Global};
+ghost use Rattle.std.specs.Prelude.{◌≡◌, ◌+◌, ◌*◌, ◌<◌, ◌≤◌, length, IfOk};
+ghost use Rattle.rwsp_terms.specs.declared.limits.TheConstants.{MOST_CELLS};
+
+use crate::numbers::Numbers;
+use crate::setting::Setting;
+use crate::steady_layer::SteadyLayer;
+use crate::step::LAST_OF_WEEKEND;
+use std::alloc::AllocError;
 
 /// A cyclic word and the nodes that it passes.
 #[derive(Drop)]
 pub(crate) struct Walk {
-    days: usize,
+    /// The number of days of a week.
+    pub days: usize,
+    /// The number of days of the whole walk.
+    pub cells: usize,
     // The symbol of each day.
-    symbols: Vec<usize>,
+    symbols: Numbers,
     // The node before each day.
-    nodes: Vec<usize>,
+    nodes: Numbers,
+    ghost some_days: { 0 < days },
+    ghost some_cells: { 0 < cells },
+    ghost few_cells: { cells ≤ MOST_CELLS },
+    ghost symbols_whole: { length symbols.entries.items ≡ cells },
+    ghost nodes_whole: { length nodes.entries.items ≡ cells },
 }
 
 impl Walk {
-    /// A walk of `cells` cells in weeks of `days` days, all of them of symbol 0 at node 0.
-    pub fn new(alloc: Global, days: usize, cells: usize) -> Result<Walk, AllocError> {
+    ghost use Rattle.roster_finder.specs.Walks.{HaveOneShape, IsWalkOf};
+
+    /// A walk through all weeks, all its days of symbol 0 at node 0.
+    pub fn new(setting: Setting<'_>) -> Result<Walk, AllocError>
+        requires { 0 < setting.layer.now.nodes }
+        ensures walk { IfOk result (IsWalkOf setting.entry.layer.now) }
+        ensures days { IfOk result (λ w. w.days ≡ setting.entry.demand.now.days) }
+        ensures cells { IfOk result (λ w. w.cells ≡ setting.entry.demand.now.weeks * setting.entry.demand.now.days) }
+    {
+        let cells = setting.demand.cells();
+        let symbols = setting.demand.symbols;
         Ok(Walk {
-            days,
-            symbols: vec![in alloc; 0; cells]?,
-            nodes: vec![in alloc; 0; cells]?,
+            days: setting.demand.days,
+            cells,
+            symbols: Numbers::zeros(setting.alloc, cells, symbols)?,
+            nodes: Numbers::zeros(setting.alloc, cells, setting.layer.nodes)?,
         })
     }
 
-    /// The number of days of the whole walk.
-    pub fn cells(&self) -> usize {
-        self.symbols.len()
-    }
-
-    /// The number of days of a week.
-    pub fn days(&self) -> usize {
-        self.days
-    }
-
     pub fn symbols(&self) -> &[usize] {
-        &self.symbols
+        self.symbols.entries()
     }
 
-    pub fn symbol(&self, position: usize) -> usize {
-        entry_or(&self.symbols, position, 0)
+    pub fn symbol(&self, position: usize) -> usize
+        requires { position < self.now.cells }
+        ensures { result < self.now.symbols.below }
+    {
+        self.symbols.at(position)
     }
 
-    pub fn node(&self, position: usize) -> usize {
-        entry_or(&self.nodes, position, 0)
+    pub fn node(&self, position: usize) -> usize
+        requires { position < self.now.cells }
+        ensures { result < self.now.nodes.below }
+    {
+        self.nodes.at(position)
     }
 
-    pub fn set_symbol(&mut self, position: usize, symbol: usize) {
-        put(&mut self.symbols, position, symbol);
+    pub fn set_symbol(&mut self, position: usize, symbol: usize)
+        requires position { position < self.old.cells }
+        requires symbol { symbol < self.old.symbols.below }
+        ensures { HaveOneShape self.new self.old }
+    {
+        self.symbols.set(position, symbol);
     }
 
-    pub fn set_node(&mut self, position: usize, node: usize) {
-        put(&mut self.nodes, position, node);
+    pub fn set_node(&mut self, position: usize, node: usize)
+        requires position { position < self.old.cells }
+        requires node { node < self.old.nodes.below }
+        ensures { HaveOneShape self.new self.old }
+    {
+        self.nodes.set(position, node);
     }
 
-    pub fn weekday(&self, position: usize) -> usize {
-        rest(position, self.days)
+    pub fn weekday(&self, position: usize) -> usize
+        ensures { result < self.now.days }
+    {
+        position % self.days
     }
 
     /// The position that many days later, round the cycle.
-    pub fn later(&self, position: usize, days: usize) -> usize {
-        rest(position.wrapping_add(days), self.symbols.len())
+    pub fn later(&self, position: usize, days: usize) -> usize
+        requires position { position < self.now.cells }
+        requires days { days ≤ self.now.cells }
+        ensures { result < self.now.cells }
+    {
+        (position + days) % self.cells
     }
 
     /// The position a day later, round the cycle.
-    pub fn next(&self, position: usize) -> usize {
-        let next = position.wrapping_add(1);
-        if next < self.symbols.len() { next } else { 0 }
+    pub fn next(&self, position: usize) -> usize
+        requires { position < self.now.cells }
+        ensures { result < self.now.cells }
+    {
+        let next = position + 1;
+        if next < self.cells { next } else { 0 }
     }
 
     // The symbol of the day before, round the cycle.
-    fn symbol_before(&self, position: usize) -> usize {
+    fn symbol_before(&self, position: usize) -> usize
+        requires { position < self.now.cells }
+    {
         let day_before = if position == 0 {
-            self.symbols.len().saturating_sub(1)
+            self.cells - 1
         } else {
             position - 1
         };
@@ -79,7 +117,9 @@ impl Walk {
     }
 
     /// Whether a position is the last day of a weekend and that is off, like the day before.
-    pub fn ends_weekend(&self, position: usize) -> bool {
+    pub fn ends_weekend(&self, position: usize) -> bool
+        requires { position < self.now.cells }
+    {
         self.weekday(position) == LAST_OF_WEEKEND
             && self.symbol(position) == 0
             && self.symbol_before(position) == 0
@@ -87,7 +127,11 @@ impl Walk {
 
     /// Whether the word from a position on can be followed from a node until it passes the nodes that it passes now,
     /// within this many days. A node forgets within a block of shifts and one of days off.
-    pub fn joins(&self, layer: &SteadyLayer, from: usize, position: usize, days: usize) -> bool {
+    pub fn joins(&self, layer: &SteadyLayer, from: usize, position: usize, days: usize) -> bool
+        requires walk { IsWalkOf layer.now self.now }
+        requires node { from < layer.now.nodes }
+        requires position { position < self.now.cells }
+    {
         let mut node = from;
         let mut at = position;
         for _ in 0..days {
@@ -104,10 +148,15 @@ impl Walk {
     }
 
     /// Follows the word from a position on and writes the nodes that it passes, until these agree behind `days` days.
-    pub fn retrace(&mut self, layer: &SteadyLayer, position: usize, days: usize) {
+    /// No clause says that the word leads on from each of them; one that didn't would be left as it is there.
+    pub fn retrace(&mut self, layer: &SteadyLayer, position: usize, days: usize)
+        requires walk { IsWalkOf layer.now self.old }
+        requires position { position < self.old.cells }
+        ensures { HaveOneShape self.new self.old }
+    {
         let mut node = self.node(position);
         let mut at = position;
-        for day in 0..self.symbols.len() {
+        for day in 0..self.cells {
             if day > days && self.node(at) == node {
                 return;
             }

@@ -1,9 +1,16 @@
 // Moves that rewrite a window of a word by the clean word that costs least.
+ghost use Rattle.std.specs.Prelude.{◌≡◌, ◌<◌, ◌≤◌, length, IfOk, IfSome};
+ghost use Rattle.roster_finder.specs.Steps.{IsStepWithin};
+ghost use Rattle.roster_finder.specs.declared.window.TheConstants.{LONGEST_WINDOW};
+
+use crate::cost::{plus, times};
 use crate::draft::{Draft, Window};
-use crate::grid::{Grid, entry_or, put, set_all};
+use crate::numbers::NumberTable;
 use crate::random::Random;
 use crate::setting::Setting;
-use crate::steady_layer::Step;
+use crate::steady_layer::SteadyLayer;
+use crate::step::Step;
+use crate::table::{Table, fill};
 use crate::walk::Walk;
 use std::alloc::AllocError;
 use std::mem;
@@ -18,118 +25,182 @@ const FAR: i64 = 1 << 60;
 const UNIT: i64 = 256;
 
 /// Each price is raised by a random number below this. So a walk through equally good words doesn't stop.
-const NOISE: usize = 256;
+const NOISE: u32 = 256;
 
 /// Room for moves (large neighbourhoods: P. Shaw, 1998).
 #[derive(Drop)]
-pub(crate) struct Mover<'a> {
-    setting: Setting<'a>,
+pub(crate) struct Mover {
     // By day of the window and symbol.
-    prices: Grid<i64>,
+    prices: Table<i64>,
     weekend_price: i64,
     // The least cost of the walks to each node, on one day and on the next.
     costs: Vec<i64>,
     next_costs: Vec<i64>,
     // By day of the window and node: the node before it on a walk of least cost.
-    parents: Grid<usize>,
+    parents: NumberTable,
+    ghost days: { prices.rows ≡ LONGEST_WINDOW },
+    ghost parent_days: { parents.rows ≡ LONGEST_WINDOW },
+    ghost parent_nodes: { parents.numbers.below ≡ parents.columns },
+    ghost costs_whole: { length costs.items ≡ parents.columns },
+    ghost next_whole: { length next_costs.items ≡ parents.columns },
 }
 
-impl<'a> Mover<'a> {
-    pub fn new(setting: Setting<'a>) -> Result<Mover<'a>, AllocError> {
+impl Mover {
+    ghost use Rattle.roster_finder.specs.Moves.{IsMoverOf, IsWindowOf};
+    ghost use Rattle.roster_finder.specs.Walks.{HaveOneShape, IsWalkOf};
+
+    pub fn new(setting: Setting<'_>) -> Result<Mover, AllocError>
+        requires { 0 < setting.layer.now.nodes }
+        ensures { IfOk result (IsMoverOf setting.entry.layer.now) }
+    {
         let Setting { alloc, layer, .. } = setting;
-        let nodes = layer.nodes();
         Ok(Mover {
-            setting,
-            prices: Grid::new(alloc, LONGEST_WINDOW, layer.symbols, 0)?,
+            prices: Table::new(alloc, LONGEST_WINDOW, layer.symbols, 0)?,
             weekend_price: 0,
-            costs: vec![in alloc; FAR; nodes]?,
-            next_costs: vec![in alloc; FAR; nodes]?,
-            parents: Grid::new(alloc, LONGEST_WINDOW, nodes, 0)?,
+            costs: vec![in alloc; FAR; layer.nodes]?,
+            next_costs: vec![in alloc; FAR; layer.nodes]?,
+            parents: NumberTable::zeros(alloc, LONGEST_WINDOW, layer.nodes, layer.nodes)?,
         })
     }
 
-    /// Rewrites a window of a week at most. Costs a look at each step of the layer on each day of the window.
-    pub fn rewrite(&mut self, draft: &mut Draft, random: &mut Random, window: Window) {
+    /// Rewrites a window. Costs a look at each step of the layer on each day of the window.
+    pub fn rewrite(
+        &mut self,
+        layer: &SteadyLayer,
+        draft: &mut Draft,
+        random: &mut Random,
+        window: Window,
+    )
+        requires mover { IsMoverOf layer.now self.old }
+        requires walk { IsWalkOf layer.now draft.old.walk }
+        requires window { IsWindowOf draft.old.walk window }
+        ensures mover { IsMoverOf layer.now self.new }
+        ensures walk { HaveOneShape draft.new.walk draft.old.walk }
+    {
         draft.count(window, -1);
-        self.set_prices(draft, random, window);
-        self.sweep(&draft.walk, window);
-        if let Some(end) = self.best_end(&draft.walk, window) {
-            self.write(&mut draft.walk, window, end);
-        }
+        self.weekend_price = times(draft.counters.weekend_price(), UNIT);
+        set_prices(&mut self.prices, draft, random, window);
+        self.sweep(layer, &draft.walk, window);
+        self.write(layer, &mut draft.walk, window);
         draft.count(window, 1);
     }
 
-    // Prices each symbol on each day, and free weekends, by the counts without the window.
-    fn set_prices(&mut self, draft: &Draft, random: &mut Random, window: Window) {
-        self.weekend_price = draft.counters.weekend_price().wrapping_mul(UNIT);
-        for day in 0..window.len {
-            let weekday = draft.walk.weekday(draft.walk.later(window.start, day));
-            for symbol in 0..self.setting.layer.symbols {
-                let price = draft.counters.price(symbol, weekday).wrapping_mul(UNIT);
-                let noise = random.noise(NOISE);
-                self.prices.set(day, symbol, price.wrapping_add(noise));
-            }
-        }
-    }
-
     // Finds the least costs of the walks from the node before the window to each node behind it (R. Bellman, 1957).
-    fn sweep(&mut self, walk: &Walk, window: Window) {
-        set_all(&mut self.costs, FAR);
-        put(&mut self.costs, walk.node(window.start), 0);
+    fn sweep(&mut self, layer: &SteadyLayer, walk: &Walk, window: Window)
+        requires mover { IsMoverOf layer.now self.old }
+        requires walk { IsWalkOf layer.now walk.now }
+        requires window { IsWindowOf walk.now window }
+        ensures { IsMoverOf layer.now self.new }
+    {
+        fill(&mut self.costs, FAR);
+        let start = walk.node(window.start);
+        self.costs[start] = 0;
         for day in 0..window.len {
-            set_all(&mut self.next_costs, FAR);
-            self.sweep_day(walk.weekday(walk.later(window.start, day)), day);
-            mem::swap(&mut self.costs, &mut self.next_costs);
+            let weekday = walk.weekday(walk.later(window.start, day));
+            self.sweep_day(layer, day, weekday);
         }
     }
 
-    fn sweep_day(&mut self, weekday: usize, day: usize) {
-        for step in &self.setting.layer.steps {
-            let before = entry_or(&self.costs, step.from, FAR);
-            if before == FAR {
-                continue;
-            }
-            let cost = before.wrapping_add(self.price_of(step, weekday, day));
-            if cost < entry_or(&self.next_costs, step.to, 0) {
-                put(&mut self.next_costs, step.to, cost);
-                self.parents.set(day, step.to, step.from);
-            }
+    // Finds the least costs behind a day of the window by those before it.
+    fn sweep_day(&mut self, layer: &SteadyLayer, day: usize, weekday: usize)
+        requires mover { IsMoverOf layer.now self.old }
+        requires day { day < LONGEST_WINDOW }
+        ensures { IsMoverOf layer.now self.new }
+    {
+        fill(&mut self.next_costs, FAR);
+        for number in 0..layer.step_count() {
+            self.take(layer.step(number), day, weekday);
+        }
+        mem::swap(&mut self.costs, &mut self.next_costs);
+    }
+
+    // Takes a step on a day of the window, where that costs less than another way to its node.
+    fn take(&mut self, step: Step, day: usize, weekday: usize)
+        requires step { IsStepWithin self.old.parents.columns self.old.prices.columns step }
+        requires day { day < LONGEST_WINDOW }
+        ensures nodes { self.new.parents.columns ≡ self.old.parents.columns }
+        ensures symbols { self.new.prices.columns ≡ self.old.prices.columns }
+    {
+        let before = self.costs[step.from];
+        if before == FAR {
+            return;
+        }
+        let cost = plus(before, self.price_of(step, day, weekday));
+        if cost < self.next_costs[step.to] {
+            self.next_costs[step.to] = cost;
+            self.parents.set(day, step.to, step.from);
         }
     }
 
     // What a step costs on a day of the window.
-    fn price_of(&self, step: &Step, weekday: usize, day: usize) -> i64 {
+    fn price_of(&self, step: Step, day: usize, weekday: usize) -> i64
+        requires symbol { step.symbol < self.now.prices.columns }
+        requires day { day < LONGEST_WINDOW }
+    {
         let price = self.prices.at(day, step.symbol);
         if step.ends_weekend(weekday) {
-            price.wrapping_add(self.weekend_price)
+            plus(price, self.weekend_price)
         } else {
             price
         }
     }
 
     // The node behind the window that costs least among those from which the word can continue as it is.
-    fn best_end(&self, walk: &Walk, window: Window) -> Option<usize> {
+    fn best_end(&self, layer: &SteadyLayer, walk: &Walk, window: Window) -> Option<usize>
+        requires mover { IsMoverOf layer.now self.now }
+        requires walk { IsWalkOf layer.now walk.now }
+        requires window { IsWindowOf walk.now window }
+        ensures { IfSome result (λ n. n < layer.now.nodes) }
+    {
         let behind = walk.later(window.start, window.len);
-        let kept = walk.cells().saturating_sub(window.len);
+        let kept = walk.cells - window.len;
         let mut least = FAR;
-        let mut best = None;
-        for (node, cost) in self.costs.iter().enumerate() {
-            if *cost < least && walk.joins(self.setting.layer, node, behind, kept) {
-                least = *cost;
+        let mut best: Option<usize> = None;
+        for node in 0..layer.nodes {
+            let cost = self.costs[node];
+            if cost < least && walk.joins(layer, node, behind, kept) {
+                least = cost;
                 best = Some(node);
             }
         }
         best
     }
 
-    // Writes the walk of least cost to an end into the window.
-    fn write(&self, walk: &mut Walk, window: Window, end: usize) {
-        let layer = self.setting.layer;
+    // Writes the walk of least cost into the window, where there is one that the word behind continues.
+    fn write(&self, layer: &SteadyLayer, walk: &mut Walk, window: Window)
+        requires mover { IsMoverOf layer.now self.now }
+        requires walk { IsWalkOf layer.now walk.old }
+        requires window { IsWindowOf walk.old window }
+        ensures { HaveOneShape walk.new walk.old }
+    {
+        let Some(end) = self.best_end(layer, walk, window) else {
+            return;
+        };
         let mut node = end;
         for day in (0..window.len).rev() {
-            walk.set_symbol(walk.later(window.start, day), layer.last(node));
+            let position = walk.later(window.start, day);
+            walk.set_symbol(position, layer.last(node));
             node = self.parents.at(day, node);
         }
         walk.retrace(layer, window.start, window.len);
+    }
+}
+
+// Prices each symbol on each day of a window by the counts without it.
+fn set_prices(prices: &mut Table<i64>, draft: &Draft, random: &mut Random, window: Window)
+    requires symbols { prices.old.columns ≡ draft.now.walk.symbols.below }
+    requires days { window.len ≤ prices.old.rows }
+    requires start { window.start < draft.now.walk.cells }
+    requires within { window.len ≤ draft.now.walk.cells }
+    ensures days { prices.new.rows ≡ prices.old.rows }
+    ensures symbols { prices.new.columns ≡ prices.old.columns }
+{
+    for day in 0..window.len {
+        let weekday = draft.walk.weekday(draft.walk.later(window.start, day));
+        for symbol in 0..prices.columns {
+            let price = times(draft.counters.price(symbol, weekday), UNIT);
+            let noise = random.noise(NOISE);
+            prices.set(day, symbol, plus(price, noise));
+        }
     }
 }

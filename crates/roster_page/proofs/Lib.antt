@@ -6,3 +6,6 @@ pub mod Written
 pub mod OnePage
 pub mod ReadBack
 pub mod OneRoster
+pub mod Places
+pub mod Signs
+pub mod PageRead

@@ -1,90 +1,32 @@
--- A page shows one roster.
-use Rattle.std.proofs.Common.{◌≡◌, ℕ, zero, suc, ◌+◌, ◌-◌, ◌*◌, ◌<◌, List, [], ◌∷◌, ◌++◌, length, take, drop, min, Option, refl, ap, sym, subst, ◌∙◌, arith, append_assoc, length-drop}
-use Rattle.std.specs.Prelude.{All}
-use Rattle.std.specs.List.{flat_map, range_with_len}
-use Rattle.std.specs.Fmt.{decimal}
-use Rattle.std.proofs.lemmas.Fmt.{decimal_digit}
-use Rattle.std.proofs.lemmas.List.{length-take, drop-drop, take-append-drop, append_cancel_left}
-use Rattle.std.proofs.lemmas.List.Elements.{All-take, All-drop}
-use Rattle.rwsp_terms.specs.Instance.{Instance, IsSymbol, symbol_numbered}
-use Rattle.rwsp_terms.specs.Roster.{IsRoster}
+-- A page shows one roster: the one that is read back.
+use Rattle.std.proofs.Common.{◌≡◌, ℕ, zero, suc, ◌+◌, ◌*◌, ◌<◌, List, [], ◌∷◌, ◌++◌, length, take, drop, map, Option, Some, refl, ap, sym, subst, ◌∙◌, arith, length-drop}
+use Rattle.std.specs.List.{range_with_len}
+use Rattle.std.proofs.lemmas.List.{drop-drop, take-append-drop}
 use Rattle.rwsp_terms.specs.declared.data.Symbol.{Symbol}
-use Rattle.rwsp_model.specs.Validity.{KeepsLimits}
 use Rattle.roster_print.specs.RosterText.{week_at}
-use Rattle.roster_page.specs.PieceText.{piece_text}
-use Rattle.roster_page.specs.PageText.{page_text, page_head, page_rest, roster_table, roster_head, week_rows, week_row, week_top, week_end, cells_text, cell_text, name_text}
-use Rattle.roster_page.specs.declared.pieces.Piece.TheVariants as Pieces
 use Rattle.roster_page.specs.Laws.{PagesShowOneRoster}
+use Rattle.roster_page.proofs.PageRead.{pages_are_read_back}
 
--- symbols of one digit
-abbrev pub HasDigit : Symbol → Type 0
-HasDigit x = x.number < 10
-
-first_same : (m n : ℕ) (xs ys : List ℕ) → m ∷ xs ≡ n ∷ ys → m ≡ n
-first_same m n xs ys e = cc
-
-same_digit : (x y : Symbol) (a b : List ℕ) → HasDigit x → HasDigit y → decimal x.number ++ a ≡ decimal y.number ++ b → x ≡ y
-same_digit x y a b hx hy e =
-    let whole : (48 + x.number) ∷ a ≡ (48 + y.number) ∷ b = sym (ap (λ d. d ++ a) (decimal_digit x.number hx)) ∙ e ∙ ap (λ d. d ++ b) (decimal_digit y.number hy) in
-    let first : 48 + x.number ≡ 48 + y.number = first_same (48 + x.number) (48 + y.number) a b whole in
-    let same : x.number ≡ y.number = omega (arith, first) in
-    ap symbol_numbered same
-
--- what is behind the number of a cell
-abbrev pub cell_rest : Instance → Symbol → List ℕ → List ℕ
-cell_rest P x a = piece_text Pieces.ClassEnd ++ (name_text P x ++ (piece_text Pieces.CellEnd ++ a))
-
-cell_front : (P : Instance) (x : Symbol) (a : List ℕ) → cell_text P x ++ a ≡ piece_text Pieces.CellTop ++ (decimal x.number ++ cell_rest P x a)
-unfolding cell_text
-cell_front P x a = simp append_assoc
-
-cell_one : (P : Instance) (x y : Symbol) (a b : List ℕ) → HasDigit x → HasDigit y → cell_text P x ++ a ≡ cell_text P y ++ b → (x ≡ y) × (a ≡ b)
-cell_one P x y a b hx hy e =
-    let behind = append_cancel_left (piece_text Pieces.CellTop) _ _ (sym (cell_front P x a) ∙ e ∙ cell_front P y b) in
-    let same : x ≡ y = same_digit x y (cell_rest P x a) (cell_rest P y b) hx hy behind in
-    (same, append_cancel_left (cell_text P x) a b (e ∙ ap (λ (z : Symbol). cell_text P z ++ b) (sym same)))
-
-cells_one : (P : Instance) (xs ys : List Symbol) (a b : List ℕ) → length xs ≡ length ys → All HasDigit xs → All HasDigit ys → flat_map (cell_text P) xs ++ a ≡ flat_map (cell_text P) ys ++ b → (xs ≡ ys) × (a ≡ b)
-cells_one P [] [] a b long hx hy e = (refl, e)
-cells_one P [] (y ∷ ys) a b long hx hy e = absurd (omega (arith, long))
-cells_one P (x ∷ xs) [] a b long hx hy e = absurd (omega (arith, long))
-cells_one P (x ∷ xs) (y ∷ ys) a b long hx hy e =
-    let f = flat_map (cell_text P) xs in
-    let g = flat_map (cell_text P) ys in
-    let one = cell_one P x y (f ++ a) (g ++ b) (hx 0 x (omega arith)) (hy 0 y (omega arith)) (sym (append_assoc (cell_text P x) f a) ∙ e ∙ append_assoc (cell_text P y) g b) in
-    let more = cells_one P xs ys a b (omega (arith, long)) (λ k d less. hx (suc k) d (omega (arith, less))) (λ k d less. hy (suc k) d (omega (arith, less))) one.1 in
-    (ap (λ (z : Symbol). z ∷ xs) one.0 ∙ ap (λ zs. y ∷ zs) more.0, more.1)
-
-row_front : (P : Instance) (s : List Symbol) (k : ℕ) (a : List ℕ) → week_row P s k ++ a ≡ week_top k ++ (flat_map (cell_text P) (week_at P s k) ++ (week_end P (week_at P s k) ++ a))
-unfolding week_row cells_text
-row_front P s k a = simp append_assoc
-
--- two weeks of the same length
-pub record AreAlike (v w : List Symbol) : Type 0 where
-  pub long : length v ≡ length w
-  pub first : All HasDigit v
-  pub second : All HasDigit w
-
-row_one : (P : Instance) (s t : List Symbol) (k : ℕ) (a b : List ℕ) → AreAlike (week_at P s k) (week_at P t k) → week_row P s k ++ a ≡ week_row P t k ++ b → (week_at P s k ≡ week_at P t k) × (a ≡ b)
-row_one P s t k a b alike e =
-    let behind = append_cancel_left (week_top k) _ _ (sym (row_front P s k a) ∙ e ∙ row_front P t k b) in
-    let cells = cells_one P (week_at P s k) (week_at P t k) (week_end P (week_at P s k) ++ a) (week_end P (week_at P t k) ++ b) alike.long alike.first alike.second behind in
-    (cells.0, append_cancel_left (week_end P (week_at P s k)) a b (cells.1 ∙ ap (λ w. week_end P w ++ b) (sym cells.0)))
-
-rows_one : (P : Instance) (s t : List Symbol) (from n : ℕ) (a b : List ℕ) → ((k : ℕ) → AreAlike (week_at P s k) (week_at P t k)) → flat_map (week_row P s) (range_with_len from n) ++ a ≡ flat_map (week_row P t) (range_with_len from n) ++ b → (k : ℕ) → k < n → week_at P s (from + k) ≡ week_at P t (from + k)
-rows_one P s t from zero a b alike e k less = absurd (omega (arith, less))
-rows_one P s t from (suc n) a b alike e zero less =
-    let f = flat_map (week_row P s) (range_with_len (from + 1) n) in
-    let g = flat_map (week_row P t) (range_with_len (from + 1) n) in
-    let one = row_one P s t from (f ++ a) (g ++ b) (alike from) (sym (append_assoc (week_row P s from) f a) ∙ e ∙ append_assoc (week_row P t from) g b) in
+-- what two functions give of the numbers of a range
+each_same : (f g : ℕ → List (Option Symbol)) (from n : ℕ) → map f (range_with_len from n) ≡ map g (range_with_len from n) → (k : ℕ) → k < n → f (from + k) ≡ g (from + k)
+each_same f g from zero e k less = absurd (omega (arith, less))
+each_same f g from (suc n) e zero less =
+    let first : f from ≡ g from = cc in
     let here : from ≡ from + zero = omega arith in
-    subst (λ (j : ℕ). week_at P s j ≡ week_at P t j) here one.0
-rows_one P s t from (suc n) a b alike e (suc k) less =
-    let f = flat_map (week_row P s) (range_with_len (from + 1) n) in
-    let g = flat_map (week_row P t) (range_with_len (from + 1) n) in
-    let one = row_one P s t from (f ++ a) (g ++ b) (alike from) (sym (append_assoc (week_row P s from) f a) ∙ e ∙ append_assoc (week_row P t from) g b) in
+    subst (λ j. f j ≡ g j) here first
+each_same f g from (suc n) e (suc k) less =
+    let others : map f (range_with_len (from + 1) n) ≡ map g (range_with_len (from + 1) n) = cc in
     let there : from + 1 + k ≡ from + suc k = omega arith in
-    subst (λ (j : ℕ). week_at P s j ≡ week_at P t j) there (rows_one P s t (from + 1) n a b alike one.1 k (omega (arith, less)))
+    subst (λ j. f j ≡ g j) there (each_same f g (from + 1) n others k (omega (arith, less)))
+
+symbols_same : (v w : List Symbol) → map Some v ≡ map Some w → v ≡ w
+symbols_same [] [] e = refl
+symbols_same [] (y ∷ w) e = absurd (cc)
+symbols_same (x ∷ v) [] e = absurd (cc)
+symbols_same (x ∷ v) (y ∷ w) e =
+    let first : x ≡ y = cc in
+    let others : map Some v ≡ map Some w = cc in
+    ap (λ z. z ∷ v) first ∙ ap (λ u. y ∷ u) (symbols_same v w others)
 
 -- the weeks of a roster tell it
 no_cells : (s : List Symbol) → length s ≡ 0 → s ≡ []
@@ -107,32 +49,11 @@ weeks_tell d (suc n) s t ls lt each =
     drop_again : (k : ℕ) (u : List Symbol) → drop (k * d) (drop d u) ≡ drop (d + k * d) u
     drop_again k u = drop-drop (k * d) d u
 
--- two rosters of an instance have weeks alike
-digits : (P : Instance) (s : List Symbol) (k : ℕ) → KeepsLimits P → IsRoster P s → All HasDigit (week_at P s k)
-digits P s k limits roster i e less =
-    let known = All-take (IsSymbol P) P.days (drop (k * P.days) s) (All-drop (IsSymbol P) (k * P.days) s roster.symbols) i e less in
-    let few = limits.few_shifts in
-    omega (arith, known, few)
-
-alike : (P : Instance) (s t : List Symbol) (k : ℕ) → KeepsLimits P → IsRoster P s → IsRoster P t → AreAlike (week_at P s k) (week_at P t k)
-alike P s t k limits rs rt = record {
-  long =
-      length-take P.days (drop (k * P.days) s) ∙ ap (min P.days) (length-drop (k * P.days) s)
-      ∙ ap (λ n. min P.days (n - k * P.days)) (rs.long ∙ sym rt.long)
-      ∙ sym (length-take P.days (drop (k * P.days) t) ∙ ap (min P.days) (length-drop (k * P.days) t));
-  first = digits P s k limits rs;
-  second = digits P t k limits rt;
-}
-
-page_front : (P : Instance) (s : List Symbol) (rest : Option ℕ) → page_text P s rest ≡ page_head P ++ (roster_head P ++ (flat_map (week_row P s) (range_with_len 0 P.weeks) ++ (piece_text Pieces.TableEnd ++ page_rest P s rest)))
-unfolding page_text roster_table week_rows
-page_front P s rest = simp append_assoc
-
 pub pages_show_one_roster : PagesShowOneRoster
 pages_show_one_roster P s t text limits rs rt hs ht =
-    let whole = sym (page_front P s hs.rest) ∙ sym hs.is ∙ ht.is ∙ page_front P t ht.rest in
-    let behind = append_cancel_left (roster_head P) _ _ (append_cancel_left (page_head P) _ _ whole) in
-    let weeks = rows_one P s t 0 P.weeks _ _ (λ k. alike P s t k limits rs rt) behind in
+    let first = pages_are_read_back P s text limits rs hs in
+    let second = pages_are_read_back P t text limits rt ht in
+    let weeks = each_same (λ k. map Some (week_at P s k)) (λ k. map Some (week_at P t k)) 0 P.weeks (sym first.names ∙ second.names) in
     weeks_tell P.days P.weeks s t rs.long rt.long (λ k less.
     let here : 0 + k ≡ k = omega arith in
-    subst (λ (j : ℕ). week_at P s j ≡ week_at P t j) here (weeks k less))
+    symbols_same (week_at P s k) (week_at P t k) (subst (λ j. map Some (week_at P s j) ≡ map Some (week_at P t j)) here (weeks k less)))

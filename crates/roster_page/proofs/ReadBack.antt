@@ -1,15 +1,15 @@
 -- Names read back from their texts.
 use Rattle.std.proofs.Common.{◌≡◌, ℕ, zero, suc, ◌+◌, ◌-◌, ◌*◌, ◌/◌, ◌%◌, ◌<◌, ◌≤◌, List, [], ◌∷◌, ◌++◌, get_or, Bool, true, false, refl, ap, sym, ◌∙◌, arith}
-use Rattle.std.specs.Prelude.{All, nat_lt, ◌==◌, if◌then◌else◌}
+use Rattle.std.specs.Prelude.{◌&&◌, nat_lt, ◌==◌, if◌then◌else◌}
 use Rattle.std.proofs.Math.Nat.{div-add-mod}
 use Rattle.std.proofs.lemmas.Bool.{ltb-true, ltb-false, eqb-true}
-use Rattle.std.proofs.lemmas.Nat.{mod_below, div_below}
-use Rattle.roster_page.specs.Escaped.{escaped, escaped_within, first_text, plain_text, hex_text, entity_text, hex_digit, hex_value, is_special, is_unseen, front_bytes, unescaped_past}
+use Rattle.shown_names.specs.ShownNames.{character_len, hex_digit, hex_text, is_printable}
+use Rattle.roster_page.specs.Escaped.{escaped, escaped_within, first_text, plain_text, entity_text, hex_value, is_special, unescaped_past}
 use Rattle.roster_page.specs.Laws.{NamesAreReadBack}
 
 -- a digit of 16
-hex_read : (n : ℕ) → n < 16 → hex_value (hex_digit n) ≡ n
-hex_read n less =
+hex_read : (n : ℕ) → hex_value (hex_digit n) ≡ n
+hex_read n =
     elim (nat_lt n 10) as (λ (t : Bool). nat_lt n 10 ≡ t → hex_value (if t then 48 + n else 55 + n) ≡ n) [
       | true ↦ λ low. low_digit n (ltb-true n 10 low)
       | false ↦ λ high. high_digit n (ltb-false n 10 high)
@@ -29,11 +29,10 @@ hex_read n less =
           | false ↦ λ there. omega arith
         ] refl
 
-hex_back : (b : ℕ) (rest : List ℕ) → b < 256 → unescaped_past 0 (hex_text b ++ rest) ≡ b ∷ unescaped_past 0 rest
-unfolding hex_text
-hex_back b rest less =
-    let high : hex_value (hex_digit (b / 16)) ≡ b / 16 = hex_read (b / 16) (div_below b 16 16 (omega arith) (omega (arith, less))) in
-    let low : hex_value (hex_digit (b % 16)) ≡ b % 16 = hex_read (b % 16) (mod_below b 16 (omega arith)) in
+hex_back : (b : ℕ) (rest : List ℕ) → unescaped_past 0 (hex_text b ++ rest) ≡ b ∷ unescaped_past 0 rest
+hex_back b rest =
+    let high : hex_value (hex_digit (b / 16)) ≡ b / 16 = hex_read (b / 16) in
+    let low : hex_value (hex_digit (b % 16)) ≡ b % 16 = hex_read (b % 16) in
     let whole : b / 16 * 16 + b % 16 ≡ b = omega (arith, div-add-mod b 16) in
     ap (λ (h : ℕ). (h * 16 + hex_value (hex_digit (b % 16))) ∷ unescaped_past 0 rest) high
     ∙ ap (λ (l : ℕ). (b / 16 * 16 + l) ∷ unescaped_past 0 rest) low
@@ -68,25 +67,22 @@ plain_back b rest =
       | false ↦ λ plain. itself_back b rest plain
     ] refl
 
-first_back : (b bytes : ℕ) (rest : List ℕ) → b < 256 → unescaped_past 0 (first_text b bytes ++ rest) ≡ b ∷ unescaped_past 0 rest
+first_back : (b bytes : ℕ) (rest : List ℕ) → unescaped_past 0 (first_text b bytes ++ rest) ≡ b ∷ unescaped_past 0 rest
 unfolding first_text
-first_back b bytes rest less =
-    elim (is_unseen b bytes) as (λ (t : Bool). unescaped_past 0 ((if t then hex_text b else plain_text b) ++ rest) ≡ b ∷ unescaped_past 0 rest) [
-      | true ↦ hex_back b rest less
-      | false ↦ plain_back b rest
+first_back b bytes rest =
+    elim (nat_lt 0 bytes && is_printable b) as (λ (t : Bool). unescaped_past 0 ((if t then plain_text b else hex_text b) ++ rest) ≡ b ∷ unescaped_past 0 rest) [
+      | true ↦ plain_back b rest
+      | false ↦ hex_back b rest
     ]
 
-name_back : (within : ℕ) (name : List ℕ) → All (λ b. b < 256) name → unescaped_past 0 (escaped_within within name) ≡ name
-name_back zero [] small = refl
-name_back (suc k) [] small = refl
-name_back zero (b ∷ bs) small =
-    let n = front_bytes (b ∷ bs) in
-    first_back b n (escaped_within (n - 1) bs) (small 0 b (omega arith))
-    ∙ ap (λ rest. b ∷ rest) (name_back (n - 1) bs (λ k d less. small (suc k) d (omega (arith, less))))
-name_back (suc k) (b ∷ bs) small =
-    plain_back b (escaped_within k bs)
-    ∙ ap (λ rest. b ∷ rest) (name_back k bs (λ i d less. small (suc i) d (omega (arith, less))))
+name_back : (within : ℕ) (name : List ℕ) → unescaped_past 0 (escaped_within within name) ≡ name
+name_back zero [] = refl
+name_back (suc k) [] = refl
+name_back zero (b ∷ bs) =
+    let n = character_len (b ∷ bs) in
+    first_back b n (escaped_within (n - 1) bs) ∙ ap (λ rest. b ∷ rest) (name_back (n - 1) bs)
+name_back (suc k) (b ∷ bs) = plain_back b (escaped_within k bs) ∙ ap (λ rest. b ∷ rest) (name_back k bs)
 
 pub names_are_read_back : NamesAreReadBack
 unfolding escaped
-names_are_read_back name small = name_back 0 name small
+names_are_read_back name = name_back 0 name

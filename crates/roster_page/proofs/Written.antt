@@ -2,7 +2,8 @@
 use Rattle.std.proofs.Common.{◌≡◌, ℕ, zero, suc, ◌+◌, ◌-◌, ◌<◌, ◌≤◌, List, [], ◌∷◌, ◌++◌, length, get_or, drop, refl, ap, sym, ◌∙◌, arith, append_assoc, add-one}
 use Rattle.std.proofs.Math.Seq.{drop-cons}
 use Rattle.std.proofs.lemmas.List.{append-nil, drop_all}
-use Rattle.roster_page.specs.Escaped.{escaped_within, plain_text, first_text, front_bytes}
+use Rattle.shown_names.specs.ShownNames.{character_len}
+use Rattle.roster_page.specs.Escaped.{escaped_within, plain_text, first_text}
 
 -- the bytes from a place on: the one there, and those behind it
 from_place : (xs : List ℕ) (i d : ℕ) → i < length xs → drop i xs ≡ get_or xs i d ∷ drop (i + 1) xs
@@ -20,12 +21,12 @@ within_put name i d (suc k) old new less some step =
     ∙ ap (λ bs. old ++ escaped_within (suc k) bs) (sym (from_place name i d less))
 
 -- the first byte of a character
-pub first_put : (name : List ℕ) (i d bytes : ℕ) (old new : List ℕ) → i < length name → bytes ≡ front_bytes (drop i name) → new ≡ old ++ first_text (get_or name i d) bytes → new ++ escaped_within (bytes - 1) (drop (i + 1) name) ≡ old ++ escaped_within 0 (drop i name)
+pub first_put : (name : List ℕ) (i d bytes : ℕ) (old new : List ℕ) → i < length name → bytes ≡ character_len (drop i name) → new ≡ old ++ first_text (get_or name i d) bytes → new ++ escaped_within (bytes - 1) (drop (i + 1) name) ≡ old ++ escaped_within 0 (drop i name)
 first_put name i d bytes old new less is step =
     let b = get_or name i d in
     let here = from_place name i d less in
-    let n = front_bytes (b ∷ drop (i + 1) name) in
-    let same : bytes ≡ n = is ∙ ap front_bytes here in
+    let n = character_len (b ∷ drop (i + 1) name) in
+    let same : bytes ≡ n = is ∙ ap character_len here in
     ap (λ t. t ++ escaped_within (bytes - 1) (drop (i + 1) name)) step
     ∙ append_assoc old (first_text b bytes) (escaped_within (bytes - 1) (drop (i + 1) name))
     ∙ ap (λ m. old ++ (first_text b m ++ escaped_within (m - 1) (drop (i + 1) name))) same

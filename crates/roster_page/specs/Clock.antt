@@ -2,8 +2,8 @@
 use Rattle.std.specs.Prelude.{ℕ, ◌+◌, ◌/◌, ◌%◌, List, [], ◌∷◌, ◌++◌, ◌==◌, if◌then◌else◌}
 use Rattle.std.specs.Fmt.{decimal}
 use Rattle.made_problems.specs.Times.{day_minutes}
-use Rattle.roster_page.specs.PieceText.{piece_text}
-use Rattle.roster_page.specs.declared.pieces.Piece.TheVariants.{Later, Closed}
+use Rattle.roster_page.specs.Fixed.{fixed}
+use Rattle.roster_page.specs.declared.pieces.TheConstants.{CLOSED, LATER}
 
 -- a number below 100, in two digits
 unfoldable pub two_digits : ℕ → List ℕ
@@ -19,7 +19,7 @@ clock_text minutes = two_digits (minutes / 60) ++ 58 ∷ two_digits (minutes % 6
 
 -- how many days later, where it isn't the same day
 unfoldable pub later_text : ℕ → List ℕ
-later_text days = if days == 0 then [] else piece_text Later ++ decimal days ++ piece_text Closed
+later_text days = if days == 0 then [] else fixed LATER.now ++ decimal days ++ fixed CLOSED.now
 
 -- a number of minutes after midnight: the time of day, and how many days later
 unfoldable pub moment_text : ℕ → List ℕ

@@ -12,22 +12,22 @@ use Rattle.roster_print.specs.RosterText.{week_at}
 use Rattle.refutation_terms.specs.FreeWeekends.{free_weekends, is_off_at}
 use Rattle.made_problems.specs.Rested.{shift_at}
 use Rattle.made_problems.specs.Times.{start_of, end_of}
+use Rattle.roster_page.specs.Fixed.{fixed}
 use Rattle.roster_page.specs.Escaped.{escaped}
 use Rattle.roster_page.specs.Clock.{hours_text, moment_text}
 use Rattle.roster_page.specs.Hours.{minutes_of, minutes_in}
 use Rattle.roster_page.specs.LeastRest.{IsLeastRest}
-use Rattle.roster_page.specs.PieceText.{piece_text}
-use Rattle.roster_page.specs.declared.pieces.Piece.TheVariants as Pieces
+use Rattle.roster_page.specs.declared.pieces.TheConstants.{AFTER_STYLE, AFTER_TITLE, AND_THEN, BLOCKS_TOP, BODY_TOP, CELL_END, CELL_TOP, CLASS_END, COLON, DAY_HEAD, DAY_OFF, DEMAND_END, DEMAND_TOP, END, FREE, HEAD, HEAD_END, HOURS_HEAD, LAST_CELL, LEAST_REST_ITEM, LEGEND_TOP, NEVER, NEXT_CELL, NO_SHIFT, OFF_TOP, OF_WORD, OPENED, PLAIN_CELL, ROSTER_TOP, ROW_END, RULES_END, RULES_TOP, RULE_END, SHIFT_TOP, SHORT_END, SHORT_TOP, STYLE_IN_THE_DARK, STYLE_OF_COLOURS, STYLE_OF_TABLES, STYLE_OF_TEXT, STYLE_ON_PAPER, TABLE_END, THEN, TO_WORD, WEEKENDS_ITEM, WEEKEND_HEAD, WEEKS_WORD, WEEK_TOP, WEEK_WORD, WORK_TOP}
 
 -- a number of weeks, in words
 unfoldable pub weeks_words : ℕ → List ℕ
-weeks_words n = decimal n ++ (if n == 1 then piece_text Pieces.WeekWord else piece_text Pieces.WeeksWord)
+weeks_words n = decimal n ++ (if n == 1 then fixed WEEK_WORD.now else fixed WEEKS_WORD.now)
 
 -- a range of numbers, in words
 unfoldable pub range_words : Bounds → List ℕ
 range_words range =
     if range.least == range.greatest then decimal range.least
-    else decimal range.least ++ piece_text Pieces.ToWord ++ decimal range.greatest
+    else decimal range.least ++ fixed TO_WORD.now ++ decimal range.greatest
 
 -- the name of a symbol
 unfoldable pub name_text : Instance → Symbol → List ℕ
@@ -36,52 +36,50 @@ name_text P x = escaped (name_of P x)
 -- the table of the roster
 
 unfoldable pub day_head : ℕ → List ℕ
-day_head j = piece_text Pieces.DayHead ++ decimal (j + 1) ++ piece_text Pieces.HeadEnd
+day_head j = fixed DAY_HEAD.now ++ decimal (j + 1) ++ fixed HEAD_END.now
 
 -- a head for each day
 unfoldable pub day_heads : Instance → List ℕ
 day_heads P = flat_map day_head (range_with_len 0 P.days)
 
 unfoldable pub weekend_head : Instance → List ℕ
-weekend_head P = if P.days == DAYS_OF_WEEK then piece_text Pieces.WeekendHead else []
+weekend_head P = if P.days == DAYS_OF_WEEK then fixed WEEKEND_HEAD.now else []
 
 unfoldable pub roster_head : Instance → List ℕ
 roster_head P =
-    piece_text Pieces.RosterTop ++ day_heads P ++ piece_text Pieces.HoursHead ++ weekend_head P
-    ++ piece_text Pieces.BodyTop
+    fixed ROSTER_TOP.now ++ day_heads P ++ fixed HOURS_HEAD.now ++ weekend_head P ++ fixed BODY_TOP.now
 
 -- the cell of a symbol: its number, which gives it its colour, and its name
 unfoldable pub cell_text : Instance → Symbol → List ℕ
 cell_text P x =
-    piece_text Pieces.CellTop ++ decimal x.number ++ piece_text Pieces.ClassEnd ++ name_text P x
-    ++ piece_text Pieces.CellEnd
+    fixed CELL_TOP.now ++ decimal x.number ++ fixed CLASS_END.now ++ name_text P x ++ fixed CELL_END.now
 
 -- the cells of a week
 unfoldable pub cells_text : Instance → List Symbol → List ℕ
 cells_text P week = flat_map (cell_text P) week
 
 unfoldable pub hours_cell : Instance → List Symbol → List ℕ
-hours_cell P week = piece_text Pieces.PlainCell ++ hours_text (minutes_in P week) ++ piece_text Pieces.CellEnd
+hours_cell P week = fixed PLAIN_CELL.now ++ hours_text (minutes_in P week) ++ fixed CELL_END.now
 
 -- both days of the weekend of a week are off
 abbrev pub is_free : List Symbol → Bool
 is_free week = is_off_at week SATURDAY && is_off_at week SUNDAY
 
 unfoldable pub free_text : List Symbol → List ℕ
-free_text week = if is_free week then piece_text Pieces.Free else []
+free_text week = if is_free week then fixed FREE.now else []
 
 -- whether the weekend is free, where the week has seven days
 unfoldable pub weekend_cell : Instance → List Symbol → List ℕ
 weekend_cell P week =
-    if P.days == DAYS_OF_WEEK then piece_text Pieces.PlainCell ++ free_text week ++ piece_text Pieces.CellEnd else []
+    if P.days == DAYS_OF_WEEK then fixed PLAIN_CELL.now ++ free_text week ++ fixed CELL_END.now else []
 
 -- what is behind the cells of a week
 unfoldable pub week_end : Instance → List Symbol → List ℕ
-week_end P week = hours_cell P week ++ weekend_cell P week ++ piece_text Pieces.RowEnd
+week_end P week = hours_cell P week ++ weekend_cell P week ++ fixed ROW_END.now
 
 -- the front of the row of a week, where weeks count from 0
 unfoldable pub week_top : ℕ → List ℕ
-week_top k = piece_text Pieces.WeekTop ++ decimal (k + 1) ++ piece_text Pieces.HeadEnd
+week_top k = fixed WEEK_TOP.now ++ decimal (k + 1) ++ fixed HEAD_END.now
 
 -- the row of a week
 unfoldable pub week_row : Instance → List Symbol → ℕ → List ℕ
@@ -92,41 +90,40 @@ unfoldable pub week_rows : Instance → List Symbol → List ℕ
 week_rows P s = flat_map (week_row P s) (range_with_len 0 P.weeks)
 
 unfoldable pub roster_table : Instance → List Symbol → List ℕ
-roster_table P s = roster_head P ++ week_rows P s ++ piece_text Pieces.TableEnd
+roster_table P s = roster_head P ++ week_rows P s ++ fixed TABLE_END.now
 
 -- what is to be known in short
 
 unfoldable pub rest_text : Option ℕ → List ℕ
-rest_text None = piece_text Pieces.NoShift
+rest_text None = fixed NO_SHIFT.now
 rest_text (Some minutes) = hours_text minutes
 
 -- the free weekends, where the week has seven days
 unfoldable pub weekends_item : Instance → List Symbol → List ℕ
 weekends_item P s =
     if P.days == DAYS_OF_WEEK
-    then piece_text Pieces.WeekendsItem ++ decimal (free_weekends s) ++ piece_text Pieces.OfWord ++ decimal P.weeks
+    then fixed WEEKENDS_ITEM.now ++ decimal (free_weekends s) ++ fixed OF_WORD.now ++ decimal P.weeks
     else []
 
 -- the mean of the hours of a week, in whole minutes, the least rest, and the free weekends
 unfoldable pub short_text : Instance → List Symbol → Option ℕ → List ℕ
 short_text P s rest =
-    piece_text Pieces.ShortTop ++ hours_text (minutes_in P s / P.weeks) ++ piece_text Pieces.LeastRestItem
-    ++ rest_text rest ++ weekends_item P s ++ piece_text Pieces.ShortEnd
+    fixed SHORT_TOP.now ++ hours_text (minutes_in P s / P.weeks) ++ fixed LEAST_REST_ITEM.now
+    ++ rest_text rest ++ weekends_item P s ++ fixed SHORT_END.now
 
 -- the legend
 
 -- the front of a row that a shift heads, where shifts count from 0
 unfoldable pub shift_head : Instance → ℕ → List ℕ
 shift_head P i =
-    piece_text Pieces.ShiftTop ++ decimal (i + 1) ++ piece_text Pieces.ClassEnd ++ name_text P (shift_at i)
-    ++ piece_text Pieces.HeadEnd
+    fixed SHIFT_TOP.now ++ decimal (i + 1) ++ fixed CLASS_END.now ++ name_text P (shift_at i) ++ fixed HEAD_END.now
 
 -- the start, the end and the hours of a shift
 unfoldable pub shift_times : Instance → ℕ → List ℕ
 shift_times P i =
-    piece_text Pieces.PlainCell ++ moment_text (start_of P (shift_at i)) ++ piece_text Pieces.NextCell
-    ++ moment_text (end_of P (shift_at i)) ++ piece_text Pieces.NextCell ++ hours_text (minutes_of P (shift_at i))
-    ++ piece_text Pieces.LastCell
+    fixed PLAIN_CELL.now ++ moment_text (start_of P (shift_at i)) ++ fixed NEXT_CELL.now
+    ++ moment_text (end_of P (shift_at i)) ++ fixed NEXT_CELL.now ++ hours_text (minutes_of P (shift_at i))
+    ++ fixed LAST_CELL.now
 
 unfoldable pub shift_row : Instance → ℕ → List ℕ
 shift_row P i = shift_head P i ++ shift_times P i
@@ -135,7 +132,7 @@ unfoldable pub shift_rows : Instance → List ℕ
 shift_rows P = flat_map (shift_row P) (range_with_len 0 (shift_count P))
 
 unfoldable pub legend_table : Instance → List ℕ
-legend_table P = piece_text Pieces.LegendTop ++ shift_rows P ++ piece_text Pieces.TableEnd
+legend_table P = fixed LEGEND_TOP.now ++ shift_rows P ++ fixed TABLE_END.now
 
 -- the demand
 
@@ -146,81 +143,79 @@ count_at P s i j = weeks_with P s (i + 1) (j + 1)
 -- how many have a shift on a day, and how many are demanded
 unfoldable pub demand_cell : Instance → List Symbol → ℕ → ℕ → List ℕ
 demand_cell P s i j =
-    piece_text Pieces.PlainCell ++ decimal (count_at P s i j) ++ piece_text Pieces.Opened
-    ++ range_words (shift_demand P (i + 1) (j + 1)) ++ piece_text Pieces.DemandEnd
+    fixed PLAIN_CELL.now ++ decimal (count_at P s i j) ++ fixed OPENED.now
+    ++ range_words (shift_demand P (i + 1) (j + 1)) ++ fixed DEMAND_END.now
 
 unfoldable pub demand_cells : Instance → List Symbol → ℕ → List ℕ
 demand_cells P s i = flat_map (demand_cell P s i) (range_with_len 0 P.days)
 
 unfoldable pub demand_row : Instance → List Symbol → ℕ → List ℕ
-demand_row P s i = shift_head P i ++ demand_cells P s i ++ piece_text Pieces.RowEnd
+demand_row P s i = shift_head P i ++ demand_cells P s i ++ fixed ROW_END.now
 
 unfoldable pub demand_rows : Instance → List Symbol → List ℕ
 demand_rows P s = flat_map (demand_row P s) (range_with_len 0 (shift_count P))
 
 unfoldable pub demand_table : Instance → List Symbol → List ℕ
 demand_table P s =
-    piece_text Pieces.DemandTop ++ day_heads P ++ piece_text Pieces.BodyTop ++ demand_rows P s
-    ++ piece_text Pieces.TableEnd
+    fixed DEMAND_TOP.now ++ day_heads P ++ fixed BODY_TOP.now ++ demand_rows P s ++ fixed TABLE_END.now
 
 -- the rules, in words
 
 unfoldable pub block_rule : Instance → ℕ → List ℕ
 block_rule P i =
-    piece_text Pieces.BlocksTop ++ name_text P (shift_at i) ++ piece_text Pieces.Colon
-    ++ range_words (bounds P (Classes.Shift (shift_at i))) ++ piece_text Pieces.RuleEnd
+    fixed BLOCKS_TOP.now ++ name_text P (shift_at i) ++ fixed COLON.now
+    ++ range_words (bounds P (Classes.Shift (shift_at i))) ++ fixed RULE_END.now
 
 unfoldable pub block_rules : Instance → List ℕ
 block_rules P = flat_map (block_rule P) (range_with_len 0 (shift_count P))
 
 unfoldable pub off_rule : Instance → List ℕ
-off_rule P = piece_text Pieces.OffTop ++ range_words P.off ++ piece_text Pieces.RuleEnd
+off_rule P = fixed OFF_TOP.now ++ range_words P.off ++ fixed RULE_END.now
 
 unfoldable pub work_rule : Instance → List ℕ
-work_rule P = piece_text Pieces.WorkTop ++ range_words P.work ++ piece_text Pieces.RuleEnd
+work_rule P = fixed WORK_TOP.now ++ range_words P.work ++ fixed RULE_END.now
 
 -- a symbol in a sentence
 unfoldable pub symbol_words : Instance → Symbol → List ℕ
-symbol_words P x = if x.number == 0 then piece_text Pieces.DayOff else name_text P x
+symbol_words P x = if x.number == 0 then fixed DAY_OFF.now else name_text P x
 
 unfoldable pub pair_rule : Instance → Symbol × Symbol → List ℕ
 pair_rule P x =
-    piece_text Pieces.Never ++ symbol_words P x.0 ++ piece_text Pieces.AndThen ++ symbol_words P x.1
-    ++ piece_text Pieces.RuleEnd
+    fixed NEVER.now ++ symbol_words P x.0 ++ fixed AND_THEN.now ++ symbol_words P x.1 ++ fixed RULE_END.now
 
 unfoldable pub pair_rules : Instance → List ℕ
 pair_rules P = flat_map (pair_rule P) P.pairs
 
 unfoldable pub triple_rule : Instance → Symbol × Symbol × Symbol → List ℕ
 triple_rule P x =
-    piece_text Pieces.Never ++ symbol_words P x.0 ++ piece_text Pieces.Then ++ symbol_words P x.1
-    ++ piece_text Pieces.AndThen ++ symbol_words P x.2 ++ piece_text Pieces.RuleEnd
+    fixed NEVER.now ++ symbol_words P x.0 ++ fixed THEN.now ++ symbol_words P x.1
+    ++ fixed AND_THEN.now ++ symbol_words P x.2 ++ fixed RULE_END.now
 
 unfoldable pub triple_rules : Instance → List ℕ
 triple_rules P = flat_map (triple_rule P) P.triples
 
 unfoldable pub rules_list : Instance → List ℕ
 rules_list P =
-    piece_text Pieces.RulesTop ++ block_rules P ++ off_rule P ++ work_rule P ++ pair_rules P ++ triple_rules P
-    ++ piece_text Pieces.RulesEnd
+    fixed RULES_TOP.now ++ block_rules P ++ off_rule P ++ work_rule P ++ pair_rules P ++ triple_rules P
+    ++ fixed RULES_END.now
 
 -- the page
 
 unfoldable pub style_text : List ℕ
 style_text =
-    piece_text Pieces.StyleOfText ++ piece_text Pieces.StyleOfTables ++ piece_text Pieces.StyleOfColours
-    ++ piece_text Pieces.StyleInTheDark ++ piece_text Pieces.StyleOnPaper
+    fixed STYLE_OF_TEXT.now ++ fixed STYLE_OF_TABLES.now ++ fixed STYLE_OF_COLOURS.now
+    ++ fixed STYLE_IN_THE_DARK.now ++ fixed STYLE_ON_PAPER.now
 
 -- up to the heading
 unfoldable pub page_head : Instance → List ℕ
 page_head P =
-    piece_text Pieces.Head ++ weeks_words P.weeks ++ piece_text Pieces.AfterTitle ++ style_text
-    ++ piece_text Pieces.AfterStyle ++ weeks_words P.weeks
+    fixed HEAD.now ++ weeks_words P.weeks ++ fixed AFTER_TITLE.now ++ style_text
+    ++ fixed AFTER_STYLE.now ++ weeks_words P.weeks
 
 -- behind the table of the roster
 unfoldable pub page_rest : Instance → List Symbol → Option ℕ → List ℕ
 page_rest P s rest =
-    short_text P s rest ++ legend_table P ++ demand_table P s ++ rules_list P ++ piece_text Pieces.End
+    short_text P s rest ++ legend_table P ++ demand_table P s ++ rules_list P ++ fixed END.now
 
 unfoldable pub page_text : Instance → List Symbol → Option ℕ → List ℕ
 page_text P s rest = page_head P ++ roster_table P s ++ page_rest P s rest

@@ -3,7 +3,7 @@ ghost use Rattle.std.specs.Prelude.{◌≡◌, ◌++◌, ◌<◌, OnOk};
 ghost use Rattle.made_problems.specs.Times.{day_minutes};
 ghost use Rattle.roster_page.specs.Clock.{two_digits, hours_text, clock_text, later_text, moment_text};
 
-use crate::pieces::{Piece, put};
+use crate::pieces::{CLOSED, LATER, put};
 use made_problems::DAY_MINUTES;
 use rwsp_text::put_number;
 use std::alloc::AllocError;
@@ -48,9 +48,9 @@ fn put_later(out: &mut Vec<u8>, days: u32) -> Result<(), AllocError>
     if days == 0 {
         return Ok(());
     }
-    put(out, Piece::Later)?;
+    put(out, LATER)?;
     put_number(out, u64::from(days))?;
-    put(out, Piece::Closed)
+    put(out, CLOSED)
 }
 
 /// Appends a number of minutes after midnight: the time of day, and how many days later.

@@ -4,7 +4,9 @@ ghost use Rattle.rwsp_terms.specs.Instance.{shift_count, shift_demand};
 ghost use Rattle.rwsp_terms.specs.Roster.{IsRoster};
 ghost use Rattle.roster_page.specs.PageText.{count_at, demand_cell, demand_cells, demand_row, demand_rows, demand_table};
 
-use crate::pieces::{Piece, put};
+use crate::pieces::{
+    BODY_TOP, DEMAND_END, DEMAND_TOP, OPENED, PLAIN_CELL, ROW_END, TABLE_END, put,
+};
 use crate::words::{put_day_heads, put_range, put_shift_head, shift_at};
 use rwsp_model::{Problem, weeks_with};
 use rwsp_terms::{Bounds, Symbol};
@@ -53,11 +55,11 @@ fn put_demand_cell(
     requires day { day < problem.now.days }
     ensures { OnOk result (out.new.items ≡ out.old.items ++ demand_cell problem.now cells.now place day) }
 {
-    put(out, Piece::PlainCell)?;
+    put(out, PLAIN_CELL)?;
     put_number(out, u64::from(count_at(problem, cells, place, day)))?;
-    put(out, Piece::Opened)?;
+    put(out, OPENED)?;
     put_range(out, demand_of(problem, place, day))?;
-    put(out, Piece::DemandEnd)
+    put(out, DEMAND_END)
 }
 
 // Appends the cells of a shift.
@@ -92,7 +94,7 @@ fn put_demand_row(
 {
     put_shift_head(out, problem, place)?;
     put_demand_cells(out, problem, cells, place)?;
-    put(out, Piece::RowEnd)
+    put(out, ROW_END)
 }
 
 // Appends a row for each shift.
@@ -117,9 +119,9 @@ pub fn put_demand_table(
     requires { IsRoster problem.now cells.now }
     ensures { OnOk result (out.new.items ≡ out.old.items ++ demand_table problem.now cells.now) }
 {
-    put(out, Piece::DemandTop)?;
+    put(out, DEMAND_TOP)?;
     put_day_heads(out, problem)?;
-    put(out, Piece::BodyTop)?;
+    put(out, BODY_TOP)?;
     put_demand_rows(out, problem, cells)?;
-    put(out, Piece::TableEnd)
+    put(out, TABLE_END)
 }

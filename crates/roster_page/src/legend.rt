@@ -4,7 +4,7 @@ ghost use Rattle.rwsp_terms.specs.Instance.{shift_count};
 ghost use Rattle.roster_page.specs.PageText.{shift_times, shift_row, shift_rows, legend_table};
 
 use crate::clock::{put_hours, put_moment};
-use crate::pieces::{Piece, put};
+use crate::pieces::{LAST_CELL, LEGEND_TOP, NEXT_CELL, PLAIN_CELL, TABLE_END, put};
 use crate::table::minutes_of;
 use crate::words::{put_shift_head, shift_at};
 use made_problems::{length_of, start_of};
@@ -21,13 +21,13 @@ fn put_shift_times(out: &mut Vec<u8>, problem: &Problem, place: u8) -> Result<()
     let shift = shift_at(place);
     let start = start_of(problem, shift);
     let end = start + length_of(problem, shift);
-    put(out, Piece::PlainCell)?;
+    put(out, PLAIN_CELL)?;
     put_moment(out, start)?;
-    put(out, Piece::NextCell)?;
+    put(out, NEXT_CELL)?;
     put_moment(out, end)?;
-    put(out, Piece::NextCell)?;
+    put(out, NEXT_CELL)?;
     put_hours(out, minutes_of(problem, shift))?;
-    put(out, Piece::LastCell)
+    put(out, LAST_CELL)
 }
 
 // Appends the row of a shift.
@@ -56,7 +56,7 @@ fn put_shift_rows(out: &mut Vec<u8>, problem: &Problem) -> Result<(), AllocError
 pub fn put_legend(out: &mut Vec<u8>, problem: &Problem) -> Result<(), AllocError>
     ensures { OnOk result (out.new.items ≡ out.old.items ++ legend_table problem.now) }
 {
-    put(out, Piece::LegendTop)?;
+    put(out, LEGEND_TOP)?;
     put_shift_rows(out, problem)?;
-    put(out, Piece::TableEnd)
+    put(out, TABLE_END)
 }

@@ -14,5 +14,5 @@ mod short;
 mod table;
 mod words;
 
-pub use laws::{names_are_read_back, pages_show_one_roster};
+pub use laws::{names_are_read_back, pages_are_read_back, pages_show_one_roster};
 pub use page::page_text;

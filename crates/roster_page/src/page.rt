@@ -6,7 +6,10 @@ ghost use Rattle.roster_page.specs.PageText.{style_text, page_head, page_rest, p
 use crate::demand::put_demand_table;
 use crate::least_rest::least_rest;
 use crate::legend::put_legend;
-use crate::pieces::{Piece, put};
+use crate::pieces::{
+    AFTER_STYLE, AFTER_TITLE, END, HEAD, STYLE_IN_THE_DARK, STYLE_OF_COLOURS, STYLE_OF_TABLES,
+    STYLE_OF_TEXT, STYLE_ON_PAPER, put,
+};
 use crate::rules::put_rules;
 use crate::short::put_short;
 use crate::table::put_roster_table;
@@ -18,11 +21,11 @@ use std::alloc::{AllocError, Global};
 fn put_style(out: &mut Vec<u8>) -> Result<(), AllocError>
     ensures { OnOk result (out.new.items ≡ out.old.items ++ style_text) }
 {
-    put(out, Piece::StyleOfText)?;
-    put(out, Piece::StyleOfTables)?;
-    put(out, Piece::StyleOfColours)?;
-    put(out, Piece::StyleInTheDark)?;
-    put(out, Piece::StyleOnPaper)
+    put(out, STYLE_OF_TEXT)?;
+    put(out, STYLE_OF_TABLES)?;
+    put(out, STYLE_OF_COLOURS)?;
+    put(out, STYLE_IN_THE_DARK)?;
+    put(out, STYLE_ON_PAPER)
 }
 
 // Appends what is in front of the table.
@@ -30,11 +33,11 @@ fn put_style(out: &mut Vec<u8>) -> Result<(), AllocError>
 fn put_head(out: &mut Vec<u8>, problem: &Problem) -> Result<(), AllocError>
     ensures { OnOk result (out.new.items ≡ out.old.items ++ page_head problem.now) }
 {
-    put(out, Piece::Head)?;
+    put(out, HEAD)?;
     put_weeks(out, problem.weeks())?;
-    put(out, Piece::AfterTitle)?;
+    put(out, AFTER_TITLE)?;
     put_style(out)?;
-    put(out, Piece::AfterStyle)?;
+    put(out, AFTER_STYLE)?;
     put_weeks(out, problem.weeks())
 }
 
@@ -53,7 +56,7 @@ fn put_page_rest(
     put_legend(out, problem)?;
     put_demand_table(out, problem, roster.cells())?;
     put_rules(out, problem)?;
-    put(out, Piece::End)
+    put(out, END)
 }
 
 /// The page of a roster, in HTML: one file, with nothing from elsewhere. The cost grows with the cells times the

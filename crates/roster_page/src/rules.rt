@@ -4,7 +4,10 @@ ghost use Rattle.rwsp_terms.specs.Instance.{shift_count, IsSymbol};
 ghost use Rattle.rwsp_model.specs.Sequences.{IsPairOf, IsTripleOf};
 ghost use Rattle.roster_page.specs.PageText.{block_rule, block_rules, off_rule, work_rule, symbol_words, pair_rule, pair_rules, triple_rule, triple_rules, rules_list};
 
-use crate::pieces::{Piece, put};
+use crate::pieces::{
+    AND_THEN, BLOCKS_TOP, COLON, DAY_OFF, NEVER, OFF_TOP, RULE_END, RULES_END, RULES_TOP, THEN,
+    WORK_TOP, put,
+};
 use crate::words::{put_name, put_range, shift_at};
 use rwsp_model::Problem;
 use rwsp_terms::{Class, Symbol};
@@ -18,11 +21,11 @@ fn put_block_rule(out: &mut Vec<u8>, problem: &Problem, place: u8) -> Result<(),
 {
     problem.prove_limits();
     let shift = shift_at(place);
-    put(out, Piece::BlocksTop)?;
+    put(out, BLOCKS_TOP)?;
     put_name(out, problem, shift)?;
-    put(out, Piece::Colon)?;
+    put(out, COLON)?;
     put_range(out, problem.bounds(Class::Shift(shift)))?;
-    put(out, Piece::RuleEnd)
+    put(out, RULE_END)
 }
 
 // Appends the rule of the blocks of each shift.
@@ -40,18 +43,18 @@ fn put_block_rules(out: &mut Vec<u8>, problem: &Problem) -> Result<(), AllocErro
 fn put_off_rule(out: &mut Vec<u8>, problem: &Problem) -> Result<(), AllocError>
     ensures { OnOk result (out.new.items ≡ out.old.items ++ off_rule problem.now) }
 {
-    put(out, Piece::OffTop)?;
+    put(out, OFF_TOP)?;
     put_range(out, problem.bounds(Class::Off))?;
-    put(out, Piece::RuleEnd)
+    put(out, RULE_END)
 }
 
 #[tactic(auto, unfolding(crate::specs::PageText::work_rule))]
 fn put_work_rule(out: &mut Vec<u8>, problem: &Problem) -> Result<(), AllocError>
     ensures { OnOk result (out.new.items ≡ out.old.items ++ work_rule problem.now) }
 {
-    put(out, Piece::WorkTop)?;
+    put(out, WORK_TOP)?;
     put_range(out, problem.bounds(Class::Work))?;
-    put(out, Piece::RuleEnd)
+    put(out, RULE_END)
 }
 
 // Appends a symbol as it stands in a sentence.
@@ -61,7 +64,7 @@ fn put_symbol(out: &mut Vec<u8>, problem: &Problem, symbol: Symbol) -> Result<()
     ensures { OnOk result (out.new.items ≡ out.old.items ++ symbol_words problem.now symbol) }
 {
     if symbol.number == 0 {
-        put(out, Piece::DayOff)
+        put(out, DAY_OFF)
     } else {
         put_name(out, problem, symbol)
     }
@@ -76,11 +79,11 @@ fn put_pair_rule(
     requires { IsPairOf problem.now pair }
     ensures { OnOk result (out.new.items ≡ out.old.items ++ pair_rule problem.now pair) }
 {
-    put(out, Piece::Never)?;
+    put(out, NEVER)?;
     put_symbol(out, problem, pair.0)?;
-    put(out, Piece::AndThen)?;
+    put(out, AND_THEN)?;
     put_symbol(out, problem, pair.1)?;
-    put(out, Piece::RuleEnd)
+    put(out, RULE_END)
 }
 
 // Appends the rule of each pair.
@@ -104,13 +107,13 @@ fn put_triple_rule(
     requires { IsTripleOf problem.now triple }
     ensures { OnOk result (out.new.items ≡ out.old.items ++ triple_rule problem.now triple) }
 {
-    put(out, Piece::Never)?;
+    put(out, NEVER)?;
     put_symbol(out, problem, triple.0)?;
-    put(out, Piece::Then)?;
+    put(out, THEN)?;
     put_symbol(out, problem, triple.1)?;
-    put(out, Piece::AndThen)?;
+    put(out, AND_THEN)?;
     put_symbol(out, problem, triple.2)?;
-    put(out, Piece::RuleEnd)
+    put(out, RULE_END)
 }
 
 // Appends the rule of each triple.
@@ -130,11 +133,11 @@ fn put_triple_rules(out: &mut Vec<u8>, problem: &Problem) -> Result<(), AllocErr
 pub fn put_rules(out: &mut Vec<u8>, problem: &Problem) -> Result<(), AllocError>
     ensures { OnOk result (out.new.items ≡ out.old.items ++ rules_list problem.now) }
 {
-    put(out, Piece::RulesTop)?;
+    put(out, RULES_TOP)?;
     put_block_rules(out, problem)?;
     put_off_rule(out, problem)?;
     put_work_rule(out, problem)?;
     put_pair_rules(out, problem)?;
     put_triple_rules(out, problem)?;
-    put(out, Piece::RulesEnd)
+    put(out, RULES_END)
 }

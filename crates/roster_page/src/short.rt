@@ -4,7 +4,7 @@ ghost use Rattle.rwsp_terms.specs.Roster.{IsRoster};
 ghost use Rattle.roster_page.specs.PageText.{rest_text, weekends_item, short_text};
 
 use crate::clock::put_hours;
-use crate::pieces::{Piece, put};
+use crate::pieces::{LEAST_REST_ITEM, NO_SHIFT, OF_WORD, SHORT_END, SHORT_TOP, WEEKENDS_ITEM, put};
 use crate::table::minutes_in;
 use roster_checker::free_weekends;
 use rwsp_model::{Problem, Roster};
@@ -17,7 +17,7 @@ fn put_rest(out: &mut Vec<u8>, rest: Option<u32>) -> Result<(), AllocError>
     ensures { OnOk result (out.new.items ≡ out.old.items ++ rest_text rest) }
 {
     match rest {
-        None => put(out, Piece::NoShift),
+        None => put(out, NO_SHIFT),
         Some(minutes) => put_hours(out, minutes),
     }
 }
@@ -31,9 +31,9 @@ fn put_weekends(out: &mut Vec<u8>, problem: &Problem, roster: &Roster) -> Result
     if problem.days() != DAYS_OF_WEEK {
         return Ok(());
     }
-    put(out, Piece::WeekendsItem)?;
+    put(out, WEEKENDS_ITEM)?;
     put_number(out, u64::from(free_weekends(problem, roster)))?;
-    put(out, Piece::OfWord)?;
+    put(out, OF_WORD)?;
     put_number(out, u64::from(problem.weeks()))
 }
 
@@ -50,10 +50,10 @@ pub fn put_short(
 {
     problem.prove_limits();
     let minutes = minutes_in(problem, roster.cells());
-    put(out, Piece::ShortTop)?;
+    put(out, SHORT_TOP)?;
     put_hours(out, minutes / problem.weeks())?;
-    put(out, Piece::LeastRestItem)?;
+    put(out, LEAST_REST_ITEM)?;
     put_rest(out, rest)?;
     put_weekends(out, problem, roster)?;
-    put(out, Piece::ShortEnd)
+    put(out, SHORT_END)
 }

@@ -8,7 +8,10 @@ ghost use Rattle.roster_page.specs.Hours.{minutes_of, minutes_in};
 ghost use Rattle.roster_page.specs.PageText.{weekend_head, roster_head, cell_text, cells_text, hours_cell, is_free, free_text, weekend_cell, week_top, week_end, week_row, week_rows, roster_table};
 
 use crate::clock::put_hours;
-use crate::pieces::{Piece, put};
+use crate::pieces::{
+    BODY_TOP, CELL_END, CELL_TOP, CLASS_END, FREE, HEAD_END, HOURS_HEAD, PLAIN_CELL, ROSTER_TOP,
+    ROW_END, TABLE_END, WEEK_TOP, WEEKEND_HEAD, put,
+};
 use crate::words::{put_day_heads, put_name};
 use rwsp_model::Problem;
 use rwsp_terms::Symbol;
@@ -21,7 +24,7 @@ fn put_weekend_head(out: &mut Vec<u8>, problem: &Problem) -> Result<(), AllocErr
     ensures { OnOk result (out.new.items ≡ out.old.items ++ weekend_head problem.now) }
 {
     if problem.days() == DAYS_OF_WEEK {
-        put(out, Piece::WeekendHead)?;
+        put(out, WEEKEND_HEAD)?;
     }
     Ok(())
 }
@@ -30,11 +33,11 @@ fn put_weekend_head(out: &mut Vec<u8>, problem: &Problem) -> Result<(), AllocErr
 fn put_roster_head(out: &mut Vec<u8>, problem: &Problem) -> Result<(), AllocError>
     ensures { OnOk result (out.new.items ≡ out.old.items ++ roster_head problem.now) }
 {
-    put(out, Piece::RosterTop)?;
+    put(out, ROSTER_TOP)?;
     put_day_heads(out, problem)?;
-    put(out, Piece::HoursHead)?;
+    put(out, HOURS_HEAD)?;
     put_weekend_head(out, problem)?;
-    put(out, Piece::BodyTop)
+    put(out, BODY_TOP)
 }
 
 // Appends the cell of a symbol.
@@ -43,11 +46,11 @@ fn put_cell(out: &mut Vec<u8>, problem: &Problem, symbol: Symbol) -> Result<(), 
     requires { IsSymbol problem.now symbol }
     ensures { OnOk result (out.new.items ≡ out.old.items ++ cell_text problem.now symbol) }
 {
-    put(out, Piece::CellTop)?;
+    put(out, CELL_TOP)?;
     put_number(out, u64::from(symbol.number))?;
-    put(out, Piece::ClassEnd)?;
+    put(out, CLASS_END)?;
     put_name(out, problem, symbol)?;
-    put(out, Piece::CellEnd)
+    put(out, CELL_END)
 }
 
 // Appends the cells of a week.
@@ -96,9 +99,9 @@ fn put_hours_cell(out: &mut Vec<u8>, problem: &Problem, week: &[Symbol]) -> Resu
     requires few { length week.now ≤ MOST_CELLS }
     ensures { OnOk result (out.new.items ≡ out.old.items ++ hours_cell problem.now week.now) }
 {
-    put(out, Piece::PlainCell)?;
+    put(out, PLAIN_CELL)?;
     put_hours(out, minutes_in(problem, week))?;
-    put(out, Piece::CellEnd)
+    put(out, CELL_END)
 }
 
 // Whether both days of the weekend of a week are off.
@@ -115,7 +118,7 @@ fn put_free(out: &mut Vec<u8>, week: &[Symbol]) -> Result<(), AllocError>
     ensures { OnOk result (out.new.items ≡ out.old.items ++ free_text week.now) }
 {
     if is_free(week) {
-        put(out, Piece::Free)?;
+        put(out, FREE)?;
     }
     Ok(())
 }
@@ -129,9 +132,9 @@ fn put_weekend_cell(out: &mut Vec<u8>, problem: &Problem, week: &[Symbol]) -> Re
     if problem.days() != DAYS_OF_WEEK {
         return Ok(());
     }
-    put(out, Piece::PlainCell)?;
+    put(out, PLAIN_CELL)?;
     put_free(out, week)?;
-    put(out, Piece::CellEnd)
+    put(out, CELL_END)
 }
 
 // Appends what is behind the cells of a week.
@@ -144,7 +147,7 @@ fn put_week_end(out: &mut Vec<u8>, problem: &Problem, week: &[Symbol]) -> Result
     problem.prove_limits();
     put_hours_cell(out, problem, week)?;
     put_weekend_cell(out, problem, week)?;
-    put(out, Piece::RowEnd)
+    put(out, ROW_END)
 }
 
 // The symbols of a week, counted from 0.
@@ -167,9 +170,9 @@ fn put_week_top(out: &mut Vec<u8>, week: u32) -> Result<(), AllocError>
     requires { week < MOST_WEEKS }
     ensures { OnOk result (out.new.items ≡ out.old.items ++ week_top week) }
 {
-    put(out, Piece::WeekTop)?;
+    put(out, WEEK_TOP)?;
     put_number(out, u64::from(week + 1))?;
-    put(out, Piece::HeadEnd)
+    put(out, HEAD_END)
 }
 
 // Appends the row of a week, counted from 0.
@@ -215,5 +218,5 @@ pub fn put_roster_table(
 {
     put_roster_head(out, problem)?;
     put_week_rows(out, problem, cells)?;
-    put(out, Piece::TableEnd)
+    put(out, TABLE_END)
 }

@@ -5,7 +5,9 @@ ghost use Rattle.made_problems.specs.Rested.{shift_at};
 ghost use Rattle.roster_page.specs.PageText.{weeks_words, range_words, name_text, day_head, day_heads, shift_head};
 
 use crate::escaped::put_escaped;
-use crate::pieces::{Piece, put};
+use crate::pieces::{
+    CLASS_END, DAY_HEAD, HEAD_END, SHIFT_TOP, TO_WORD, WEEK_WORD, WEEKS_WORD, put,
+};
 use rwsp_model::Problem;
 use rwsp_terms::limits::{MOST_DAYS, MOST_SHIFTS};
 use rwsp_terms::{Bounds, Symbol};
@@ -19,9 +21,9 @@ pub fn put_weeks(out: &mut Vec<u8>, count: u32) -> Result<(), AllocError>
 {
     put_number(out, u64::from(count))?;
     if count == 1 {
-        put(out, Piece::WeekWord)
+        put(out, WEEK_WORD)
     } else {
-        put(out, Piece::WeeksWord)
+        put(out, WEEKS_WORD)
     }
 }
 
@@ -32,7 +34,7 @@ pub fn put_range(out: &mut Vec<u8>, range: Bounds) -> Result<(), AllocError>
 {
     put_number(out, u64::from(range.least))?;
     if range.least != range.greatest {
-        put(out, Piece::ToWord)?;
+        put(out, TO_WORD)?;
         put_number(out, u64::from(range.greatest))?;
     }
     Ok(())
@@ -53,9 +55,9 @@ fn put_day_head(out: &mut Vec<u8>, day: u32) -> Result<(), AllocError>
     requires { day < MOST_DAYS }
     ensures { OnOk result (out.new.items ≡ out.old.items ++ day_head day) }
 {
-    put(out, Piece::DayHead)?;
+    put(out, DAY_HEAD)?;
     put_number(out, u64::from(day + 1))?;
-    put(out, Piece::HeadEnd)
+    put(out, HEAD_END)
 }
 
 /// Appends a head for each day.
@@ -84,9 +86,9 @@ pub fn put_shift_head(out: &mut Vec<u8>, problem: &Problem, place: u8) -> Result
     ensures { OnOk result (out.new.items ≡ out.old.items ++ shift_head problem.now place) }
 {
     problem.prove_limits();
-    put(out, Piece::ShiftTop)?;
+    put(out, SHIFT_TOP)?;
     put_number(out, u64::from(place + 1))?;
-    put(out, Piece::ClassEnd)?;
+    put(out, CLASS_END)?;
     put_name(out, problem, shift_at(place))?;
-    put(out, Piece::HeadEnd)
+    put(out, HEAD_END)
 }

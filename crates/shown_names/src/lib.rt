@@ -3,4 +3,4 @@
 
 mod names;
 
-pub use names::put_shown;
+pub use names::{character_len, is_printable, put_hex, put_shown};

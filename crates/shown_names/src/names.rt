@@ -23,9 +23,9 @@ fn begins_with_text(bytes: &[u8], n: usize) -> bool
     n <= bytes.len() && is_text(&bytes[..n])
 }
 
-// How many bytes the character has that begins the bytes; 0 where none does.
+/// How many bytes the character has that begins the bytes; 0 where none does.
 #[tactic(auto, unfolding(crate::specs::ShownNames::character_len))]
-fn character_len(bytes: &[u8]) -> usize
+pub fn character_len(bytes: &[u8]) -> usize
     ensures { result ≡ character_len bytes.now }
 {
     if begins_with_text(bytes, 1) {
@@ -49,8 +49,8 @@ fn hex_digit(digit: u8) -> u8
     if digit < 10 { 48 + digit } else { 55 + digit }
 }
 
-// Appends a byte as `\xHH`.
-fn put_hex(out: &mut Vec<u8>, b: u8) -> Result<(), AllocError>
+/// Appends a byte as `\xHH`.
+pub fn put_hex(out: &mut Vec<u8>, b: u8) -> Result<(), AllocError>
     ensures { OnOk result (out.new.items ≡ out.old.items ++ hex_text b) }
 {
     out.extend_from_slice(b"\\x")?;
@@ -59,8 +59,8 @@ fn put_hex(out: &mut Vec<u8>, b: u8) -> Result<(), AllocError>
     Ok(())
 }
 
-// Whether a byte is no control byte of ASCII.
-fn is_printable(b: u8) -> bool
+/// Whether a byte is no control byte of ASCII.
+pub fn is_printable(b: u8) -> bool
     ensures { result ≡ is_printable b }
 {
     32 <= b && b != 127

@@ -1,0 +1,3 @@
+pub mod AutomatonSteps
+pub mod ClosedWalks
+pub mod Places

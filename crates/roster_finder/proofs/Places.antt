@@ -1,0 +1,11 @@
+-- Places in tables that are laid out row by row.
+use Rattle.std.proofs.Common.{◌≡◌, ℕ, ◌+◌, ◌*◌, ◌<◌, ◌≤◌, arith, sym, subst}
+use Rattle.std.proofs.lemmas.Nat.{mul-add-lt}
+use Rattle.std.proofs.Math.Nat.{mul-pos}
+
+-- a row and a column have a place in the table
+pub place_within : (row columns column rows n : ℕ) → n ≡ columns * rows → row < rows → column < columns → row * columns + column < n
+place_within row columns column rows n whole within inside = subst (λ (m : ℕ). row * columns + column < m) (sym whole) (mul-add-lt row columns column rows within inside)
+
+pub some_cells : (weeks days : ℕ) → 0 < weeks → 0 < days → 0 < weeks * days
+some_cells weeks days some week = mul-pos some week
