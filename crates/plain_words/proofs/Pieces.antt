@@ -76,6 +76,10 @@ taken_more f xs i d old out new less before step =
     ∙ flat_map_more f old (take i xs) (get_or xs i d)
     ∙ ap (λ ys. old ++ flat_map f ys) (sym (take_more xs i d less))
 
+-- all elements
+pub taken_whole : {X : Type 0} (f : X → List ℕ) (xs : List X) (i : ℕ) (old out : List ℕ) → length xs ≤ i → out ≡ old ++ flat_map f (take i xs) → out ≡ old ++ flat_map f xs
+taken_whole f xs i old out all before = before ∙ ap (λ ys. old ++ flat_map f ys) (take_all i xs all)
+
 -- all elements, which another list names
 pub taken_all : {X Y : Type 0} (h : Y → List ℕ) (v : X → Y) (xs : List X) (i : ℕ) (old out : List ℕ) → length xs ≤ i → out ≡ old ++ flat_map (λ x. h (v x)) (take i xs) → out ≡ old ++ flat_map h (map v xs)
 taken_all h v xs i old out all before =

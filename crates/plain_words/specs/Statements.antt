@@ -70,14 +70,26 @@ fewer_words low weeks =
     if low == weeks then codes "; fewer were not tried"
     else codes ", and " ++ range_words (span low (weeks - 1)) ++ codes " are not"
 
+-- that no roster meets the rules that follow
+unfoldable pub together_words : Rosters → List ℕ
+together_words w =
+    codes "no roster" ++ rosters_words w ++ codes " meets these rules together (the log is the proof):"
+
+-- that there is none, where no rule is named
+unfoldable pub whatever_words : Rosters → List ℕ
+whatever_words w = codes "there is no roster" ++ rosters_words w ++ codes ", whatever the rules"
+
+-- what counting the blocks of a symbol shows
+unfoldable pub counting_words : Instance → Symbol → List ℕ
+counting_words P x = codes "counting shows it: " ++ counted_words P x
+
 -- the words of a statement
 unfoldable pub statement_words : Instance → Statement → List ℕ
-statement_words P (Together w) =
-    codes "no roster" ++ rosters_words w ++ codes " meets these rules together (the log is the proof):"
-statement_words P (Whatever w) = codes "there is no roster" ++ rosters_words w ++ codes ", whatever the rules"
+statement_words P (Together w) = together_words w
+statement_words P (Whatever w) = whatever_words w
 statement_words P (Named k) = numbered_words P k
 statement_words P (OnlyTurn k t) = decimal k ++ codes ": only that " ++ somebody_words P t.x t.day
-statement_words P (Counted x) = codes "counting shows it: " ++ counted_words P x
+statement_words P (Counted x) = counting_words P x
 statement_words P (Spent closed left w) =
     cases_words closed ++ codes " and " ++ open_words left ++ codes ", so nothing is known of rosters" ++ unknown_words w
 statement_words P (AtLine c n) = line_words c n

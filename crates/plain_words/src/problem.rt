@@ -9,9 +9,9 @@ ghost use Rattle.plain_words.specs.ProblemWords.{problem_words};
 
 use crate::counted::is_misfit;
 use crate::sentence::Sentence;
-use rwsp_file::LongNumber;
 use crate::sentence_text::{put_if, put_line};
 use crate::slips::put_slips;
+use rwsp_file::LongNumber;
 use rwsp_model::{Problem, rule_count};
 use rwsp_terms::Symbol;
 use std::alloc::{AllocError, Global};

@@ -14,8 +14,8 @@ use crate::rule_words::{
     put_shift, put_triple_at,
 };
 use crate::sentence::Sentence;
-use rwsp_file::LongNumber;
 use crate::words::{put_name_words, put_range, put_weeks};
+use rwsp_file::LongNumber;
 use rwsp_model::{Problem, number_of, rule_at};
 use rwsp_terms::{Class, Rule, Symbol};
 use rwsp_text::put_number;

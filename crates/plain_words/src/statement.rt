@@ -2,7 +2,7 @@
 ghost use Rattle.std.specs.Prelude.{◌≡◌, ◌++◌, ◌<◌, ◌≤◌, length, All, OnOk};
 ghost use Rattle.rwsp_terms.specs.Instance.{IsSymbol};
 ghost use Rattle.rwsp_terms.specs.Rules.{rules};
-ghost use Rattle.plain_words.specs.Statements.{weekends_words, rosters_words, unknown_words, numbered_words, works_words, somebody_words, cases_words, open_words, bad_rule_words, fewer_words, statement_words, statement_line, statements_words, StatementFits, IsOther};
+ghost use Rattle.plain_words.specs.Statements.{weekends_words, rosters_words, unknown_words, numbered_words, works_words, somebody_words, cases_words, open_words, bad_rule_words, fewer_words, together_words, whatever_words, counting_words, statement_words, statement_line, statements_words, StatementFits, IsOther};
 
 use crate::cause::{Cause, Count, Short, put_count, put_line_words, put_short};
 use crate::counted::put_counted;
@@ -293,6 +293,36 @@ fn put_other(out: &mut Vec<u8>, problem: &Problem, statement: Statement) -> Resu
     }
 }
 
+// Appends that no roster meets the rules that follow.
+#[tactic(auto, unfolding(crate::specs::Statements::together_words))]
+fn put_together(out: &mut Vec<u8>, rosters: Rosters) -> Result<(), AllocError>
+    ensures { OnOk result (out.new.items ≡ out.old.items ++ together_words rosters) }
+{
+    out.extend_from_slice(b"no roster")?;
+    put_rosters(out, rosters)?;
+    out.extend_from_slice(b" meets these rules together (the log is the proof):")
+}
+
+// Appends that there is no roster, where no rule is named.
+#[tactic(auto, unfolding(crate::specs::Statements::whatever_words))]
+fn put_whatever(out: &mut Vec<u8>, rosters: Rosters) -> Result<(), AllocError>
+    ensures { OnOk result (out.new.items ≡ out.old.items ++ whatever_words rosters) }
+{
+    out.extend_from_slice(b"there is no roster")?;
+    put_rosters(out, rosters)?;
+    out.extend_from_slice(b", whatever the rules")
+}
+
+// Appends what counting the blocks of a symbol shows.
+#[tactic(auto, unfolding(crate::specs::Statements::counting_words))]
+fn put_counting(out: &mut Vec<u8>, problem: &Problem, x: Symbol) -> Result<(), AllocError>
+    requires { IsSymbol problem.now x }
+    ensures { OnOk result (out.new.items ≡ out.old.items ++ counting_words problem.now x) }
+{
+    out.extend_from_slice(b"counting shows it: ")?;
+    put_counted(out, problem, x)
+}
+
 // Appends a statement.
 #[tactic(auto, unfolding(crate::specs::Statements::statement_words))]
 fn put_statement(
@@ -304,26 +334,15 @@ fn put_statement(
     ensures { OnOk result (out.new.items ≡ out.old.items ++ statement_words problem.now statement) }
 {
     match statement {
-        Statement::Together(rosters) => {
-            out.extend_from_slice(b"no roster")?;
-            put_rosters(out, rosters)?;
-            out.extend_from_slice(b" meets these rules together (the log is the proof):")
-        }
-        Statement::Whatever(rosters) => {
-            out.extend_from_slice(b"there is no roster")?;
-            put_rosters(out, rosters)?;
-            out.extend_from_slice(b", whatever the rules")
-        }
+        Statement::Together(rosters) => put_together(out, rosters),
+        Statement::Whatever(rosters) => put_whatever(out, rosters),
         Statement::Named(rule) => put_numbered(out, problem, rule),
         Statement::OnlyTurn { rule, turn } => {
             put_number(out, u64::from(rule))?;
             out.extend_from_slice(b": only that ")?;
             put_somebody(out, problem, turn.x, turn.day)
         }
-        Statement::Counted(x) => {
-            out.extend_from_slice(b"counting shows it: ")?;
-            put_counted(out, problem, x)
-        }
+        Statement::Counted(x) => put_counting(out, problem, x),
         Statement::Spent {
             closed,
             left,
