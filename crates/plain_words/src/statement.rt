@@ -310,7 +310,8 @@ fn put_whatever(out: &mut Vec<u8>, rosters: Rosters) -> Result<(), AllocError>
 {
     out.extend_from_slice(b"there is no roster")?;
     put_rosters(out, rosters)?;
-    out.extend_from_slice(b", whatever the rules")
+    out.extend_from_slice(b", whatever the rules")?;
+    Ok(())
 }
 
 // Appends what counting the blocks of a symbol shows.
@@ -320,7 +321,8 @@ fn put_counting(out: &mut Vec<u8>, problem: &Problem, x: Symbol) -> Result<(), A
     ensures { OnOk result (out.new.items ≡ out.old.items ++ counting_words problem.now x) }
 {
     out.extend_from_slice(b"counting shows it: ")?;
-    put_counted(out, problem, x)
+    put_counted(out, problem, x)?;
+    Ok(())
 }
 
 // Appends a statement.
