@@ -2,6 +2,7 @@ pub mod LogWords
 pub mod Fitting
 pub mod OneSaid
 pub mod SaidLaws
+pub mod Either
 pub mod Pieces
 pub mod Said
 pub mod Minutes

@@ -22,11 +22,14 @@ pub fn answer_words(
     ensures { IfOk result (λ found. MatchOption found
         (SaysNothing (AnswerSays problem.now bytes.now)) (λ v. AnswerSays problem.now bytes.now v.items)) }
 {
-    if let Some(text) = log_words(alloc, problem, LogKind::WithoutGoal, bytes)? {
-        return Ok(Some(text));
+    let first = log_words(alloc, problem, LogKind::WithoutGoal, bytes)?;
+    match first {
+        Some(text) => Ok(Some(text)),
+        None => {
+            let found = behind_logs(alloc, problem, bytes)?;
+            Ok(found)
+        }
     }
-    let found = behind_logs(alloc, problem, bytes)?;
-    Ok(found)
 }
 
 // What bytes say that are no log without a goal.
@@ -40,11 +43,14 @@ fn behind_logs(
         (SaysNothing (OrElse (LogSays problem.now WithGoal bytes.now) (LineOf problem.now bytes.now)))
         (λ v. OrElse (LogSays problem.now WithGoal bytes.now) (LineOf problem.now bytes.now) v.items)) }
 {
-    if let Some(text) = log_words(alloc, problem, LogKind::WithGoal, bytes)? {
-        return Ok(Some(text));
+    let first = log_words(alloc, problem, LogKind::WithGoal, bytes)?;
+    match first {
+        Some(text) => Ok(Some(text)),
+        None => {
+            let found = line_of(alloc, problem, bytes)?;
+            Ok(found)
+        }
     }
-    let found = line_of(alloc, problem, bytes)?;
-    Ok(found)
 }
 
 // What bytes say that are one line.
@@ -52,9 +58,12 @@ fn line_of(alloc: Global, problem: &Problem, bytes: &[u8]) -> Result<Option<Vec<
     ensures { IfOk result (λ found. MatchOption found
         (SaysNothing (LineOf problem.now bytes.now)) (λ v. LineOf problem.now bytes.now v.items)) }
 {
-    if let Some(text) = accepted_line_words(alloc, problem, bytes)? {
-        return Ok(Some(text));
+    let first = accepted_line_words(alloc, problem, bytes)?;
+    match first {
+        Some(text) => Ok(Some(text)),
+        None => {
+            let found = line_words(alloc, problem, bytes)?;
+            Ok(found)
+        }
     }
-    let found = line_words(alloc, problem, bytes)?;
-    Ok(found)
 }
