@@ -39,7 +39,7 @@ tell_status() {
         "1 "*) say "there is no roster; the log printed is the reason" ;;
         "2 "*) say "the words are no command; $0 --help says what each command does" ;;
         "4 mend") say "the budget was spent, so it isn't known what to change" ;;
-        "4 plan") say "the budget was spent, so nothing is known; the log printed is as far as it came, and no reason" ;;
+        "4 plan") say "the budget was spent; the log printed is as far as it came, and no reason" ;;
         "4 "*) say "the budget was spent; the last log printed is as far as it came, and no reason" ;;
         "6 "*) shift && tell_unread "$@" ;;
         "7 "*) say "the output failed; what was written is only a part" ;;
@@ -81,7 +81,7 @@ reduce_answer() {
     named="$(count_rules "$answer")"
     answer=/dev/fd/5
     enough="$(count_rules "$answer")"
-    [ "$named" -eq "$enough" ] || first="the log names $((named)) rules, and these $((enough)) are enough (\`reduce\` prints the log of these):"
+    [ "$named" -eq "$enough" ] || first="the log names $((named)) rules, of which \`reduce\` leaves $((enough))"
 }
 
 # What `explain` has of a file behind the rules: what looks like a slip, and what counting says.
