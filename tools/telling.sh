@@ -84,40 +84,53 @@ reduce_answer() {
     [ "$named" -eq "$enough" ] || first="the log names $((named)) rules, of which \`reduce\` leaves $((enough))"
 }
 
-# What `explain` has of a file behind the rules: what looks like a slip, and what counting says.
+# What looks like a slip in a file, and what counting says: the lines that `explain` has behind the rules. Where there is
+# a roster, only how a line was read, and where other numbers of weeks were tried, only what doesn't go by that.
 slips_in() {
-    "$program" explain "$1" 2>/dev/null | sed '1,/^1: /d; /^[0-9]\{1,\}: /d'
-}
-
-# Says the answer in words, as the program explains it, where there is something to say. The words are about the file that
-# was read; where they can't be, that is said.
-tell_answer() {
-    slips=
-    case "$1 ${2-}" in
-        *" trial" | *" explain") return ;;
-        "0 check" | "0 check-free" | "0 check-staff" | "0 reduce" | "0 best" | "0 staff" | "0 mend" | [35]" "*) ;;
-        [14]" "*) slips=yes ;;
+    case "$1 $2" in
+        "0 plan" | "0 best" | "0 staff") which='/^line /p' ;;
+        [14]" staff") which='/^line /p; /^rules /p; / above the greatest$/p' ;;
+        [14]" "*) which=p ;;
         *) return ;;
     esac
-    file="$3"
+    "$program" explain "$3" 2>/dev/null | sed -n "1,/^1: /d; /^[0-9]\{1,\}: /d; $which"
+}
+
+# Has the program explain the answer. Of a roster there is nothing to explain, nor of what `explain` itself prints.
+explain_answer() {
     answer=/dev/fd/6
+    [ "$1 $2" != "1 plan" ] || reduce_answer "$3"
+    [ "$1 $2" = "0 plan" ] || words="$("$program" explain "$3" "$answer" 2>/dev/null)"
+    case $? in
+        0 | 3) ;;
+        5) words= ;;
+        *) why="the program could not do that" ;;
+    esac
+    # A slip in a rule that is told already isn't told again.
+    slips="$(slips_in "$1" "$2" "$3" | grep -vxF -e "$(printf '%s\n' "$words" | sed 'p; s/^/rule /')")"
+    [ "$(sum_of "$3")" = "$sum" ] || why="$3 has changed meanwhile"
+}
+
+# Says the answer in words, where there is something to say. They are about the file that was read, or it is said that
+# there are none.
+tell_answer() {
+    case "$1 ${2-}" in
+        *" trial" | *" explain") return ;;
+        "0 plan") [ -n "$kept" ] && [ -f "$3" ] || return 0 ;;
+        "0 check" | "0 check-free" | "0 check-staff" | "0 reduce" | "0 best" | "0 staff" | "0 mend" | [1345]" "*) ;;
+        *) return ;;
+    esac
     first=
+    words=
     also=
+    slips=
     why=
     if [ -z "$kept" ]; then
         why="no copy of it could be kept"
-    elif [ ! -f "$file" ]; then
-        why="$file is no file that can be read again"
+    elif [ ! -f "$3" ]; then
+        why="$3 is no file that can be read again"
     else
-        [ "$1 $2" != "1 plan" ] || reduce_answer "$file"
-        words="$("$program" explain "$file" "$answer" 2>/dev/null)"
-        case $? in
-            0 | 3) ;;
-            5) words= ;;
-            *) why="the program could not do that" ;;
-        esac
-        [ -z "$slips" ] || slips="$(slips_in "$file" | grep -vxF -e "$words")"
-        [ "$(sum_of "$file")" = "$sum" ] || why="$file has changed meanwhile"
+        explain_answer "$@"
     fi
     if [ -n "$why" ]; then
         say "the answer is not put into words: $why"
