@@ -106,8 +106,8 @@ explain_answer() {
         5) words= ;;
         *) why="the program could not do that" ;;
     esac
-    # A slip in a rule that is told already isn't told again.
-    slips="$(slips_in "$1" "$2" "$3" | grep -vxF -e "$(printf '%s\n' "$words" | sed 'p; s/^/rule /')")"
+    # A slip in a rule, or a sum, that is told already isn't told again.
+    slips="$(slips_in "$1" "$2" "$3" | grep -vxF -e "$(printf '%s\n' "$words" | sed 'p; s/^counting shows it: //p; s/^/rule /')")"
     [ "$(sum_of "$3")" = "$sum" ] || why="$3 has changed meanwhile"
 }
 
