@@ -1,5 +1,5 @@
 -- What a walk is a state of.
-use Rattle.std.specs.Prelude.{ℕ, ◌+◌, List, length, Bool, cond}
+use Rattle.std.specs.Prelude.{ℕ, ◌+◌, List, ◌++◌, length, Bool, cond}
 use Rattle.rwsp_terms.specs.Instance.{Instance}
 use Rattle.refutation_terms.specs.declared.lines.Line.{Line}
 use Rattle.refutation_terms.specs.declared.lines.Opening.{Opening}
@@ -20,9 +20,21 @@ pub record IsStateOf (P : Instance) (start : Opening) (lines : List Line) (w : S
   pub belongs : BelongsTo P w.store
   pub read : HasRead w.whole (length w.store.sets) w.store (opening P start) w.splits lines
 
+-- the walk has read lines of a log of this problem
+abbrev pub IsWalkOf : Instance → State → Type 0
+IsWalkOf P w = (start : Opening) × (lines : List Line) × IsStateOf P start lines w
+
 -- some lines lead there
 abbrev pub IsWalk : State → Type 0
 IsWalk w = (P : Instance) × (start : Opening) × (lines : List Line) × IsStateOf P start lines w
+
+-- what is true of the lines of a log of this problem that the walk has read, whichever of those that lead there they are
+abbrev pub OfLinesRead : Instance → State → (Opening → List Line → Type 0) → Type 0
+OfLinesRead P w Fact = (start : Opening) (lines : List Line) → IsStateOf P start lines w → Fact start lines
+
+-- the walk has read these lines as well
+abbrev pub HasReadOn : (before : State) (more : List Line) (after : State) → Type 0
+HasReadOn before more after = (P : Instance) → OfLinesRead P before (λ start lines. IsStateOf P start (lines ++ more) after)
 
 -- how many whole trees must still follow
 abbrev pub open_trees : State → ℕ

@@ -43,7 +43,7 @@ impl Model for Walk {
 }
 
 impl Walk {
-    ghost use Rattle.domain_store.specs.States.{IsStateOf, open_trees};
+    ghost use Rattle.domain_store.specs.States.{IsStateOf, OfLinesRead, HasReadOn, open_trees};
 
     /// A walk that has read no line. With a turn, its symbol is alone on its day of the first week.
     pub fn new(alloc: Global, problem: &Problem, start: Opening) -> Result<Walk, AllocError>
@@ -77,8 +77,7 @@ impl Walk {
     /// The number of positions.
     pub fn cells(&self) -> u32
         ensures positions { result ≡ length self.now.store.sets }
-        ensures value { (P : Instance) (start : TheOpening) (lines : List Line) → IsStateOf P start lines self.now
-            → result ≡ cells P }
+        ensures value { (P : Instance) → OfLinesRead P self.now (λ start lines. result ≡ cells P) }
         ensures few { result ≤ MOST_CELLS }
     {
         self.domains.prove_facts();
@@ -88,8 +87,8 @@ impl Walk {
     /// The domains at the next line.
     pub fn domains(&self) -> &Domains
         ensures value { result.now ≡ self.now.store }
-        ensures has { (P : Instance) (start : TheOpening) (lines : List Line) → IsStateOf P start lines self.now →
-            AreSame P (has_domain result.now) (domains_at P start lines (length lines)) }
+        ensures has { (P : Instance) → OfLinesRead P self.now (λ start lines.
+            AreSame P (has_domain result.now) (domains_at P start lines (length lines))) }
     {
         self.domains.prove_facts();
         &self.domains
@@ -98,8 +97,7 @@ impl Walk {
     /// Whether the lines are those of one whole tree, with no line behind it.
     pub fn is_whole(&self) -> bool
         ensures value { result ≡ self.now.whole }
-        ensures tree { (P : Instance) (start : TheOpening) (lines : List Line) → IsStateOf P start lines self.now
-            → IsTrue result ↔ IsTree lines }
+        ensures tree { (P : Instance) → OfLinesRead P self.now (λ start lines. IsTrue result ↔ IsTree lines) }
     {
         self.whole
     }
@@ -107,9 +105,8 @@ impl Walk {
     /// How many whole trees must still follow, so that the lines become those of one.
     pub fn open_count(&self) -> usize
         ensures value { result ≡ open_trees self.now }
-        ensures trees { (P : Instance) (start : TheOpening) (lines rest : List Line)
-            → IsStateOf P start lines self.now →
-            after_trees 1 (lines ++ rest) ≡ after_trees result rest }
+        ensures trees { (rest : List Line) → (P : Instance) → OfLinesRead P self.now (λ start lines.
+            after_trees 1 (lines ++ rest) ≡ after_trees result rest) }
     {
         if self.whole {
             0
@@ -122,8 +119,8 @@ impl Walk {
     pub fn is_idle(&self, p: u32, x: Symbol) -> bool
         requires { p < length self.now.store.sets }
         ensures value { result ≡ is_idle_in self.now.store p x.number }
-        ensures idle { (P : Instance) (start : TheOpening) (lines : List Line) → IsStateOf P start lines self.now
-            → result ≡ is_idle P (domains_at P start lines (length lines)) p x.number }
+        ensures idle { (P : Instance) → OfLinesRead P self.now (λ start lines.
+            result ≡ is_idle P (domains_at P start lines (length lines)) p x.number) }
     {
         self.domains.prove_facts();
         is_idle_there(&self.domains, p, x)
@@ -134,9 +131,7 @@ impl Walk {
         requires part { self.old.whole ≡ false }
         requires position { p < length self.old.store.sets }
         requires useful { is_idle_in self.old.store p x.number ≡ false }
-        ensures splits { IfOk result (λ _.
-            (P : Instance) (start : TheOpening) (lines : List Line) → IsStateOf P start lines self.old
-            → IsStateOf P start (lines ++ Split p x ∷ []) self.new) }
+        ensures splits { IfOk result (λ _. HasReadOn self.old (Split p x ∷ []) self.new) }
         ensures one_more { IfOk result (λ _. open_trees self.new ≡ open_trees self.old + 1) }
         ensures part_still { IfOk result (λ _. self.new.whole ≡ false) }
         ensures same { HasSameShape self.old.store self.new.store }
@@ -157,10 +152,8 @@ impl Walk {
     /// walk as a leaf in its place: so this also goes past the lines of one that nobody looks at.
     pub fn read_leaf(&mut self)
         requires { self.old.whole ≡ false }
-        ensures ends { (P : Instance) (start : TheOpening) (lines : List Line) (leaf : Line)
-            → IsStateOf P start lines self.old → IsLeaf leaf → IsStateOf P start (lines ++ leaf ∷ []) self.new }
-        ensures trees { (P : Instance) (start : TheOpening) (lines tree : List Line) →
-            IsStateOf P start lines self.old → IsTree tree → IsStateOf P start (lines ++ tree) self.new }
+        ensures ends { (leaf : Line) → IsLeaf leaf → HasReadOn self.old (leaf ∷ []) self.new }
+        ensures trees { (tree : List Line) → IsTree tree → HasReadOn self.old tree self.new }
         ensures one_less { open_trees self.old ≡ open_trees self.new + 1 }
         ensures same { HasSameShape self.old.store self.new.store }
     {

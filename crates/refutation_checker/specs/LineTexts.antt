@@ -6,7 +6,7 @@ use Rattle.refutation_terms.specs.declared.lines.Line.{Line}
 use Rattle.refutation_terms.specs.declared.lines.Opening.{Opening}
 use Rattle.refutation_terms.specs.Tree.{IsTree, domains_at}
 use Rattle.refutation_terms.specs.Word.{Domains}
-use Rattle.refutation_terms.specs.Log.{Log, LineFits}
+use Rattle.refutation_terms.specs.Log.{Log, LineFits, Holds}
 use Rattle.refutation_terms.specs.Verdict.{CauseBehind, Escapes, header_lines}
 use Rattle.refutation_terms.specs.LogText.{raw, line_text}
 use Rattle.refutation_terms.specs.declared.lines.Line.TheVariants.{Split}
@@ -16,7 +16,7 @@ use Rattle.refutation_log.specs.declared.refusal.LineRefusal.{LineRefusal}
 use Rattle.refutation_log.specs.declared.refusal.LineRefusal.TheVariants as Lines
 use Rattle.domain_store.specs.Store.{Store}
 use Rattle.domain_store.specs.Splits.{is_idle_in}
-use Rattle.domain_store.specs.States.{State, IsStateOf}
+use Rattle.domain_store.specs.States.{State, IsStateOf, OfLinesRead}
 use Rattle.refutation_checker.specs.LineVerdicts.{HoldsByWords, IsSoundLine, LineCause}
 
 -- the problem of a judge, the rules that the header names, the goal of the log if it has one, and whether it may count
@@ -49,8 +49,15 @@ EscapesUnder J D line w = Escapes J.problem J.goal D line w
 -- whether a leaf holds by words behind whatever lines the walk had read
 abbrev pub TellsLeaf : Judging → State → Line → Bool → Type 0
 TellsLeaf J w leaf told =
-    (o : Opening) (lines : List Line) → IsStateOf J.problem o lines w
-    → IsTrue told ↔ HoldsByWordsUnder J (domains_at J.problem o lines (length lines)) leaf
+    OfLinesRead J.problem w (λ o lines.
+    IsTrue told ↔ HoldsByWordsUnder J (domains_at J.problem o lines (length lines)) leaf)
+
+-- the line holds behind lines that the walk may have read
+abbrev pub IsHoldingNext : Instance → State → Line → Type 0
+IsHoldingNext P w line =
+    (goal : Option ℕ) × (counts : Bool) × LineFits P goal counts line
+    × ((o : Opening) × (lines : List Line) × IsStateOf P o lines w
+    × Holds P goal (domains_at P o lines (length lines)) line)
 
 -- the line behind these is refused for no cause
 pub record IsSoundNext (J : Judging) (o : Opening) (lines : List Line) (line : Line) : Type 0 where
@@ -69,27 +76,25 @@ pub record IsLineRead (J : Judging) (o : Opening) (lines : List Line) (bytes : L
 -- walk has read it too
 abbrev pub ReadsNext : Judging → State → List ℕ → State → Line → Type 0
 ReadsNext J old bytes new line =
-    (o : Opening) (lines : List Line) → IsStateOf J.problem o lines old → IsLineRead J o lines bytes new line
+    OfLinesRead J.problem old (λ o lines. IsLineRead J o lines bytes new line)
 
 -- whatever lines it had read, the bytes are refused there for this cause, as text line n
 abbrev pub RefusesNext : Judging → State → List ℕ → ℕ → LogRefusal → Type 0
 RefusesNext J old bytes n why =
-    (o : Opening) (lines : List Line) → IsStateOf J.problem o lines old
-    → n ≡ header_lines o J.goal J.counts + length lines + 1
-    → CauseBehind J.problem (log_of J o lines) bytes why
+    OfLinesRead J.problem old (λ o lines.
+    n ≡ header_lines o J.goal J.counts + length lines + 1 → CauseBehind J.problem (log_of J o lines) bytes why)
 
 -- whatever lines it had read, this line has no cause there, and the walk has read it too
 abbrev pub PassesNext : Judging → State → Line → State → Type 0
 PassesNext J old line new =
-    (o : Opening) (lines : List Line) → IsStateOf J.problem o lines old
-    → IsSoundUnder J (domains_at J.problem o lines (length lines)) line
-    × IsStateOf J.problem o (lines ++ line ∷ []) new
+    OfLinesRead J.problem old (λ o lines.
+    IsSoundUnder J (domains_at J.problem o lines (length lines)) line
+    × IsStateOf J.problem o (lines ++ line ∷ []) new)
 
 -- whatever lines it had read, this line has this cause there, as text line n
 abbrev pub HasCauseNext : Judging → State → ℕ → Line → LogRefusal → Type 0
 HasCauseNext J old n line why =
-    (o : Opening) (lines : List Line) → IsStateOf J.problem o lines old
-    → HasCause J (domains_at J.problem o lines (length lines)) n line why
+    OfLinesRead J.problem old (λ o lines. HasCause J (domains_at J.problem o lines (length lines)) n line why)
 
 -- a leaf, or a split that isn't idle under the domains of the store
 abbrev pub MayStep : Store → Line → Type 0

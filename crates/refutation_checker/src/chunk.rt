@@ -1,8 +1,6 @@
 // The lines of a chunk, judged one after the other.
-ghost use Rattle.std.specs.Prelude.{◌+◌, ◌^◌, ◌<◌, List, length, Option};
-ghost use Rattle.refutation_terms.specs.declared.lines.Line.{Line};
-ghost use Rattle.refutation_terms.specs.declared.lines.Opening.{Opening};
-ghost use Rattle.domain_store.specs.States.{IsStateOf};
+ghost use Rattle.std.specs.Prelude.{◌+◌, ◌^◌, ◌<◌, length};
+ghost use Rattle.domain_store.specs.States.{IsWalkOf};
 ghost use Rattle.refutation_checker.specs.Chunks.{IsJudgeable};
 ghost use Rattle.refutation_checker.specs.ChunkVerdicts.{IsAnswerTo};
 
@@ -36,7 +34,7 @@ fn judge_lines(
     bytes: &[u8],
     first: u32,
 ) -> Result<bool, Fail<LogRefusal>>
-    requires state { (o : Opening) × (lines : List Line) × IsStateOf judge.old.problem o lines walk.old }
+    requires state { IsWalkOf judge.old.problem walk.old }
     requires few { first + length bytes.now < 2 ^ 31 }
     ensures { IsAnswerTo judge.old (record { walk = walk.old; bytes = bytes.now; first = first }) result }
 {

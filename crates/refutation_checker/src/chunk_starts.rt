@@ -6,11 +6,9 @@
 ghost use Rattle.std.specs.Prelude.{◌≡◌, ◌≢◌, ◌+◌, ◌^◌, ◌<◌, ◌≤◌, ℕ, List, [], length, Option, None, Some, All, IfOk, IfSome, MatchOption, true, false};
 ghost use Rattle.std.specs.Int.{div_ceil};
 ghost use Rattle.rwsp_terms.specs.declared.data.Symbol.{Symbol as TheSymbol};
-ghost use Rattle.refutation_terms.specs.declared.lines.Line.{Line as TheLine};
 ghost use Rattle.refutation_terms.specs.declared.lines.Line.TheVariants.{Split};
-ghost use Rattle.refutation_terms.specs.declared.lines.Opening.{Opening};
 ghost use Rattle.refutation_terms.specs.Tree.{is_idle};
-ghost use Rattle.domain_store.specs.States.{IsStateOf};
+ghost use Rattle.domain_store.specs.States.{IsWalkOf};
 ghost use Rattle.refutation_checker.specs.Chunks.{IsCutOff, AreAllChunks, IsJudgeable, IsFew, line_count};
 ghost use Rattle.refutation_checker.specs.UnreadSplits.{AreEntered, IsEntered, IsInto, ArePassed, IsBehind};
 
@@ -67,11 +65,11 @@ fn enter(
     walk: &mut Walk,
     split: &UnreadSplit,
 ) -> Result<bool, AllocError>
-    requires state { (o : Opening) × (lines : List TheLine) × IsStateOf problem.now o lines walk.old }
+    requires state { IsWalkOf problem.now walk.old }
     requires part { walk.old.whole ≡ false }
     ensures part { IfOk result (λ entered. entered ≡ true → walk.new.whole ≡ false) }
     ensures state { IfOk result (λ entered. entered ≡ true →
-        (o : Opening) × (lines : List TheLine) × IsStateOf problem.now o lines walk.new) }
+        IsWalkOf problem.now walk.new) }
     ensures entered { IfOk result (IsEntered problem.now terms.goal terms.counts split.now walk.old walk.new) }
 {
     problem.prove_limits();
@@ -98,10 +96,10 @@ fn walk_into(
     start: &Walk,
     splits: &[UnreadSplit],
 ) -> Result<Option<Walk>, AllocError>
-    requires state { (o : Opening) × (lines : List TheLine) × IsStateOf problem.now o lines start.now }
+    requires state { IsWalkOf problem.now start.now }
     requires part { start.now.whole ≡ false }
     ensures state { IfOk result (λ found. IfSome found (λ walk.
-        (o : Opening) × (lines : List TheLine) × IsStateOf problem.now o lines walk)) }
+        IsWalkOf problem.now walk)) }
     ensures into { IfOk result (IsInto problem.now terms.goal terms.counts start.now splits.now) }
 {
     let mut walk = start.copy()?;
@@ -121,7 +119,7 @@ fn are_too_many(
     start: &Walk,
     splits: &[UnreadSplit],
 ) -> Result<bool, AllocError>
-    requires state { (o : Opening) × (lines : List TheLine) × IsStateOf problem.now o lines start.now }
+    requires state { IsWalkOf problem.now start.now }
     requires part { start.now.whole ≡ false }
     ensures { IfOk result (λ many. many ≡ true → IsInto problem.now terms.goal terms.counts start.now splits.now None) }
 {
@@ -142,7 +140,7 @@ fn pass_lines<'a>(
     splits: &mut Vec<UnreadSplit<'a>>,
     bytes: &'a [u8],
 ) -> Result<Option<u32>, AllocError>
-    requires state { (o : Opening) × (lines : List TheLine) × IsStateOf problem.now o lines start.now }
+    requires state { IsWalkOf problem.now start.now }
     requires part { start.now.whole ≡ false }
     requires few { length bytes.now < 2 ^ 31 }
     ensures few { IfOk result (λ passed. IfSome passed (λ count. count ≤ length bytes.now)) }
@@ -174,12 +172,12 @@ fn walk_behind<'a>(
     splits: &mut Vec<UnreadSplit<'a>>,
     bytes: &'a [u8],
 ) -> Result<Option<(u32, Walk)>, AllocError>
-    requires state { (o : Opening) × (lines : List TheLine) × IsStateOf problem.now o lines start.now }
+    requires state { IsWalkOf problem.now start.now }
     requires part { start.now.whole ≡ false }
     requires few { length bytes.now < 2 ^ 31 }
     ensures few { IfOk result (λ found. IfSome found (λ next. next.0 ≤ length bytes.now)) }
     ensures state { IfOk result (λ found. IfSome found (λ next.
-        (o : Opening) × (lines : List TheLine) × IsStateOf problem.now o lines next.1)) }
+        IsWalkOf problem.now next.1)) }
     ensures behind { IfOk result
         (IsBehind problem.now terms.goal terms.counts start.now splits.old.items splits.new.items bytes.now) }
 {
@@ -202,7 +200,7 @@ fn cut_off<'a>(
     all: Chunk<'a>,
     size: usize,
 ) -> Result<(Chunk<'a>, Option<Chunk<'a>>), AllocError>
-    requires state { (o : Opening) × (lines : List TheLine) × IsStateOf problem.now o lines start.now }
+    requires state { IsWalkOf problem.now start.now }
     requires part { start.now.whole ≡ false }
     requires few { all.first + length all.bytes < 2 ^ 31 }
     requires some { all.bytes ≢ [] }

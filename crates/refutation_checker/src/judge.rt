@@ -1,12 +1,10 @@
 // The lines of a log's tree, judged one after the other.
-ghost use Rattle.std.specs.Prelude.{◌≡◌, List, Option, IfOk, IsTrue, MatchOption, false};
-ghost use Rattle.refutation_terms.specs.declared.lines.Line.{Line};
-ghost use Rattle.refutation_terms.specs.declared.lines.Opening.{Opening};
+ghost use Rattle.std.specs.Prelude.{◌≡◌, IfOk, IsTrue, MatchOption, false};
 ghost use Rattle.refutation_terms.specs.declared.lines.Opening.TheVariants.{Full};
 ghost use Rattle.refutation_terms.specs.Log.{LineFits, ListsShortOnly};
 ghost use Rattle.rwsp_model.specs.Refusals.{MatchAnswer};
 ghost use Rattle.domain_store.specs.Store.{BelongsTo, has_domain};
-ghost use Rattle.domain_store.specs.States.{IsStateOf};
+ghost use Rattle.domain_store.specs.States.{IsWalkOf};
 ghost use Rattle.refutation_checker.specs.LineTexts.{HoldsByWordsUnder, EscapesUnder, IsSoundUnder, HasCause, ReadsNext, RefusesNext, PassesNext, HasCauseNext, IsSpellingRefusal};
 
 use crate::kept::{automaton_of, tails_of};
@@ -104,7 +102,7 @@ impl<'a> Judge<'a> {
         bytes: &[u8],
         number: u32,
     ) -> Result<Line, Fail<LogRefusal>>
-        requires state { (o : Opening) × (lines : List Line) × IsStateOf self.old.problem o lines walk.old }
+        requires state { IsWalkOf self.old.problem walk.old }
         ensures same { self.new ≡ self.old }
         ensures read { MatchAnswer result
             (ReadsNext self.old walk.old bytes.now walk.new)
@@ -140,7 +138,7 @@ impl<'a> Judge<'a> {
         line: &Line,
         number: u32,
     ) -> Result<Option<LogRefusal>, AllocError>
-        requires state { (o : Opening) × (lines : List Line) × IsStateOf self.old.problem o lines walk.old }
+        requires state { IsWalkOf self.old.problem walk.old }
         requires part { walk.old.whole ≡ false }
         requires line { LineFits self.old.problem self.old.goal self.old.counts line.now }
         ensures same { self.new ≡ self.old }

@@ -1,12 +1,9 @@
 // Single lines of a log whose other lines are known to hold.
-ghost use Rattle.std.specs.Prelude.{◌≡◌, ◌∷◌, [], ◌++◌, ℕ, List, length, Bool, Option, false, IfOk};
-ghost use Rattle.refutation_terms.specs.declared.lines.Line.{Line};
-ghost use Rattle.refutation_terms.specs.declared.lines.Opening.{Opening};
+ghost use Rattle.std.specs.Prelude.{◌≡◌, ◌∷◌, [], false, IfOk};
 ghost use Rattle.refutation_terms.specs.declared.lines.Opening.TheVariants.{Full};
-ghost use Rattle.refutation_terms.specs.Tree.{domains_at};
-ghost use Rattle.refutation_terms.specs.Log.{GoalFits, LineFits, ListsShortOnly, Holds};
-ghost use Rattle.domain_store.specs.States.{IsStateOf};
-ghost use Rattle.refutation_checker.specs.LineTexts.{TellsLeaf};
+ghost use Rattle.refutation_terms.specs.Log.{GoalFits, LineFits, ListsShortOnly};
+ghost use Rattle.domain_store.specs.States.{IsWalkOf, HasReadOn};
+ghost use Rattle.refutation_checker.specs.LineTexts.{TellsLeaf, IsHoldingNext};
 
 use crate::judge::{Judge, Judging};
 use crate::line_walk::step;
@@ -56,7 +53,7 @@ impl<'a> LeafJudge<'a> {
     /// Whether the leaf holds as the next line behind those that the walk has read. Of lines that are no leaf of words
     /// this says nothing.
     pub fn holds(&mut self, alloc: Global, walk: &Walk, leaf: &Line) -> Result<bool, AllocError>
-        requires state { (o : Opening) × (lines : List Line) × IsStateOf self.old.problem o lines walk.now }
+        requires state { IsWalkOf self.old.problem walk.now }
         requires fits { LineFits self.old.problem self.old.goal self.old.counts leaf.now }
         requires short { ListsShortOnly self.old.problem leaf.now }
         ensures same { self.new ≡ self.old }
@@ -72,11 +69,8 @@ impl<'a> LeafJudge<'a> {
 /// The walk reads a line that is known to hold there, which isn't judged.
 pub fn go_past(walk: &mut Walk, problem: &Problem, line: &Line) -> Result<(), AllocError>
     requires part { walk.old.whole ≡ false }
-    requires holds { (goal : Option ℕ) × (counts : Bool) × LineFits problem.now goal counts line.now
-        × ((o : Opening) × (lines : List Line) × IsStateOf problem.now o lines walk.old
-        × Holds problem.now goal (domains_at problem.now o lines (length lines)) line.now) }
-    ensures { IfOk result (λ _. (o : Opening) (lines : List Line) →
-        IsStateOf problem.now o lines walk.old → IsStateOf problem.now o (lines ++ line.now ∷ []) walk.new) }
+    requires holds { IsHoldingNext problem.now walk.old line.now }
+    ensures { IfOk result (λ _. HasReadOn walk.old (line.now ∷ []) walk.new) }
 {
     problem.prove_limits();
     walk.domains().prove_facts();

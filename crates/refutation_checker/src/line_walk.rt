@@ -1,9 +1,6 @@
 // Lines that a walk reads.
-ghost use Rattle.std.specs.Prelude.{◌≡◌, ◌∷◌, [], ◌++◌, List, Option, IfOk, false};
-ghost use Rattle.rwsp_terms.specs.Instance.{Instance};
-ghost use Rattle.refutation_terms.specs.declared.lines.Line.{Line};
-ghost use Rattle.refutation_terms.specs.declared.lines.Opening.{Opening};
-ghost use Rattle.domain_store.specs.States.{IsStateOf};
+ghost use Rattle.std.specs.Prelude.{◌≡◌, ◌∷◌, [], IfOk, false};
+ghost use Rattle.domain_store.specs.States.{HasReadOn};
 ghost use Rattle.refutation_checker.specs.LineTexts.{MayStep};
 
 use domain_store::Walk;
@@ -14,8 +11,7 @@ use std::alloc::AllocError;
 pub fn step(walk: &mut Walk, line: &Line) -> Result<(), AllocError>
     requires part { walk.old.whole ≡ false }
     requires useful { MayStep walk.old.store line.now }
-    ensures { IfOk result (λ _. (P : Instance) (o : Opening) (lines : List Line) →
-        IsStateOf P o lines walk.old → IsStateOf P o (lines ++ line.now ∷ []) walk.new) }
+    ensures { IfOk result (λ _. HasReadOn walk.old (line.now ∷ []) walk.new) }
 {
     match line {
         Line::Split { p, x } => walk.read_split(*p, *x),

@@ -20,7 +20,7 @@ use Rattle.refutation_checker.specs.LineTexts.{Judging}
 use Rattle.refutation_checker.proofs.Passing.{no_front, still_part}
 use Rattle.domain_store.specs.States.{State, IsStateOf}
 use Rattle.rule_reducer.specs.Citing.{HasList}
-use Rattle.rule_reducer.specs.Without.{judging, HoldsWithout}
+use Rattle.rule_reducer.specs.Without.{judging, HoldsWithout, TellsWithout}
 use Rattle.rule_reducer.proofs.Stripped.{line_without}
 
 -- the domains behind the first lines
@@ -93,15 +93,8 @@ holds_more P n g i line here before holds k other less there =
 pub holds_all : (P : Instance) (n : ℕ) (g : Log) (i : ℕ) → length g.lines ≤ i → HoldWithout P n g i → HoldsWithout P n g
 holds_all P n g i all h = λ k line got. h k line (omega (arith, slice_get_within g.lines k line got)) got
 
--- what the judging of a line tells of it, where it is next for the walk and holds
-abbrev pub Tells : Judging → ℕ → Line → State → Bool → Type 0
-Tells J n line w b =
-    (o : Opening) (lines : List Line) → IsStateOf J.problem o lines w → Holds J.problem J.goal (domains_at J.problem o lines (length lines)) line →
-    MatchBool b (Holds J.problem J.goal (domains_at J.problem o lines (length lines)) (strip_line J.problem n line) → ⊥)
-    (Holds J.problem J.goal (domains_at J.problem o lines (length lines)) (strip_line J.problem n line))
-
-pub told_of : (J K : Judging) (n : ℕ) (line : Line) (w : State) (b : Bool) → K ≡ J → Tells K n line w b → Tells J n line w b
-told_of J K n line w b same tells = subst (λ (X : Judging). Tells X n line w b) same tells
+pub told_of : (J K : Judging) (n : ℕ) (line : Line) (w : State) (b : Bool) → K ≡ J → TellsWithout K n line w b → TellsWithout J n line w b
+told_of J K n line w b same tells = subst (λ (X : Judging). TellsWithout X n line w b) same tells
 
 pub refused_there : (P : Instance) (n : ℕ) (g : Log) (i : ℕ) (line : Line) → slice_get g.lines i ≡ Some line
     → (Holds P g.goal (domains_at P g.opening (take i g.lines) (length (take i g.lines))) (strip_line P n line) → ⊥) → Passes P (strip P n g) → ⊥
@@ -109,14 +102,14 @@ refused_there P n g i line here fails passes =
     fails (subst (λ D. Holds P g.goal D (strip_line P n line)) (sym (behind P g.opening g.lines i)) (line_without P n g i line here passes))
 
 pub tells_refusal : (P : Instance) (n : ℕ) (g : Log) (i : ℕ) (line : Line) (w : State) (b : Bool) → slice_get g.lines i ≡ Some line → Passes P g → IsStateOf P g.opening (take i g.lines) w
-    → Tells (judging P g) n line w b → b ≡ true → Passes P (strip P n g) → ⊥
+    → TellsWithout (judging P g) n line w b → b ≡ true → Passes P (strip P n g) → ⊥
 tells_refusal P n g i line w b here passes state tells so =
     let D = domains_at P g.opening (take i g.lines) (length (take i g.lines)) in
     refused_there P n g i line here
     (subst (λ t. MatchBool t (Holds P g.goal D (strip_line P n line) → ⊥) (Holds P g.goal D (strip_line P n line))) so (tells g.opening (take i g.lines) state (line_at P g i line here passes)))
 
 pub tells_hold : (P : Instance) (n : ℕ) (g : Log) (i : ℕ) (line : Line) (w : State) (b : Bool) → slice_get g.lines i ≡ Some line → Passes P g → IsStateOf P g.opening (take i g.lines) w
-    → Tells (judging P g) n line w b → b ≡ false → HoldWithout P n g i → HoldWithout P n g (i + 1)
+    → TellsWithout (judging P g) n line w b → b ≡ false → HoldWithout P n g i → HoldWithout P n g (i + 1)
 tells_hold P n g i line w b here passes state tells no_refusal before =
     let D = domains_at P g.opening (take i g.lines) (length (take i g.lines)) in
     holds_more P n g i line here before

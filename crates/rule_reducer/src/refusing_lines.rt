@@ -1,13 +1,10 @@
 // The lines of a log that refuse a strip: leaves of words that don't hold without the rule.
-ghost use Rattle.std.specs.Prelude.{◌≡◌, ◌<◌, ◌≤◌, List, [], length, take, Some, IsTrue, IfOk, MatchOption, MatchBool};
+ghost use Rattle.std.specs.Prelude.{◌≡◌, ◌<◌, ◌≤◌, [], length, take, Some, IsTrue, IfOk, MatchOption};
 ghost use Rattle.rwsp_terms.specs.Rules.{rule_of};
-ghost use Rattle.refutation_terms.specs.declared.lines.Line.{Line};
-ghost use Rattle.refutation_terms.specs.declared.lines.Opening.{Opening};
-ghost use Rattle.refutation_terms.specs.Tree.{domains_at};
-ghost use Rattle.refutation_terms.specs.Log.{Fits, LineFits, ListsShortOnly, Holds, Passes};
-ghost use Rattle.refutation_terms.specs.Strip.{strip, strip_line};
-ghost use Rattle.domain_store.specs.States.{IsStateOf};
-ghost use Rattle.rule_reducer.specs.Without.{judging, HoldsWithout};
+ghost use Rattle.refutation_terms.specs.Log.{Fits, LineFits, ListsShortOnly, Passes};
+ghost use Rattle.refutation_terms.specs.Strip.{strip};
+ghost use Rattle.domain_store.specs.States.{IsStateOf, IsWalkOf};
+ghost use Rattle.rule_reducer.specs.Without.{judging, HoldsWithout, TellsWithout};
 
 use crate::shrinking_log::ShrinkingLog;
 use crate::stripped_lines::{lists, strip_line};
@@ -28,18 +25,12 @@ fn refuses(
     number: u32,
     rule: Rule,
 ) -> Result<bool, AllocError>
-    requires state { (o : Opening) × (lines : List Line) × IsStateOf judge.old.problem o lines walk.now }
+    requires state { IsWalkOf judge.old.problem walk.now }
     requires fits { LineFits judge.old.problem judge.old.goal judge.old.counts line.now }
     requires short { ListsShortOnly judge.old.problem line.now }
     requires rule { rule_of judge.old.problem number ≡ Some rule }
     ensures same { judge.new ≡ judge.old }
-    ensures refuses { IfOk result (λ yes. (o : Opening) (lines : List Line) →
-        IsStateOf judge.old.problem o lines walk.now →
-        let D = domains_at judge.old.problem o lines (length lines) in
-        Holds judge.old.problem judge.old.goal D line.now →
-        MatchBool yes
-        (Holds judge.old.problem judge.old.goal D (strip_line judge.old.problem number line.now) → ⊥)
-        (Holds judge.old.problem judge.old.goal D (strip_line judge.old.problem number line.now))) }
+    ensures refuses { IfOk result (TellsWithout judge.old number line.now walk.now) }
 {
     if lists(line, number, rule) {
         let stripped = strip_line(alloc, line, number, rule)?;

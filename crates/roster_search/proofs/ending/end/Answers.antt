@@ -23,7 +23,7 @@ new-requires-2-clause-tree c =
     let P = c.args.problem.now in
     let s = c.args.progress in
     let n : ℕ = c.open_count-count.result in
-    subst IsTree (sym c.in_ok-leave_open.ensures) (rest_ends s.lines.items n (c.open_count-count.ensures.trees P s.aim.opening s.lines.items (replicate n Unfinished) c.requires.written.state))
+    subst IsTree (sym c.in_ok-leave_open.ensures) (rest_ends s.lines.items n (c.open_count-count.ensures.trees (replicate n Unfinished) P s.aim.opening s.lines.items c.requires.written.state))
 
 pub returns : goal.returns
 returns c =
@@ -34,7 +34,7 @@ returns c =
     let part : s.walk.whole ≡ false = sym c.is_whole-is_whole.ensures.value ∙ c.if-is_whole.false in
     let some : 1 ≤ open_trees s.walk = some_open s.walk part in
     spent_end P s n c.new-2.result c.requires.written c.requires.allowed up
-    (rest_ends s.lines.items n (c.open_count-count.ensures.trees P s.aim.opening s.lines.items (replicate n Unfinished) c.requires.written.state))
+    (rest_ends s.lines.items n (c.open_count-count.ensures.trees (replicate n Unfinished) P s.aim.opening s.lines.items c.requires.written.state))
     c.requires.few (c.requires.spent part) (omega (arith, some, c.open_count-count.ensures.value)) c.new-2.ensures.named c.new-2.ensures.opening c.new-2.ensures.goal c.new-2.ensures.counts (c.new-2.ensures.lines ∙ c.in_ok-leave_open.ensures)
 
 pub new-requires-2-clause-few : goal.new-requires-2-clause-few

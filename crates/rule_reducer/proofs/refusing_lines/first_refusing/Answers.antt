@@ -67,7 +67,7 @@ loop-i-preserved c =
     let here = line_read g.lines _ i line c.lines-lines.ensures (omega (arith, ap length c.lines-lines.ensures)) c.index-lines-i.is in
     record {
       same = c.refuses.ensures.same ∙ c.loop-i.invariant.same;
-      walked = walked_more P g.opening g.lines i line c.go_past.new.walk here (c.in_ok-go_past.ensures g.opening (take i g.lines) c.loop-i.invariant.walked);
+      walked = walked_more P g.opening g.lines i line c.go_past.new.walk here (c.in_ok-go_past.ensures P g.opening (take i g.lines) c.loop-i.invariant.walked);
       held = tells_hold P c.args.number g i line c.loop-i.walk refused here c.requires.passes c.loop-i.invariant.walked
           (told_of (judging P g) c.loop-i.judge c.args.number line c.loop-i.walk refused c.loop-i.invariant.same c.in_ok-refused.ensures.refuses) c.if-refused.false c.loop-i.invariant.held;
     }

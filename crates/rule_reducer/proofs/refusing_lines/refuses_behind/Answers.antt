@@ -4,8 +4,8 @@ use Rattle.refutation_terms.specs.Log.{LineFits, ListsShortOnly, Passes}
 use Rattle.refutation_terms.specs.Strip.{strip}
 use Rattle.domain_store.specs.States.{IsStateOf}
 use Rattle.refutation_checker.specs.LineTexts.{Judging}
-use Rattle.rule_reducer.specs.Without.{judging}
-use Rattle.rule_reducer.proofs.Walking.{Tells, line_read, told_of, tells_refusal}
+use Rattle.rule_reducer.specs.Without.{judging, TellsWithout}
+use Rattle.rule_reducer.proofs.Walking.{line_read, told_of, tells_refusal}
 use Rattle.rule_reducer.proofs.refusing_lines.refuses_behind.Goals as goal
 
 pub judge_of-judge-requires : goal.judge_of-judge-requires
@@ -38,7 +38,7 @@ returns c =
     let walk = c.in_ok-walk.walk in
     let here = line_read g.lines _ c.args.place line c.lines-lines.ensures c.requires.place c.index-lines-place.is in
     IfOk-weaker c.refuses-refused.result
-    (Tells c.judge_of-judge.result n line walk)
+    (TellsWithout c.judge_of-judge.result n line walk)
     (λ yes. IsTrue yes → Passes P (strip P n g) → ⊥)
     (λ yes told. tells_refusal P n g c.args.place line walk yes here c.requires.passes c.in_ok-walk.ensures (told_of (judging P g) c.judge_of-judge.result n line walk yes c.judge_of-judge.ensures told))
     c.refuses-refused.ensures.refuses

@@ -24,4 +24,4 @@ loop-i-preserved c =
     let i = c.loop-i.i in
     let line = c.index-lines-i.result in
     walked_more c.args.problem.now g.opening g.lines i line c.go_past.new.walk (line_read g.lines _ i line c.lines-lines.ensures (omega (arith, c.requires.place)) c.index-lines-i.is)
-    (c.in_ok-go_past.ensures g.opening (take i g.lines) c.loop-i.invariant)
+    (c.in_ok-go_past.ensures c.args.problem.now g.opening (take i g.lines) c.loop-i.invariant)

@@ -16,13 +16,13 @@ invariant_of-self c =
     (subst part (sym c.self.view_is) c.requires) c.end_tree-self-inside.ensures.same c.end_tree-self-inside.ensures.ended c.self.invariant
 
 pub returns-clause-ends : goal.returns-clause-ends
-returns-clause-ends c P start lines leaf w is_leaf =
+returns-clause-ends c leaf is_leaf P start lines w =
     let part : State → Type 0 = λ v. v.whole ≡ false in
     behind_tree P start lines (leaf ∷ []) c.self.inside.domains c.end_tree-self-inside.new.domains c.self.inside.splits.items c.end_tree-self-inside.new.splits.items c.self.inside.whole c.end_tree-self-inside.result (leaf_is_tree leaf is_leaf)
     (subst part (sym c.self.view_is) c.requires) c.end_tree-self-inside.ensures.same c.end_tree-self-inside.ensures.ended (subst (IsStateOf P start lines) (sym c.self.view_is) w)
 
 pub returns-clause-trees : goal.returns-clause-trees
-returns-clause-trees c P start lines tree w is_tree =
+returns-clause-trees c tree is_tree P start lines w =
     let part : State → Type 0 = λ v. v.whole ≡ false in
     behind_tree P start lines tree c.self.inside.domains c.end_tree-self-inside.new.domains c.self.inside.splits.items c.end_tree-self-inside.new.splits.items c.self.inside.whole c.end_tree-self-inside.result is_tree
     (subst part (sym c.self.view_is) c.requires) c.end_tree-self-inside.ensures.same c.end_tree-self-inside.ensures.ended (subst (IsStateOf P start lines) (sym c.self.view_is) w)

@@ -15,7 +15,7 @@ returns-clause-written c =
     written_next P a _ c.args.line c.requires.written (record {
       aim = refl;
       lines = c.in_ok-push.ensures.items;
-      state = c.read_leaf.ensures.ends P a.aim.opening a.lines.items c.args.line c.requires.written.state c.requires.leaf.leaf;
+      state = c.read_leaf.ensures.ends c.args.line c.requires.leaf.leaf P a.aim.opening a.lines.items c.requires.written.state;
       stands = record { holds = c.requires.leaf.holds; fits = c.requires.leaf.fits; short = c.requires.leaf.short };
       named = c.in_ok-put_cited.ensures.names;
       numbers = λ k h. elim ((c.in_ok-put_cited.ensures.ok k).0 h) as (λ (o : Contains a.named k ⊎ IsCited P (Cites P c.args.line) k). (x : Rule) × (rule_of P k ≡ Some x)) [
