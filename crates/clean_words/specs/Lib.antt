@@ -1,4 +1,5 @@
 pub mod Courses
+pub mod Found
 pub mod Rows
 pub mod Trellis
 pub mod Choices

@@ -1,8 +1,10 @@
 -- The tail of a word.
-use Rattle.std.specs.Prelude.{ℕ, List, Option, Some, None, Bool, true, ◌==◌, nat_lt, reverse, slice_get, min}
+use Rattle.std.specs.Prelude.{◌≡◌, ℕ, List, [], ◌∷◌, ◌++◌, Option, Some, None, MatchOption, Bool, true, ◌==◌, nat_lt, reverse, slice_get, min}
 use Rattle.std.specs.List.{suffix_len, list_all}
 use Rattle.rwsp_terms.specs.declared.limits.TheConstants.{LONGEST_RUN}
 use Rattle.rwsp_terms.specs.declared.data.Symbol.{Symbol}
+use Rattle.rwsp_terms.specs.Instance.{Instance}
+use Rattle.refutation_terms.specs.Word.{Clean}
 use Rattle.clean_words.specs.declared.tail.Tail.{Tail}
 
 abbrev pub is_same : Symbol → Symbol → Bool
@@ -57,3 +59,10 @@ tail_of w = record {
   all_one = all_one_by (last_of w) w;
   all_work = all_work_in w;
 }
+
+-- of the words with this tail that are clean, none is clean with the symbol behind it, or each is, and has this tail
+abbrev pub IsFollowed : Instance → List ℕ → Tail → Symbol → Option Tail → Type 0
+IsFollowed P R tail x found =
+    (w : List Symbol) → Clean P R w → tail_of w ≡ tail → MatchOption found
+    (¬ Clean P R (w ++ x ∷ []))
+    (λ t. Clean P R (w ++ x ∷ []) × (t ≡ tail_of (w ++ x ∷ [])))

@@ -1,6 +1,7 @@
 // The heaviest clean words.
 ghost use Rattle.std.specs.Prelude.{◌≡◌, IfOk, IfSome, MatchOption, Option, Some, ℤ, ◌≤ℤ◌, ◌<ℤ◌};
-ghost use Rattle.clean_words.specs.Courses.{course, IsBestOf, AreBelow};
+ghost use Rattle.clean_words.specs.Courses.{course};
+ghost use Rattle.clean_words.specs.Found.{IsBestFound};
 
 use crate::kept_rows::kept_rows;
 use crate::walk::best_word;
@@ -24,10 +25,9 @@ pub fn heaviest<G: Gain>(
     gain: &G,
     least: i64,
 ) -> Result<Option<HeavyWord>, AllocError>
-    ensures { let C = course words.now.automaton.now words.now.domains.now words.now.position (G.gain_of gain.now) in
-        IfOk result (λ found. MatchOption found
-        (AreBelow C words.now.days least)
-        (λ h. IsBestOf C words.now.days h.weight h.word × (least ≤ℤ h.weight))) }
+    ensures { let W = words.now in
+        let C = course W.automaton.now W.domains.now W.position (G.gain_of gain.now) in
+        IfOk result (IsBestFound C W.days least) }
 {
     words.prove_facts();
     let rows = kept_rows(alloc, words, gain)?;

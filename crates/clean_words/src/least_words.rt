@@ -1,8 +1,7 @@
 // The least clean words.
-ghost use Rattle.std.specs.Prelude.{IfOk, MatchOption, pos};
-ghost use Rattle.refutation_terms.specs.WordsLeaf.{IsDead};
-ghost use Rattle.refutation_terms.specs.Escape.{IsLeastClean};
+ghost use Rattle.std.specs.Prelude.{IfOk, pos};
 ghost use Rattle.domain_store.specs.Store.{has_domain};
+ghost use Rattle.clean_words.specs.Found.{IsLeastFound};
 
 use crate::{CleanWords, Gain, HeavyWord, heaviest};
 use rwsp_terms::{Symbol, Word};
@@ -10,11 +9,8 @@ use std::alloc::{AllocError, Global};
 
 /// The least of the words; None exactly where there is none.
 pub fn escape(alloc: Global, words: &CleanWords<'_>) -> Result<Option<Word>, AllocError>
-    ensures { let A = words.now.automaton.now in let doms = words.now.domains.now in
-        let p = words.now.position in let days = words.now.days in
-        IfOk result (λ found. MatchOption found
-        (IsDead A.problem (has_domain doms) p days A.rules)
-        (λ w. IsLeastClean A.problem (has_domain doms) p days A.rules w)) }
+    ensures { let W = words.now in let A = W.automaton.now in
+        IfOk result (IsLeastFound A.problem (has_domain W.domains.now) W.position W.days A.rules) }
 {
     match heaviest(alloc, words, &NoGain, 0)? {
         Some(HeavyWord { weight: _, word }) => Ok(Some(word)),

@@ -1,8 +1,6 @@
-ghost use Rattle.std.specs.Prelude.{◌≡◌, ℕ, List, [], ◌∷◌, ◌++◌, MatchOption, IfOk};
+ghost use Rattle.std.specs.Prelude.{◌≡◌, ℕ, List, IfOk};
 ghost use Rattle.rwsp_terms.specs.Rules.{NamesShortOnly};
-ghost use Rattle.rwsp_terms.specs.declared.data.Symbol.{Symbol};
-ghost use Rattle.refutation_terms.specs.Word.{Clean};
-ghost use Rattle.clean_words.specs.Tails.{tail_of};
+ghost use Rattle.clean_words.specs.Tails.{IsFollowed};
 
 use crate::Tail;
 use crate::layout::tables_of;
@@ -73,11 +71,7 @@ impl TailRules {
     /// isn't clean.
     /// A run that the word begins with is never too short, since it may have begun before the word.
     pub fn follow(&self, tail: Tail, x: Symbol) -> Option<Tail>
-        ensures { let IsClean = Clean self.now.problem self.now.rules in
-            (w : List Symbol) → IsClean w → tail_of w ≡ tail →
-            MatchOption result
-            (¬ IsClean (w ++ x ∷ []))
-            (λ t. IsClean (w ++ x ∷ []) × (t ≡ tail_of (w ++ x ∷ []))) }
+        ensures { IsFollowed self.now.problem self.now.rules tail x result }
     {
         if self.tables.forbids(tail, x) {
             None

@@ -1,11 +1,11 @@
 // The words that escape a leaf of words that claims too little weight.
-ghost use Rattle.std.specs.Prelude.{◌≡◌, ◌+◌, ◌*◌, ◌<◌, ◌≤◌, IfOk, MatchOption, pos, neg_ℤ, ◌*ℤ◌, ◌≤ℤ◌};
+ghost use Rattle.std.specs.Prelude.{◌≡◌, ◌+◌, ◌*◌, ◌<◌, ◌≤◌, IfOk, pos, neg_ℤ, ◌*ℤ◌, ◌≤ℤ◌};
 ghost use Rattle.rwsp_terms.specs.Instance.{cells};
 ghost use Rattle.rwsp_terms.specs.declared.limits.TheConstants.{GREATEST_REWARD, GREATEST_WEIGHT, LONGEST_WORD, MOST_DAYS, MOST_SHIFTS, MOST_SYMBOLS, MOST_WEEKS};
 ghost use Rattle.refutation_terms.specs.declared.lines.WordClaim.TheVariants.{Light};
-ghost use Rattle.refutation_terms.specs.WordsLeaf.{RewardFits, WordsHold, WordsEscape};
+ghost use Rattle.refutation_terms.specs.WordsLeaf.{RewardFits};
 ghost use Rattle.domain_store.specs.Store.{BelongsTo, has_domain};
-ghost use Rattle.potential_bounds.specs.Claims.{IsGoalOf};
+ghost use Rattle.potential_bounds.specs.Claims.{IsGoalOf, IsEscapeFound};
 
 use crate::{heaviest, total};
 use clean_words::{Automaton, CleanWords};
@@ -43,10 +43,9 @@ pub fn claim_escape(
     requires few { claim.turns * cells automaton.now.problem ≤ LONGEST_WORD }
     requires goal { IsGoalOf automaton.now.problem claim.goal }
     requires reward { RewardFits claim.goal claim.position claim.reward }
-    ensures { let P = automaton.now.problem in let D = has_domain doms.now in let R = automaton.now.rules in
-        let goal = claim.entry.goal in let p = claim.entry.position in
-        let light = Light claim.entry.turns claim.entry.reward claim.entry.weights.now in
-        IfOk result (λ found. MatchOption found (WordsHold P goal D p R light) (WordsEscape P goal D p R light)) }
+    ensures { let A = automaton.now in let c = claim.entry in
+        let light = Light c.turns c.reward c.weights.now in
+        IfOk result (IsEscapeFound A.problem c.goal (has_domain doms.now) c.position A.rules light) }
 {
     let problem = automaton.problem();
     problem.prove_limits();

@@ -21,9 +21,9 @@ pub fn heaviest(
     least: i64,
 ) -> Result<Option<HeavyWord>, AllocError>
     requires { reward ≤ GREATEST_REWARD }
-    ensures { let A = words.now.automaton.now in let p = words.now.position in
-        IfOk result (IsHeaviestFound A.problem (has_domain words.now.domains.now) p words.now.days
-        A.rules (free_weight A.problem weights.now reward p) least) }
+    ensures { let W = words.now in let A = W.automaton.now in
+        IfOk result (IsHeaviestFound A.problem (has_domain W.domains.now) W.position W.days A.rules
+        (free_weight A.problem weights.now reward W.position) least) }
 {
     let problem = words.automaton.problem();
     problem.prove_limits();

@@ -4,6 +4,7 @@ pub mod LineTexts
 pub mod ShortWords
 pub mod Turns
 pub mod LogVerdicts
+pub mod Accepted
 pub mod ChunkVerdicts
 pub mod Laws
 pub mod UnreadSplits

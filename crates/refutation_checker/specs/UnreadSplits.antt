@@ -101,3 +101,9 @@ IsEntered P goal counts u old new entered =
     → IsLineText P goal counts u.line (Split p x) → IsFirstSide u.in_second first
     → MatchBool entered (IsStateOf P o (lines
     ++ Split p x ∷ first) new) (is_idle P (domains_at P o lines (length lines)) p x.number ≡ true)
+
+-- a leaf was passed behind lines that lead into the splits before: a split is still open, or the tree is whole
+abbrev pub IsLeafPassed : (before after : List UnreadSplit) → Bool → Type 0
+IsLeafPassed before after inside =
+    (P : Instance) (goal : Option ℕ) (counts : Bool) (lines : List Line) → LeadInto P goal counts IsTree before lines
+    → MatchBool inside (EndInside P goal counts after lines) (IsTree lines)

@@ -1,9 +1,6 @@
 // Splits whose lines are passed without being read, to find which of them are open at a place.
-ghost use Rattle.std.specs.Prelude.{◌≡◌, ◌<◌, ◌++◌, ◌∷◌, [], List, length, vec_len, vec_capacity, slice_index, ◌==◌, IfOk, MatchBool, Bool, Option, ℕ};
-ghost use Rattle.rwsp_terms.specs.Instance.{Instance};
-ghost use Rattle.refutation_terms.specs.declared.lines.Line.{Line};
-ghost use Rattle.refutation_terms.specs.Tree.{IsTree};
-ghost use Rattle.refutation_checker.specs.UnreadSplits.{LeadInto, EndInside, IsLinePassed};
+ghost use Rattle.std.specs.Prelude.{◌≡◌, ◌<◌, ◌++◌, ◌∷◌, [], length, vec_len, vec_capacity, slice_index, ◌==◌, IfOk};
+ghost use Rattle.refutation_checker.specs.UnreadSplits.{IsLeafPassed, IsLinePassed};
 
 use refutation_log::LineReader;
 use std::alloc::AllocError;
@@ -43,9 +40,7 @@ fn put_back<'a>(splits: &mut Vec<UnreadSplit<'a>>, split: UnreadSplit<'a>)
 // Passes the last line of a tree: each split whose second side ends with it is closed, and the innermost one that is in
 // its first side goes over to its second. Whether there is one; else the whole tree ends.
 fn pass_leaf(splits: &mut Vec<UnreadSplit>) -> bool
-    ensures { (P : Instance) (goal : Option ℕ) (counts : Bool) (lines : List Line) →
-        LeadInto P goal counts IsTree splits.old.items lines →
-        MatchBool result (EndInside P goal counts splits.new.items lines) (IsTree lines) }
+    ensures { IsLeafPassed splits.old.items splits.new.items result }
 {
     while let Some(split) = splits.pop() {
         if !split.in_second {

@@ -2,9 +2,10 @@
 ghost use Rattle.std.specs.Prelude.{◌≡◌, ◌≤◌, length, [], IfOk, false};
 ghost use Rattle.rwsp_terms.specs.declared.limits.TheConstants.{LONGEST_LOG, MOST_WORKERS};
 ghost use Rattle.rwsp_model.specs.Refusals.{MatchAnswer};
-ghost use Rattle.refutation_terms.specs.Log.{Log as LogValue, OpeningFits};
-ghost use Rattle.refutation_terms.specs.Verdict.{IsAccepted, IsRefused};
+ghost use Rattle.refutation_terms.specs.Log.{OpeningFits};
+ghost use Rattle.refutation_terms.specs.Verdict.{IsRefused};
 ghost use Rattle.refutation_log.specs.ReadLog.{HasLogsOf};
+ghost use Rattle.refutation_checker.specs.Accepted.{IsPassedText};
 ghost use Rattle.refutation_checker.specs.Starts.{StandsBehind};
 
 use crate::Chunk;
@@ -54,8 +55,7 @@ pub fn check_with<R: Threads + Sync, G: Gate>(
     requires long { length log.bytes.now ≤ LONGEST_LOG }
     requires workers { (1 ≤ workers) × (workers ≤ MOST_WORKERS) }
     ensures { MatchAnswer result
-        (λ passed. (g : LogValue) × IsAccepted problem.now log.entry.kind log.entry.bytes.now g
-        × (g.named ≡ passed.named) × (g.goal ≡ passed.goal))
+        (IsPassedText problem.now log.entry.kind log.entry.bytes.now)
         (IsRefused problem.now log.entry.kind log.entry.bytes.now) }
 {
     let header = match judge_header(alloc, problem, log.kind, log.bytes) {
@@ -92,8 +92,7 @@ pub fn check(
     requires kind { HasLogsOf problem.now kind }
     requires long { length bytes.now ≤ LONGEST_LOG }
     ensures { MatchAnswer result
-        (λ passed. (g : LogValue) × IsAccepted problem.now kind bytes.now g
-        × (g.named ≡ passed.named) × (g.goal ≡ passed.goal))
+        (IsPassedText problem.now kind bytes.now)
         (IsRefused problem.now kind bytes.now) }
 {
     let header = match judge_header(alloc, problem, kind, bytes) {

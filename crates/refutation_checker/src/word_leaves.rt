@@ -3,11 +3,12 @@ ghost use Rattle.std.specs.Prelude.{◌<◌, ◌≤◌, IfOk, MatchOption};
 ghost use Rattle.rwsp_terms.specs.Instance.{cells};
 ghost use Rattle.rwsp_terms.specs.declared.limits.TheConstants.{LONGEST_WORD};
 ghost use Rattle.refutation_terms.specs.declared.lines.Opening.TheVariants.{Full};
-ghost use Rattle.refutation_terms.specs.WordsLeaf.{IsDead, WordsFit, WordsHold, WordsEscape};
-ghost use Rattle.refutation_terms.specs.Escape.{IsLeastClean};
+ghost use Rattle.refutation_terms.specs.WordsLeaf.{WordsFit};
 ghost use Rattle.refutation_terms.specs.Log.{GoalFits, LineFits};
 ghost use Rattle.refutation_terms.specs.Verdict.{Escapes};
 ghost use Rattle.domain_store.specs.Store.{BelongsTo, has_domain};
+ghost use Rattle.clean_words.specs.Found.{IsLeastFound};
+ghost use Rattle.potential_bounds.specs.Claims.{IsEscapeFound};
 ghost use Rattle.refutation_checker.specs.LineVerdicts.{HasNoList, HasList, HoldsByWords};
 
 use clean_words::{Automaton, CleanWords, escape};
@@ -65,9 +66,8 @@ fn words_escape(
     requires domains { BelongsTo automaton.now.problem doms.now }
     requires goal { GoalFits automaton.now.problem Full goal }
     requires fits { WordsFit automaton.now.problem goal p automaton.now.rules claim.now }
-    ensures { let P = automaton.now.problem in let D = has_domain doms.now in let R = automaton.now.rules in
-        IfOk result (λ found. MatchOption found
-        (WordsHold P goal D p R claim.now) (WordsEscape P goal D p R claim.now)) }
+    ensures { let A = automaton.now in
+        IfOk result (IsEscapeFound A.problem goal (has_domain doms.now) p A.rules claim.now) }
 {
     match claim {
         WordClaim::Dead { len } => dead_escape(alloc, automaton, doms, p, *len),
@@ -99,9 +99,7 @@ fn dead_escape(
     requires domains { BelongsTo automaton.now.problem doms.now }
     requires position { p < cells automaton.now.problem }
     requires long { len ≤ LONGEST_WORD }
-    ensures { IfOk result (λ found. MatchOption found
-        (IsDead automaton.now.problem (has_domain doms.now) p len automaton.now.rules)
-        (IsLeastClean automaton.now.problem (has_domain doms.now) p len automaton.now.rules)) }
+    ensures { IfOk result (IsLeastFound automaton.now.problem (has_domain doms.now) p len automaton.now.rules) }
 {
     let words = CleanWords {
         automaton,

@@ -13,8 +13,9 @@ use Rattle.refutation_terms.specs.declared.lines.LogRefusal.TheVariants as Refus
 use Rattle.refutation_terms.specs.Ranges.{AreRules}
 use Rattle.refutation_terms.specs.Tree.{IsTree}
 use Rattle.refutation_terms.specs.Log.{Log, Fits}
-use Rattle.refutation_terms.specs.LogText.{lines_text, log_text}
+use Rattle.refutation_terms.specs.LogText.{header_text, lines_text, log_text}
 use Rattle.refutation_terms.specs.Verdict.{kind_by, Front, BeforeTurn, BeforeGoal, Reading, IsFrontOf, Cause, IsRefusedBehindFront, EndsWithFront}
+use Rattle.refutation_log.specs.declared.header.Header.{Header}
 use Rattle.refutation_log.specs.declared.refusal.LineRefusal.TheVariants as Lines
 use Rattle.refutation_log.specs.Refusals.{IsLineRefused}
 
@@ -84,3 +85,10 @@ IsTreeLineRefused P goal counts bytes n why = ⊥
 abbrev pub open_after : ℕ → Line → ℕ
 open_after n (Split p x) = n + 1
 open_after n leaf = n - 1
+
+-- the log with this header and these lines, and the text of its header
+abbrev pub log_under : Header → List Line → Log
+log_under h lines = log_with h.named h.opening h.goal h.counts lines
+
+abbrev pub text_of_header : Instance → Header → List ℕ
+text_of_header P h = header_text P h.named h.opening h.goal h.counts
