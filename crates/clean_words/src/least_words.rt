@@ -4,7 +4,7 @@ ghost use Rattle.refutation_terms.specs.WordsLeaf.{IsDead};
 ghost use Rattle.refutation_terms.specs.Escape.{IsLeastClean};
 ghost use Rattle.domain_store.specs.Store.{has_domain};
 
-use crate::{CleanWords, Gain, HeavyWord, heaviest};
+use crate::{CleanWords, Gain, HeavyWord, heaviest_by_gain};
 use rwsp_terms::{Symbol, Word};
 use std::alloc::{AllocError, Global};
 
@@ -16,7 +16,7 @@ pub fn escape(alloc: Global, words: &CleanWords<'_>) -> Result<Option<Word>, All
         (IsDead A.problem (has_domain doms) p days A.rules)
         (λ w. IsLeastClean A.problem (has_domain doms) p days A.rules w)) }
 {
-    match heaviest(alloc, words, &NoGain, 0)? {
+    match heaviest_by_gain(alloc, words, &NoGain, 0)? {
         Some(HeavyWord { weight: _, word }) => Ok(Some(word)),
         None => Ok(None),
     }

@@ -8,7 +8,7 @@ ghost use Rattle.commands.specs.declared.second_file.SecondKind.TheVariants as K
 
 use crate::log_refusal::log_refusal_line;
 use crate::put::{put_labelled, put_numbers};
-use potential_bounds::Gate;
+use clean_words::Gate;
 use refutation_checker::{UncheckedLog, check_with};
 use refutation_log::{LogKind, LogRefusal};
 use rwsp_model::{Fail, Problem};

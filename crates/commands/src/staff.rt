@@ -6,8 +6,8 @@ ghost use Rattle.rwsp_terms.specs.declared.limits.TheConstants.{MOST_WEEKS, MOST
 ghost use Rattle.commands.specs.Staff.{IsStaffAnswer, IsStaffAnswerOf, staff_answer_text, end_status, staff_status};
 
 use crate::put::put_labelled;
+use clean_words::Gate;
 use crew_size::{StaffEnd, StaffRun, print_staff};
-use potential_bounds::Gate;
 use roster_planner::least_crew;
 pub use roster_planner::{Effort, Sizes};
 use rwsp_model::Problem;

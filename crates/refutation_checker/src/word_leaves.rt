@@ -10,9 +10,8 @@ ghost use Rattle.refutation_terms.specs.Verdict.{Escapes};
 ghost use Rattle.domain_store.specs.Store.{BelongsTo, has_domain};
 ghost use Rattle.refutation_checker.specs.LineVerdicts.{HasNoList, HasList, HoldsByWords};
 
-use clean_words::{Automaton, CleanWords, escape};
+use clean_words::{Automaton, Claim, CleanWords, claim_escape, escape};
 use domain_store::Domains;
-use potential_bounds::{Claim, claim_escape};
 use refutation_terms::{Leaf, Line, Terms, WordClaim};
 use rwsp_terms::{RuleList, Word};
 use std::alloc::{AllocError, Global};
