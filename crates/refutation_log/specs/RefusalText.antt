@@ -6,7 +6,7 @@ use Rattle.rwsp_terms.specs.Instance.{Instance, IsSymbol, name_of}
 use Rattle.rwsp_terms.specs.declared.data.Symbol.{Symbol}
 use Rattle.refutation_terms.specs.declared.lines.LogRefusal.{LogRefusal}
 use Rattle.refutation_terms.specs.declared.lines.LogRefusal.TheVariants as Refusals
-use Rattle.commands.specs.Lines.{at_line}
+use Rattle.rwsp_text.specs.Labels.{at_line}
 
 -- the symbols of a word by their names, each behind a blank
 abbrev pub word_text : Instance → List Symbol → List ℕ

@@ -1,4 +1,4 @@
-use Rattle.commands.proofs.log_refusal.put_refusal.Goals as goal
+use Rattle.refutation_log.proofs.refusal_text.put_log_refusal.Goals as goal
 
 pub returns-in-Form : goal.returns-in-Form
 returns-in-Form c = rw c.in-Form.is (rw c.as_slice.ensures at c.put_line_number.ensures)
