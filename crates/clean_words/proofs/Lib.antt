@@ -17,3 +17,12 @@ pub mod Growing
 pub mod Tailed
 pub mod Images
 pub mod StepLists
+pub mod Products
+pub mod GrowingWeights
+pub mod FreeWords
+pub mod HeavyWords
+pub mod Chunks
+pub mod Stepping
+pub mod Searching
+pub mod WeightRows
+pub mod LeafWords

@@ -12,3 +12,11 @@ pub mod Moves
 pub mod Automata
 pub mod States
 pub mod Tables
+pub mod Days
+pub mod Heaviest
+pub mod First
+pub mod Searched
+pub mod WeightTables
+pub mod Gains
+pub mod Claims
+pub mod Hull

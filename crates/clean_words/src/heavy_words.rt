@@ -19,7 +19,7 @@ pub struct HeavyWord {
 /// The heaviest of the words, and the least of its weight, if it weighs `least` at least; None exactly where every clean
 /// word weighs less. No word is sought then. Its memory grows with the states of each 128th day, its time with the
 /// states times the symbols of all days.
-pub fn heaviest<G: Gain>(
+pub fn heaviest_by_gain<G: Gain>(
     alloc: Global,
     words: &CleanWords<'_>,
     gain: &G,

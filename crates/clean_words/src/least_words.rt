@@ -3,7 +3,7 @@ ghost use Rattle.std.specs.Prelude.{IfOk, pos};
 ghost use Rattle.domain_store.specs.Store.{has_domain};
 ghost use Rattle.clean_words.specs.Found.{IsLeastFound};
 
-use crate::{CleanWords, Gain, HeavyWord, heaviest};
+use crate::{CleanWords, Gain, HeavyWord, heaviest_by_gain};
 use rwsp_terms::{Symbol, Word};
 use std::alloc::{AllocError, Global};
 
@@ -12,7 +12,7 @@ pub fn escape(alloc: Global, words: &CleanWords<'_>) -> Result<Option<Word>, All
     ensures { let W = words.now in let A = W.automaton.now in
         IfOk result (IsLeastFound A.problem (has_domain W.domains.now) W.position W.days A.rules) }
 {
-    match heaviest(alloc, words, &NoGain, 0)? {
+    match heaviest_by_gain(alloc, words, &NoGain, 0)? {
         Some(HeavyWord { weight: _, word }) => Ok(Some(word)),
         None => Ok(None),
     }

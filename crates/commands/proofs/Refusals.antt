@@ -29,9 +29,9 @@ use Rattle.crew_size.specs.Sizes.{with_weeks}
 use Rattle.crew_size.specs.Verdict.{IsStaffRefused}
 use Rattle.crew_size.specs.declared.verdict.StaffRefusal.{StaffRefusal}
 use Rattle.crew_size.specs.declared.verdict.StaffRefusal.TheVariants as Failures
-use Rattle.commands.specs.LogRefusals.{HasSymbols}
+use Rattle.refutation_log.specs.RefusalText.{HasSymbols}
 use Rattle.roster_checker.specs.BreaksText.{HasBroken}
-use Rattle.commands.specs.CheckStaff.{NamesItsOwn}
+use Rattle.crew_size.specs.RefusalText.{NamesItsOwn}
 
 -- the symbols of a word over domains that have no others
 

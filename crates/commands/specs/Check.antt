@@ -10,7 +10,7 @@ use Rattle.refutation_terms.specs.Log.{Log}
 use Rattle.refutation_terms.specs.Verdict.{IsAccepted, IsRefused}
 use Rattle.refutation_terms.specs.FreeWeekends.{free_weekends}
 use Rattle.commands.specs.Lines.{line}
-use Rattle.commands.specs.LogRefusals.{log_refusal_text, HasSymbols}
+use Rattle.refutation_log.specs.RefusalText.{log_refusal_text, HasSymbols}
 use Rattle.commands.specs.declared.check.Answer.{Answer}
 use Rattle.commands.specs.declared.check.Answer.TheVariants.{Accepted, Refused}
 

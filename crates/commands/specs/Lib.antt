@@ -1,7 +1,6 @@
 pub mod Lines
 pub mod Files
 pub mod ProblemFile
-pub mod LogRefusals
 pub mod Plan
 pub mod Verify
 pub mod Check

@@ -6,10 +6,6 @@ use Rattle.std.specs.Fmt.{decimal}
 abbrev pub line : List ℕ → List ℕ
 line text = text ++ 10 ∷ []
 
--- a label, and the number of a line
-abbrev pub at_line : List ℕ → ℕ → List ℕ
-at_line label number = label ++ codes " line " ++ decimal number
-
 -- the line that answers that a week has not the days that the command asks for
 abbrev pub not_weekly_line : ℕ → List ℕ
 not_weekly_line days = line (codes "not weekly: days " ++ decimal days)

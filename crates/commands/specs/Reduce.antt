@@ -8,7 +8,7 @@ use Rattle.refutation_terms.specs.Strip.{IsReduced}
 use Rattle.refutation_terms.specs.Verdict.{IsAccepted, IsRefused}
 use Rattle.refutation_log.specs.Needs.{NeedsEach, NeedsTogether}
 use Rattle.commands.specs.Lines.{line}
-use Rattle.commands.specs.LogRefusals.{log_refusal_text, HasSymbols}
+use Rattle.refutation_log.specs.RefusalText.{log_refusal_text, HasSymbols}
 use Rattle.commands.specs.declared.reduce.Answer.{Answer}
 use Rattle.commands.specs.declared.reduce.Answer.TheVariants.{Reduced, Refused}
 

@@ -7,13 +7,14 @@ ghost use Rattle.commands.specs.Check.{IsChecked, IsCheckedOf, check_text, check
 ghost use Rattle.commands.specs.declared.second_file.SecondKind.TheVariants as Kinds;
 
 use crate::log_refusal::log_refusal_line;
-use crate::put::{put_labelled, put_numbers};
-use potential_bounds::Gate;
+use crate::put::put_numbers;
+use clean_words::Gate;
 use refutation_checker::{UncheckedLog, check_with};
 use refutation_log::{LogKind, LogRefusal};
 use rwsp_model::{Fail, Problem};
 use rwsp_terms::RuleList;
 use rwsp_terms::limits::MOST_WORKERS;
+use rwsp_text::put_labelled;
 use std::alloc::{AllocError, Global};
 use std::thread::Threads;
 

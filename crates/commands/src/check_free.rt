@@ -6,7 +6,7 @@ ghost use Rattle.commands.specs.Check.{IsChecked, IsCheckedOf};
 ghost use Rattle.commands.specs.declared.second_file.SecondKind.TheVariants as Kinds;
 
 use crate::check::{Answer, checked};
-use potential_bounds::Gate;
+use clean_words::Gate;
 use refutation_checker::UncheckedLog;
 use refutation_log::LogKind;
 use rwsp_model::Problem;

@@ -6,9 +6,9 @@ ghost use Rattle.commands.specs.declared.second_file.SecondKind.TheVariants as K
 
 mod texts;
 
+use clean_words::Gate;
 use crew_checker::check_staff;
 use crew_size::{StaffRefusal, Staffed};
-use potential_bounds::Gate;
 use rwsp_model::{Fail, Problem};
 use rwsp_terms::limits::USUAL_WORKERS;
 use std::alloc::{AllocError, Global};

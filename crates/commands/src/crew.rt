@@ -10,13 +10,13 @@ ghost use Rattle.commands.specs.Files.{IsWithinLimit};
 ghost use Rattle.commands.specs.declared.second_file.SecondKind.TheVariants as Kinds;
 ghost use Rattle.commands.specs.Crew.{IsCrewAnswer, IsCrewAnswerOf, crew_text, crew_status};
 
-use crate::put::put_labelled;
 use crate::verify::{RosterFault, fault_line, fault_status};
 use crew_calendar::{CivilDate, crew_table, duties};
 use roster_checker::first_broken;
 use roster_print::read_roster;
 use rwsp_model::{Fail, Problem, Roster};
 use rwsp_terms::limits::LONGEST_CALENDAR;
+use rwsp_text::put_labelled;
 use std::alloc::{AllocError, Global};
 use std::marker::Model;
 

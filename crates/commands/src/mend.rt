@@ -4,7 +4,7 @@ ghost use Rattle.commands.specs.Mend.{IsMendAnswer};
 ghost use Rattle.ways_out.specs.Answers.{AreWaysOf};
 ghost use Rattle.ways_out.specs.Texts.{ways_text, ways_status};
 
-use potential_bounds::Gate;
+use clean_words::Gate;
 use roster_planner::Effort;
 use rwsp_model::Problem;
 use rwsp_terms::limits::{GREATEST_BUDGET, USUAL_WORKERS};

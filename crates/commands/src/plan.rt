@@ -2,7 +2,7 @@
 ghost use Rattle.std.specs.Prelude.{◌≡◌, ◌≤◌, IfOk};
 ghost use Rattle.commands.specs.Plan.{IsPlanAnswer, plan_text, plan_status, IsPlanOf};
 
-use potential_bounds::Gate;
+use clean_words::Gate;
 use refutation_log::{Found, print_log};
 pub use roster_planner::Effort;
 use roster_planner::plan_roster;

@@ -10,7 +10,7 @@ ghost use Rattle.commands.specs.Reduce.{IsReduction, IsReductionOf, reduce_text,
 ghost use Rattle.commands.specs.declared.second_file.SecondKind.TheVariants as Kinds;
 
 use crate::log_refusal::log_refusal_line;
-use potential_bounds::Gate;
+use clean_words::Gate;
 use refutation_checker::{UncheckedLog, check_with};
 use refutation_log::{Log, LogKind, LogRefusal, print_log, read_log};
 use rule_reducer::reduce_in_place;

@@ -4,11 +4,11 @@ ghost use Rattle.std.specs.Fmt.{decimal};
 ghost use Rattle.commands.specs.Lines.{line};
 ghost use Rattle.commands.specs.Rest.{IsRestAnswer, rest_text, rest_status};
 
-use crate::put::put_labelled;
 use made_problems::{LeastRest, require_rest, rosters_rest};
 use rwsp_file::{canonical_texts_spell, print_problem};
 use rwsp_model::Problem;
 use rwsp_terms::limits::LONGEST_REST;
+use rwsp_text::put_labelled;
 use std::alloc::{AllocError, Global};
 
 /// The problem with at least this many minutes between the end of a shift and the start of the next within two days.

@@ -5,8 +5,8 @@ ghost use Rattle.commands.specs.Trial.{IsTried, IsTrial, IsTrialText};
 
 mod texts;
 
+use clean_words::Gate;
 use made_problems::{gen_problem, hidden_rosters_meet};
-use potential_bounds::Gate;
 use refutation_log::Found;
 use roster_planner::{Effort, plan_roster};
 use rwsp_model::Problem;

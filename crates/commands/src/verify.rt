@@ -12,7 +12,7 @@ use roster_checker::{Broken, first_broken};
 use roster_print::{RosterRefusal, read_roster};
 use rwsp_model::{Fail, Problem, Roster};
 use std::alloc::{AllocError, Global};
-pub use texts::{fault_line, put_roster_refusal};
+pub use texts::fault_line;
 
 /// What is wrong with the bytes of a roster.
 #[derive(Drop)]

@@ -1,12 +1,13 @@
 -- The texts of the crew's calendar.
-use Rattle.std.specs.Prelude.{◌≡◌, ℕ, zero, suc, ◌+◌, ◌-◌, ◌*◌, ◌/◌, ◌%◌, List, [], ◌∷◌, ◌++◌, slice_get, Option, Some, None, codes}
+use Rattle.std.specs.Prelude.{◌≡◌, ℕ, zero, suc, ◌+◌, ◌*◌, ◌/◌, ◌%◌, List, [], ◌∷◌, ◌++◌, codes}
 use Rattle.std.specs.List.{flat_map, range_with_len}
 use Rattle.rwsp_terms.specs.Instance.{Instance, name_of}
 use Rattle.rwsp_terms.specs.declared.data.Symbol.{Symbol}
-use Rattle.rwsp_terms.specs.declared.data.ShiftRow.{ShiftRow}
 use Rattle.crew_calendar.specs.Crew.{employees, symbol_on}
 use Rattle.crew_calendar.specs.declared.dates.TheConstants.{MOST_DAYS_LATER}
 use Rattle.crew_calendar.specs.Calendar.{Date, date_text, IsCalendar}
+-- the minutes of a day, when a shift starts, and how many minutes it has
+pub use Rattle.rwsp_terms.specs.Times.{day_minutes, start_in, length_in, start_of, length_of}
 
 -- the names of the symbols of all employees on a day, each after a blank
 abbrev pub crew_text : Instance → List Symbol → ℕ → List ℕ
@@ -20,10 +21,6 @@ day_line P s on t = date_text (on t) ++ crew_text P s t ++ 10 ∷ []
 abbrev pub table_text : Instance → List Symbol → (ℕ → Date) → ℕ → List ℕ
 table_text P s on days = flat_map (day_line P s on) (range_with_len 0 days)
 
--- the minutes of a day
-abbrev pub day_minutes : ℕ
-day_minutes = 24 * 60
-
 -- a number below 100, in two digits
 abbrev pub two_digits : ℕ → List ℕ
 two_digits n = (48 + n / 10) ∷ (48 + n % 10) ∷ []
@@ -35,21 +32,6 @@ clock_text minutes = two_digits (minutes / 60) ++ 58 ∷ two_digits (minutes % 6
 -- the date and the time, given in minutes after the first date's midnight
 abbrev pub moment_text : (ℕ → Date) → ℕ → List ℕ
 moment_text on minutes = date_text (on (minutes / day_minutes)) ++ 32 ∷ clock_text (minutes % day_minutes)
-
--- when a shift starts, in minutes after midnight, and how many minutes it has
-abbrev pub start_in : Option ShiftRow → ℕ
-start_in None = 0
-start_in (Some row) = row.start
-
-abbrev pub length_in : Option ShiftRow → ℕ
-length_in None = 0
-length_in (Some row) = row.length
-
-abbrev pub start_of : Instance → Symbol → ℕ
-start_of P x = start_in (slice_get P.shifts (x.number - 1))
-
-abbrev pub length_of : Instance → Symbol → ℕ
-length_of P x = length_in (slice_get P.shifts (x.number - 1))
 
 -- the line of a shift that begins on day t
 abbrev pub shift_line : Instance → (ℕ → Date) → ℕ → Symbol → List ℕ

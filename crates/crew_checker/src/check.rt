@@ -5,8 +5,8 @@ ghost use Rattle.rwsp_model.specs.Refusals.{MatchAnswer};
 ghost use Rattle.crew_size.specs.Verdict.{IsStaffAccepted, IsStaffRefused};
 
 use crate::sections::Sections;
+use clean_words::Gate;
 use crew_size::{StaffRefusal, Staffed};
-use potential_bounds::Gate;
 use rwsp_model::{Fail, Problem};
 use std::alloc::Global;
 use std::thread::Threads;

@@ -11,10 +11,10 @@ ghost use Rattle.crew_size.specs.Texts.{refuted_line, roster_line, none_line};
 ghost use Rattle.crew_size.specs.Places.{Place, IsPlace, IsAt, IsNextOf, IsLastOf, IsHeadingNumber, MayFollow, heading_line, IsShortPlace, IsFurther, IsHeadingAnswer, first_size};
 ghost use Rattle.crew_size.specs.declared.heading.Heading.{Heading};
 
+use clean_words::Gate;
 use crew_size::{
     Heading, StaffRefusal, Staffed, count_feeds, heading_of, may_stand, section_end, with_weeks,
 };
-use potential_bounds::Gate;
 use refutation_checker::{UncheckedLog, check_with};
 use refutation_log::{LineReader, LogKind, LogRefusal};
 use roster_checker::first_broken;

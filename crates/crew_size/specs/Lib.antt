@@ -4,5 +4,6 @@ pub mod Fitting
 pub mod Runs
 pub mod Sections
 pub mod Verdict
+pub mod RefusalText
 pub mod Places
 pub mod Laws

@@ -5,6 +5,7 @@
 mod heading;
 mod laws;
 mod print;
+mod refusal_text;
 mod run;
 mod section;
 mod sizes;
@@ -16,6 +17,7 @@ pub use laws::{
     searches_agree, searches_decide, staff_texts_have_one_verdict,
 };
 pub use print::print_staff;
+pub use refusal_text::put_staff_refusal;
 pub use run::{StaffEnd, StaffRun};
 pub use section::{count_feeds, section_end};
 pub use sizes::{is_size, with_weeks};

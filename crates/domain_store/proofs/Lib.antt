@@ -5,3 +5,11 @@ pub mod Stack
 pub mod Idle
 pub mod Moves
 mod Pairs
+mod Lying
+mod Shapes
+pub mod Words
+mod Starts
+mod Found
+pub mod Positions
+pub mod Blocked
+mod BlockCounts

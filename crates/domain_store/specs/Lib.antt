@@ -7,3 +7,6 @@ pub mod States
 pub mod Looks
 pub mod Cycles
 pub mod Leaves
+pub mod Views
+pub mod Patterns
+pub mod BadWindows

@@ -7,9 +7,9 @@ mod answer_words_tests;
 #[cfg(test)]
 mod crew_calendar_tests;
 #[cfg(test)]
-mod made_problems_tests;
+mod hull_tests;
 #[cfg(test)]
-mod nearest_point_tests;
+mod made_problems_tests;
 #[cfg(test)]
 mod plain_words_tests;
 #[cfg(test)]

@@ -1,24 +1,9 @@
 -- When shifts start and end, and the rest between them.
-use Rattle.std.specs.Prelude.{ℕ, ◌+◌, ◌-◌, ◌*◌, ◌≤◌, slice_get, Option, Some, None, Bool, nat_lt}
+use Rattle.std.specs.Prelude.{ℕ, ◌+◌, ◌-◌, ◌*◌, ◌≤◌, slice_get, Bool, nat_lt}
 use Rattle.rwsp_terms.specs.Instance.{Instance}
 use Rattle.rwsp_terms.specs.declared.data.Symbol.{Symbol}
-use Rattle.rwsp_terms.specs.declared.data.ShiftRow.{ShiftRow}
-
--- the minutes of a day
-abbrev pub day_minutes : ℕ
-day_minutes = 24 * 60
-
-abbrev pub start_in : Option ShiftRow → ℕ
-start_in None = 0
-start_in (Some row) = row.start
-
-abbrev pub length_in : Option ShiftRow → ℕ
-length_in None = 0
-length_in (Some row) = row.length
-
--- when a shift starts, in minutes after midnight
-abbrev pub start_of : Instance → Symbol → ℕ
-start_of P x = start_in (slice_get P.shifts (x.number - 1))
+-- the minutes of a day, when a shift starts, and how long it is
+pub use Rattle.rwsp_terms.specs.Times.{day_minutes, start_in, length_in, start_of}
 
 -- when it ends, in minutes after the midnight before it starts
 abbrev pub end_of : Instance → Symbol → ℕ

@@ -4,7 +4,7 @@ use Rattle.rwsp_terms.specs.declared.data.Weight.{Weight}
 use Rattle.rwsp_terms.specs.Instance.{Instance, shift_count, IsDay}
 use Rattle.rwsp_terms.specs.Places.{SetsWeight}
 use Rattle.refutation_terms.specs.Ranges.{AreWeightsOf}
-use Rattle.potential_bounds.proofs.Stepping.{zero_outside, of_problem}
+use Rattle.clean_words.proofs.Stepping.{zero_outside, of_problem}
 
 -- weights of the problem are still such where one of them is set
 pub set_fits : (P : Instance) (old new : List Weight) (j x : ℕ) (v : ℤ) → AreWeightsOf P old → SetsWeight old new j x v → IsDay P j → x ≤ shift_count P → AreWeightsOf P new

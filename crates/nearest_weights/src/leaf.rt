@@ -8,7 +8,7 @@ ghost use Rattle.nearest_weights.specs.Fields.{IsField, IsLeafIn};
 
 use crate::demand::Shape;
 use crate::field::Field;
-use potential_bounds::{Claim, claim_escape};
+use clean_words::{Claim, claim_escape};
 use refutation_terms::{Leaf, Line, WordClaim};
 use rwsp_model::Problem;
 use rwsp_terms::limits::{GREATEST_REWARD, GREATEST_WEIGHT, LONGEST_WORD};

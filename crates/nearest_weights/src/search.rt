@@ -4,7 +4,7 @@ ghost use Rattle.std.specs.Prelude.{◌≤◌, IfOk, IfSome};
 use crate::demand::times;
 use crate::field::Field;
 use crate::sweep::Sweep;
-use nearest_point::{Hull, SCALE};
+use clean_words::{Hull, SCALE};
 use rwsp_terms::limits::GREATEST_WEIGHT;
 use std::alloc::{AllocError, Global};
 

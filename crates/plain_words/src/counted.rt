@@ -10,7 +10,7 @@ use crate::span::{
     put_misfit, put_no_block, put_span, room_for,
 };
 use crate::words::put_days;
-use plain_leaves::blocks_holds;
+use domain_store::blocks_holds;
 use rwsp_model::Problem;
 use rwsp_terms::limits::{GREATEST_BOUND, MOST_WEEKS};
 use rwsp_terms::{Bounds, Class, Symbol};

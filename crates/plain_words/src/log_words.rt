@@ -12,7 +12,7 @@ ghost use Rattle.plain_words.specs.Statements.{StatementFits};
 ghost use Rattle.plain_words.specs.LogWords.{SomeCites, IsLoneTurn, day_number, rule_statement, AreThose, symbols, counts_blocks, IsCounted, first_statement, reason_statements, IsReason, is_open, is_closed, IsSaidOfLog, rosters_by};
 
 use crate::statement::{Rosters, Statement};
-use plain_leaves::blocks_holds;
+use domain_store::blocks_holds;
 use refutation_log::{Log, put_cited};
 use refutation_terms::{Leaf, Line, Opening, Turn};
 use rwsp_model::{Problem, number_of};

@@ -19,7 +19,7 @@ mod trials;
 
 ghost use Rattle.std.specs.Prelude.{◌<◌};
 
-use potential_bounds::{Gate, NoGate};
+use clean_words::{Gate, NoGate};
 use rwsp_run::{Outcome, run};
 use std::alloc::{AllocError, Global};
 use std::test::Fail;

@@ -8,10 +8,10 @@ use Rattle.rwsp_terms.specs.declared.limits.TheConstants.{LONGEST_WORD}
 use Rattle.rwsp_terms.specs.Instance.{Instance, cells}
 use Rattle.rwsp_terms.specs.Rules.{rules, rule_of}
 use Rattle.domain_store.specs.Store.{Store, has_domain}
-use Rattle.plain_leaves.specs.declared.bad_windows.BadWindow.{BadWindow}
-use Rattle.plain_leaves.specs.Views.{left_in, MayStand, AreAllBad}
-use Rattle.plain_leaves.specs.BadWindows.{HasNoneOver, IsBadNear}
-use Rattle.plain_leaves.proofs.Blocked.{all_bad_blocked, blocked_all_bad}
+use Rattle.domain_store.specs.declared.bad_windows.BadWindow.{BadWindow}
+use Rattle.domain_store.specs.Views.{left_in, MayStand, AreAllBad}
+use Rattle.domain_store.specs.BadWindows.{HasNoneOver, IsBadNear}
+use Rattle.domain_store.proofs.Blocked.{all_bad_blocked, blocked_all_bad}
 use Rattle.propagators.specs.Windows.{IsWindow, NoWindowOver}
 
 -- the same position in another round

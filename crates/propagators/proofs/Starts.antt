@@ -30,8 +30,8 @@ use Rattle.refutation_terms.specs.Sharp.{plain_bounds, weights_on, both_signs, I
 use Rattle.refutation_terms.proofs.SameDomains.{turned_round}
 use Rattle.domain_store.specs.Sets.{has_symbol, IsDomain}
 use Rattle.domain_store.specs.Store.{Store, IsStore, domain_at, has_domain}
-use Rattle.potential_bounds.specs.First.{IsFirstHolding}
-use Rattle.potential_bounds.specs.Searched.{IsFirstSearched}
+use Rattle.clean_words.specs.First.{IsFirstHolding}
+use Rattle.clean_words.specs.Searched.{IsFirstSearched}
 use Rattle.domain_store.specs.Cycles.{AreShortRules}
 use Rattle.propagators.proofs.SameWords.{same_searched, same_at_top}
 use Rattle.propagators.specs.TopBounds.{IsTopBound, IsTopAnswer, IsTopWatch, TopWatch, IsBoundLook}

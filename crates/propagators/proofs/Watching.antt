@@ -13,7 +13,7 @@ use Rattle.refutation_terms.specs.WindowLeaf.{IsBlocked}
 use Rattle.refutation_terms.specs.Log.{LineFits}
 use Rattle.domain_store.specs.Sets.{has_symbol}
 use Rattle.domain_store.specs.Store.{Store, BelongsTo, domain_at, IsStore, HasDomains}
-use Rattle.plain_leaves.proofs.Domains.{positions}
+use Rattle.domain_store.proofs.Positions.{positions}
 use Rattle.domain_store.specs.Looks.{Closes}
 use Rattle.propagators.specs.Windows.{IsWindowLeaf, WindowWatch, has_known, LiesOver, IsWatch, IsSpan, NoWindowOver}
 

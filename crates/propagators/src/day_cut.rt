@@ -10,8 +10,7 @@ ghost use Rattle.propagators.specs.DayCuts.{TakesNoneOn, TakesNoneAtAll};
 ghost use Rattle.propagators.specs.Days.{AreCountsOf, TakesNone, IsSaturation, IsNeighbour, IsPlaceAnswer, IsDayCut};
 
 use crate::Counts;
-use domain_store::{Domains, Look};
-use plain_leaves::position_of;
+use domain_store::{Domains, Look, position_of};
 use refutation_terms::{Leaf, Line};
 use rwsp_model::Problem;
 use rwsp_terms::Symbol;

@@ -11,9 +11,8 @@ ghost use Rattle.domain_store.specs.Store.{Store, BelongsTo, has_domain};
 ghost use Rattle.domain_store.specs.Cycles.{AreShortRules};
 ghost use Rattle.propagators.specs.TopBounds.{IsStartBound, IsTopAnswer, IsTopWatch, IsBoundLook};
 
-use clean_words::Automaton;
+use clean_words::{Automaton, Gate, first_plain, plain_bounds, search_weights};
 use domain_store::{Domains, Look, Propagator};
-use potential_bounds::{Gate, first_plain, plain_bounds, search_weights};
 use refutation_terms::{Leaf, Line, WordClaim};
 use rwsp_model::Problem;
 use rwsp_terms::Weights;

@@ -7,8 +7,7 @@ ghost use Rattle.refutation_terms.specs.declared.lines.Leaf.TheVariants.{Window}
 ghost use Rattle.domain_store.specs.Store.{BelongsTo};
 ghost use Rattle.propagators.specs.Windows.{IsWindow, NoWindowOver};
 
-use domain_store::Domains;
-use plain_leaves::bad_window_over;
+use domain_store::{Domains, bad_window_over};
 use refutation_terms::{Leaf, Line};
 use rwsp_model::{Problem, rule_at, rule_count};
 use rwsp_terms::limits::LONGEST_WORD;

@@ -17,8 +17,7 @@ ghost use Rattle.refutation_checker.specs.Outside.{IsLeastOutside, IsLeastUnname
 use crate::outside::{
     day_outside, each_day_outside, least_day_outside, least_outside, lesser, outside, rules_outside,
 };
-use domain_store::Domains;
-use plain_leaves::{blocks_holds, day_holds, few_holds, window_holds};
+use domain_store::{Domains, blocks_holds, day_holds, few_holds, window_holds};
 use refutation_terms::{Leaf, Terms, WordClaim};
 use rwsp_model::Problem;
 use rwsp_terms::{Rule, RuleList, Symbol, Weights};

@@ -25,9 +25,9 @@ mod word_leaves;
 mod workers;
 
 pub use chunk_starts::chunks_for;
+pub use clean_words::{Gate, NoGate};
 pub use laws::texts_have_a_verdict;
 pub use leaf_judge::{LeafJudge, go_past};
 pub use log_check::check_log;
-pub use potential_bounds::{Gate, NoGate};
 pub use text_chunk::Chunk;
 pub use verdict::{PassedLog, UncheckedLog, check, check_with};

@@ -8,12 +8,11 @@ ghost use Rattle.refutation_terms.specs.Log.{GoalFits, LineFits};
 ghost use Rattle.refutation_terms.specs.Verdict.{Escapes};
 ghost use Rattle.domain_store.specs.Store.{BelongsTo, has_domain};
 ghost use Rattle.clean_words.specs.Found.{IsLeastFound};
-ghost use Rattle.potential_bounds.specs.Claims.{IsEscapeFound};
+ghost use Rattle.clean_words.specs.Claims.{IsEscapeFound};
 ghost use Rattle.refutation_checker.specs.LineVerdicts.{HasNoList, HasList, HoldsByWords};
 
-use clean_words::{Automaton, CleanWords, escape};
+use clean_words::{Automaton, Claim, CleanWords, claim_escape, escape};
 use domain_store::Domains;
-use potential_bounds::{Claim, claim_escape};
 use refutation_terms::{Leaf, Line, Terms, WordClaim};
 use rwsp_terms::{RuleList, Word};
 use std::alloc::{AllocError, Global};

@@ -9,7 +9,7 @@ ghost use Rattle.refutation_checker.specs.ChunkVerdicts.{IsAnswerTo, IsJudged, j
 use crate::chunk::judge_chunk;
 use crate::judge::Judging;
 use crate::{Chunk, chunks_for};
-use potential_bounds::Gate;
+use clean_words::Gate;
 use refutation_terms::LogRefusal;
 use rwsp_model::Fail;
 use std::alloc::Global;

@@ -6,6 +6,7 @@ pub mod Printing
 pub mod Reading
 pub mod ReadLog
 pub mod Refusals
+pub mod RefusalText
 pub mod Turns
 pub mod Planned
 pub mod Bests

@@ -15,6 +15,7 @@ mod one_leaf;
 mod print;
 mod read;
 mod refusal;
+mod refusal_text;
 mod turn;
 
 pub use best_found::BestFound;
@@ -30,6 +31,7 @@ pub use one_leaf::one_leaf_log;
 pub use print::print_log;
 pub use read::read_log;
 pub use refusal::LineRefusal;
+pub use refusal_text::put_log_refusal;
 pub use refutation_terms::{Leaf, Line, LogKind, LogRefusal, Opening, Terms, Turn, WordClaim};
 pub use rwsp_text::LineReader;
 pub use turn::first_turn;

@@ -8,9 +8,9 @@ use Rattle.rwsp_terms.specs.Instance.{Instance}
 use Rattle.rwsp_terms.specs.Roster.{HasNoWindow, MeetsRule}
 use Rattle.rwsp_terms.specs.Window.{Bad, window}
 use Rattle.rwsp_terms.proofs.Windows.{length-window}
-use Rattle.plain_leaves.specs.declared.bad_windows.BadWindow.{BadWindow}
-use Rattle.plain_leaves.specs.Views.{held_by, MayStand, AreAllBad}
-use Rattle.plain_leaves.specs.BadWindows.{HasNoneBefore, IsFirstBad}
+use Rattle.domain_store.specs.declared.bad_windows.BadWindow.{BadWindow}
+use Rattle.domain_store.specs.Views.{held_by, MayStand, AreAllBad}
+use Rattle.domain_store.specs.BadWindows.{HasNoneBefore, IsFirstBad}
 use Rattle.roster_checker.specs.FirstBroken.{IsFirstWindow}
 use Rattle.roster_checker.specs.declared.place.Place.{Place}
 use Rattle.roster_checker.specs.Places.{IsFirstPlace}

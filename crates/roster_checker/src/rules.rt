@@ -9,7 +9,7 @@ ghost use Rattle.roster_checker.specs.Places.{IsFirstPlace};
 
 use crate::days::day_is_met;
 use crate::place::Place;
-use plain_leaves::first_bad_window;
+use domain_store::first_bad_window;
 use rwsp_model::{Problem, Roster};
 use rwsp_terms::Rule;
 

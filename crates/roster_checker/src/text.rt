@@ -1,22 +1,13 @@
 // The text of the first rule that a roster breaks.
 ghost use Rattle.std.specs.Prelude.{◌≡◌, ◌++◌, OnOk};
-ghost use Rattle.std.specs.Fmt.{decimal};
 ghost use Rattle.roster_checker.specs.BreaksText.{place_text, breaks_text, HasBroken};
 
 use crate::broken::Broken;
 use roster_print::put_rule;
 use rwsp_model::{Problem, rule_at};
 use rwsp_terms::Rule;
-use rwsp_text::put_number;
+use rwsp_text::put_labelled;
 use std::alloc::AllocError;
-
-// Appends a label and a number.
-fn put_labelled(out: &mut Vec<u8>, label: &[u8], number: u32) -> Result<(), AllocError>
-    ensures { OnOk result (out.new.items ≡ out.old.items ++ label.now ++ decimal number) }
-{
-    out.extend_from_slice(label)?;
-    put_number(out, u64::from(number))
-}
 
 // Appends where the first bad window begins and how long it is; of a day, nothing.
 fn put_place(out: &mut Vec<u8>, rule: Rule, broken: &Broken) -> Result<(), AllocError>

@@ -9,7 +9,7 @@ use crate::quotas::Quota;
 use crate::random::Random;
 use crate::setting::Setting;
 use crate::table::Table;
-use nearest_point::{Hull, SCALE};
+use clean_words::{Hull, SCALE};
 use std::alloc::{AllocError, Global};
 
 /// About how many days a word has: enough that it comes back to a node, and a part of it leads round.

@@ -9,8 +9,7 @@ ghost use Rattle.refutation_log.specs.Planned.{NoPlainLeafHolds};
 ghost use Rattle.roster_planner.specs.Counted.{IsCountedProof, IsPlainLeaf, IsPlainLook};
 
 use crate::of_cases::plain_reasons;
-use domain_store::{Domains, Look, Propagator, Walk};
-use plain_leaves::first_blocks;
+use domain_store::{Domains, Look, Propagator, Walk, first_blocks};
 use refutation_log::{Log, one_leaf_log};
 use refutation_terms::{Leaf, Line, Opening, Terms};
 use rwsp_model::Problem;

@@ -5,9 +5,8 @@ ghost use Rattle.domain_store.specs.Cycles.{AreShortRules};
 ghost use Rattle.roster_planner.specs.Reasons.{AreReasons};
 
 use crate::{CaseReasons, case_reasons};
-use clean_words::Automaton;
+use clean_words::{Automaton, Gate};
 use domain_store::{Pair, Propagator, Walk};
-use potential_bounds::Gate;
 use propagators::RootBounds;
 use refutation_terms::Opening;
 use std::alloc::{AllocError, Global};

@@ -7,8 +7,8 @@ ghost use Rattle.crew_size.specs.Runs.{IsStaffed, IsStaffCounted};
 ghost use Rattle.crew_size.specs.Fitting.{FitsSizes};
 
 use crate::{Effort, plan_roster};
+use clean_words::Gate;
 use crew_size::{StaffEnd, StaffRun, with_weeks};
-use potential_bounds::Gate;
 use refutation_log::Found;
 use rwsp_model::Problem;
 use std::alloc::{AllocError, Global};

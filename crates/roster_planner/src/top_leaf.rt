@@ -8,9 +8,8 @@ ghost use Rattle.domain_store.specs.Cycles.{AreShortRules};
 ghost use Rattle.refutation_log.specs.Bests.{IsFreeProof};
 ghost use Rattle.refutation_log.specs.FreeSharp.{HoldsFreeAtTop, FailsFreeAtTop};
 
-use clean_words::Automaton;
+use clean_words::{Automaton, Claim, claim_escape};
 use domain_store::Domains;
-use potential_bounds::{Claim, claim_escape};
 use refutation_log::{Log, one_leaf_log};
 use refutation_terms::{Leaf, Opening, Terms, WordClaim};
 use rwsp_terms::{RuleList, Weights};

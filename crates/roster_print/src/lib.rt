@@ -6,6 +6,7 @@ mod names;
 mod print;
 mod read;
 mod refusal;
+mod refusal_text;
 mod rule;
 
 pub use laws::{
@@ -16,4 +17,5 @@ pub use names::put_after_blanks;
 pub use print::print_roster;
 pub use read::read_roster;
 pub use refusal::RosterRefusal;
+pub use refusal_text::put_roster_refusal;
 pub use rule::put_rule;

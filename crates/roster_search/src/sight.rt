@@ -12,8 +12,7 @@ ghost use Rattle.roster_search.specs.Written.{IsSearching};
 
 use crate::Guide;
 use crate::progress::Progress;
-use domain_store::{Domains, Look, Propagator};
-use plain_leaves::few_holds;
+use domain_store::{Domains, Look, Propagator, few_holds};
 use refutation_terms::{Leaf, Line};
 use rwsp_model::{Problem, Roster};
 use rwsp_terms::Symbol;

@@ -1,8 +1,8 @@
 //! Plans, checks and proves rotating workforce schedules.
 #![tactic(auto)]
 
+use clean_words::NoGate;
 use commands::Stop;
-use potential_bounds::NoGate;
 use rwsp_io::{RealShelf, RealSink, WordsFail, command_words};
 use rwsp_run::{Outcome, run};
 use std::process::ExitCode;

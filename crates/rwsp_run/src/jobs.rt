@@ -4,6 +4,7 @@ ghost use Rattle.command_line.specs.Commands.{IsProblemTaskInRange, IsFilesTaskI
 ghost use Rattle.commands.specs.Files.{IsWithinLimit};
 ghost use Rattle.rwsp_run.specs.Commands.{IsProblemAnswer, IsFilesAnswer, IsPrintable, job_text, second_kind};
 
+use clean_words::Gate;
 use command_line::{FilesTask, ProblemTask};
 use commands::plan::Effort;
 use commands::staff::Sizes;
@@ -12,7 +13,6 @@ use commands::{
     rest, roster, staff, verify,
 };
 use made_problems::LeastRest;
-use potential_bounds::Gate;
 use refutation_log::{BestFound, Found};
 use rwsp_file::print_problem;
 use rwsp_model::Problem;

@@ -10,9 +10,9 @@ ghost use Rattle.commands.specs.declared.trial.Answer.{Answer as TrialAnswer};
 
 use crate::answer::{Answer, Refusal};
 use crate::jobs::{JobAnswer, text_of};
+use clean_words::Gate;
 use command_line::usage;
 use commands::{explain, not_weekly_line, problem_refusal_line, too_long_line, trial};
-use potential_bounds::Gate;
 use rwsp_model::Problem;
 use rwsp_terms::limits::MOST_WEEKS;
 use std::alloc::{AllocError, Global};

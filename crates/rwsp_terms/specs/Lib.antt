@@ -4,3 +4,4 @@ pub mod Roster
 pub mod Rules
 pub mod Weights
 pub mod Places
+pub mod Times

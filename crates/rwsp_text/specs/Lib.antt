@@ -1,5 +1,6 @@
 pub mod Fields
 pub mod Kinds
+pub mod Labels
 pub mod Lexemes
 pub mod Lines
 pub mod Numbers

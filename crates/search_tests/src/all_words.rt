@@ -5,9 +5,8 @@ ghost use Rattle.rwsp_terms.specs.declared.limits.TheConstants.{LONGEST_WORD};
 ghost use Rattle.rwsp_terms.specs.Instance.{cells};
 ghost use Rattle.domain_store.specs.Store.{BelongsTo};
 
-use clean_words::{Automaton, CleanWords, HeavyWord, Told, escape};
+use clean_words::{Automaton, CleanWords, HeavyWord, Told, Weights, escape, heaviest};
 use domain_store::Domains;
-use potential_bounds::{Weights, heaviest};
 use rwsp_model::Problem;
 use rwsp_terms::{Bounds, Class, Symbol, Word};
 use std::alloc::{AllocError, Global};

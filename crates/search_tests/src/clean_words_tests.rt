@@ -2,9 +2,8 @@
 ghost use Rattle.std.specs.Prelude.{◌≡◌, ◌≤◌, IfOk};
 ghost use Rattle.domain_store.specs.Store.{BelongsTo};
 
-use clean_words::{Automaton, CleanWords, HeavyWord, Told, escape};
+use clean_words::{Automaton, CleanWords, HeavyWord, Told, Weights, escape, heaviest};
 use domain_store::Domains;
-use potential_bounds::{Weights, heaviest};
 use rwsp_model::Problem;
 use rwsp_terms::Symbol;
 use std::alloc::{AllocError, Global};

@@ -5,6 +5,8 @@
 #[cfg(test)]
 mod all_words;
 #[cfg(test)]
+mod bounds_tests;
+#[cfg(test)]
 mod clean_words_tests;
 #[cfg(test)]
 mod demand_counts_tests;
@@ -12,8 +14,6 @@ mod demand_counts_tests;
 mod kept_cycle_tests;
 #[cfg(test)]
 mod nearest_weights_tests;
-#[cfg(test)]
-mod potential_bounds_tests;
 #[cfg(test)]
 mod propagators_tests;
 #[cfg(test)]

@@ -4,9 +4,8 @@ ghost use Rattle.rwsp_terms.specs.Instance.{Instance};
 ghost use Rattle.rwsp_terms.specs.declared.limits.TheConstants.{MOST_WORKERS};
 ghost use Rattle.domain_store.specs.Store.{BelongsTo};
 
-use clean_words::{Automaton, Told};
+use clean_words::{Automaton, NoGate, Told};
 use domain_store::{Domains, Look, Pair, Propagator};
-use potential_bounds::NoGate;
 use propagators::{CycleProp, DayProp, RootBounds, WindowProp};
 use refutation_terms::{Leaf, Line, WordClaim};
 use rwsp_model::Problem;

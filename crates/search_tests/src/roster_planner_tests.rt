@@ -1,7 +1,7 @@
 // The search for the least crew by itself, and the text of what it gives.
+use clean_words::NoGate;
 use crew_checker::check_staff;
 use crew_size::{Staffed, is_size, print_staff, with_weeks};
-use potential_bounds::NoGate;
 use roster_planner::{Effort, Sizes, least_crew};
 use rwsp_model::Problem;
 use std::alloc::Global;

@@ -5,9 +5,8 @@ ghost use Rattle.rwsp_terms.specs.Instance.{Instance};
 ghost use Rattle.rwsp_terms.specs.Roster.{MeetsAll};
 ghost use Rattle.domain_store.specs.Looks.{HasPlainLeaves};
 
-use clean_words::Automaton;
+use clean_words::{Automaton, NoGate};
 use domain_store::{Domains, Look, Pair, Propagator};
-use potential_bounds::NoGate;
 use propagators::{DayProp, RootBounds, WindowProp};
 use refutation_log::Found;
 use refutation_terms::{Line, Opening};

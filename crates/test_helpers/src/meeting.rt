@@ -1,5 +1,5 @@
 // A gate at which two workers see each other, so that they are there at once.
-use potential_bounds::Gate;
+use clean_words::Gate;
 use std::sync::atomic::{AtomicBool, Ordering};
 
 // How often a worker looks for the other before it gives up, which takes ten seconds or so: on a machine that is busy

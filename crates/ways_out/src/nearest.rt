@@ -10,7 +10,7 @@ ghost use Rattle.ways_out.specs.Reached.{HasReached};
 use crate::change::{Change, Outcome};
 use crate::loosening::most_steps;
 use crate::plans::{NoRoster, judge};
-use potential_bounds::Gate;
+use clean_words::Gate;
 use roster_planner::Effort;
 use rwsp_model::Problem;
 use std::alloc::{AllocError, Global};

@@ -9,7 +9,7 @@ ghost use Rattle.ways_out.specs.Verdicts.{IsVerdict};
 
 use crate::change::Change;
 use crate::loosening::loosen;
-use potential_bounds::Gate;
+use clean_words::Gate;
 use refutation_log::Found;
 use roster_planner::{Effort, plan_roster};
 use rwsp_model::Problem;

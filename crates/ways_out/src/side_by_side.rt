@@ -10,7 +10,7 @@ ghost use Rattle.ways_out.specs.Columns.{IsColumn, AreColumns};
 use crate::change::{Change, Outcome};
 use crate::listed::changed_rule;
 use crate::nearest::outcome_of;
-use potential_bounds::Gate;
+use clean_words::Gate;
 use roster_planner::Effort;
 use rwsp_model::{Problem, number_of};
 use rwsp_terms::RuleList;

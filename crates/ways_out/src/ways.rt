@@ -8,7 +8,7 @@ use crate::answer::WaysOut;
 use crate::listed::changes_in;
 use crate::plans::plan_within;
 use crate::side_by_side::{Refuted, outcomes_of};
-use potential_bounds::Gate;
+use clean_words::Gate;
 use refutation_log::{Found, Log};
 use roster_planner::Effort;
 use rule_reducer::reduce_in_place;

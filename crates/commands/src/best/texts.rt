@@ -4,11 +4,11 @@ ghost use Rattle.refutation_terms.specs.Log.{Fits};
 ghost use Rattle.refutation_terms.specs.LogText.{log_text};
 ghost use Rattle.commands.specs.Best.{counted_text, found_text, IsWeeklyRoster, IsRosterFound};
 
-use crate::put::put_labelled;
 use refutation_log::{Log, print_log};
 use roster_checker::free_weekends;
 use roster_print::print_roster;
 use rwsp_model::{Problem, Roster};
+use rwsp_text::put_labelled;
 use std::alloc::{AllocError, Global};
 
 // Appends how many free weekends the roster has, and the roster.

@@ -1,20 +1,13 @@
 // The texts of the answers to a staff text.
-ghost use Rattle.std.specs.Prelude.{◌≡◌, ◌++◌, [], IfOk, OnOk, codes};
+ghost use Rattle.std.specs.Prelude.{◌≡◌, ◌++◌, IfOk, OnOk, codes};
 ghost use Rattle.std.specs.Fmt.{decimal};
-ghost use Rattle.roster_print.specs.RefusalText.{roster_refusal_text};
-ghost use Rattle.roster_checker.specs.BreaksText.{breaks_text, HasBroken};
+ghost use Rattle.crew_size.specs.RefusalText.{staff_refusal_text, NamesItsOwn};
 ghost use Rattle.commands.specs.Lines.{line};
-ghost use Rattle.commands.specs.LogRefusals.{log_refusal_text, HasSymbols};
-ghost use Rattle.commands.specs.CheckStaff.{staffed_text, staff_refusal_text, at_weeks, NamesItsOwn};
+ghost use Rattle.commands.specs.CheckStaff.{staffed_text};
 
-use crate::log_refusal::put_refusal;
-use crate::put::{put_labelled, put_line_number};
-use crate::verify::put_roster_refusal;
-use crew_size::{StaffRefusal, Staffed};
-use refutation_log::LogRefusal;
-use roster_checker::{Broken, put_breaks};
-use roster_print::RosterRefusal;
+use crew_size::{StaffRefusal, Staffed, put_staff_refusal};
 use rwsp_model::Problem;
+use rwsp_text::put_labelled;
 use std::alloc::{AllocError, Global};
 
 // Appends two numbers, each behind a label.
@@ -81,73 +74,6 @@ pub fn staffed_line(alloc: Global, staffed: Staffed) -> Result<Vec<u8>, AllocErr
     Ok(out)
 }
 
-// Appends the number of weeks at which the text fails.
-fn put_weeks(out: &mut Vec<u8>, weeks: u32) -> Result<(), AllocError>
-    ensures { OnOk result (out.new.items ≡ out.old.items ++ at_weeks weeks []) }
-{
-    put_labelled(out, b"staff refused: weeks ".as_slice(), weeks)?;
-    out.push(b' ')?;
-    Ok(())
-}
-
-// Appends the failure of the log of a number of weeks.
-fn put_log(
-    out: &mut Vec<u8>,
-    problem: &Problem,
-    weeks: u32,
-    why: &LogRefusal,
-) -> Result<(), AllocError>
-    requires { HasSymbols problem.now why.now }
-    ensures { OnOk result (out.new.items ≡ out.old.items ++ at_weeks weeks (log_refusal_text problem.now why.now)) }
-{
-    put_weeks(out, weeks)?;
-    put_refusal(out, problem, why)
-}
-
-// Appends the failure of a roster's text.
-fn put_roster(out: &mut Vec<u8>, weeks: u32, why: RosterRefusal) -> Result<(), AllocError>
-    ensures { OnOk result (out.new.items ≡ out.old.items ++ at_weeks weeks (roster_refusal_text why)) }
-{
-    put_weeks(out, weeks)?;
-    put_roster_refusal(out, why)
-}
-
-// Appends the rule that a roster breaks.
-fn put_broken(
-    out: &mut Vec<u8>,
-    problem: &Problem,
-    weeks: u32,
-    broken: &Broken,
-) -> Result<(), AllocError>
-    requires { HasBroken problem.now broken.now }
-    ensures { OnOk result (out.new.items ≡ out.old.items ++ at_weeks weeks (breaks_text problem.now broken.now)) }
-{
-    put_weeks(out, weeks)?;
-    put_breaks(out, problem, broken)
-}
-
-// Appends the failure without its LF.
-fn put_failure(out: &mut Vec<u8>, problem: &Problem, why: &StaffRefusal) -> Result<(), AllocError>
-    requires { NamesItsOwn problem.now why.now }
-    ensures { OnOk result (out.new.items ≡ out.old.items ++ staff_refusal_text problem.now why.now) }
-{
-    match why {
-        StaffRefusal::Form(n) => put_line_number(out, b"staff refused: form".as_slice(), *n),
-        StaffRefusal::Log(weeks, why) => put_log(out, problem, *weeks, why),
-        StaffRefusal::Roster(weeks, why) => put_roster(out, *weeks, *why),
-        StaffRefusal::Breaks(weeks, broken) => put_broken(out, problem, *weeks, broken),
-        StaffRefusal::Ends => put_ends(out),
-    }
-}
-
-// Appends the failure of a text that stops before its end.
-fn put_ends(out: &mut Vec<u8>) -> Result<(), AllocError>
-    ensures { OnOk result (out.new.items ≡ out.old.items ++ codes "staff refused: ends") }
-{
-    out.extend_from_slice(b"staff refused: ends".as_slice())?;
-    Ok(())
-}
-
 /// The line of the first failure of a staff text.
 pub fn staff_refusal_line(
     alloc: Global,
@@ -158,7 +84,7 @@ pub fn staff_refusal_line(
     ensures { IfOk result (λ v. v.items ≡ line (staff_refusal_text problem.now why.now)) }
 {
     let mut out = Vec::new(alloc);
-    put_failure(&mut out, problem, why)?;
+    put_staff_refusal(&mut out, problem, why)?;
     out.push(b'\n')?;
     Ok(out)
 }

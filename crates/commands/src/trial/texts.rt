@@ -4,14 +4,13 @@ ghost use Rattle.std.specs.Fmt.{decimal};
 ghost use Rattle.rwsp_terms.specs.Instance.{IsDay};
 ghost use Rattle.commands.specs.Trial.{IsTried, demand_on, whole_demand, trial_line, found_line, trial_text};
 
-use crate::put::put_labelled;
 use crate::trial::Answer;
 use refutation_log::{Found, print_log};
 use roster_print::print_roster;
 use rwsp_model::Problem;
 use rwsp_terms::Symbol;
 use rwsp_terms::limits::{MOST_SHIFTS, MOST_WEEKS};
-use rwsp_text::put_number;
+use rwsp_text::{put_labelled, put_number};
 use std::alloc::{AllocError, Global};
 
 fn demand_on(problem: &Problem, day: u32) -> u32

@@ -1,37 +1,12 @@
 // The texts of what is wrong with a roster.
 ghost use Rattle.std.specs.Prelude.{◌≡◌, ◌++◌, IfOk, OnOk};
-ghost use Rattle.std.specs.Fmt.{decimal};
-ghost use Rattle.roster_print.specs.RefusalText.{roster_refusal_text};
 ghost use Rattle.commands.specs.Verify.{fault_line, fault_text, IsFaultOf};
 
-use crate::put::put_labelled;
 use crate::verify::RosterFault;
 use roster_checker::put_breaks;
-use roster_print::RosterRefusal;
+use roster_print::put_roster_refusal;
 use rwsp_model::Problem;
 use std::alloc::{AllocError, Global};
-
-// Appends a refusal that ends with a number.
-fn put_numbered(out: &mut Vec<u8>, label: &[u8], number: u32) -> Result<(), AllocError>
-    ensures { OnOk result (out.new.items ≡ out.old.items ++ (label.now ++ decimal number)) }
-{
-    put_labelled(out, label, number)
-}
-
-/// Appends the refusal without its LF.
-pub fn put_roster_refusal(out: &mut Vec<u8>, refusal: RosterRefusal) -> Result<(), AllocError>
-    ensures { OnOk result (out.new.items ≡ out.old.items ++ roster_refusal_text refusal) }
-{
-    match refusal {
-        RosterRefusal::Unknown(n) => put_numbered(
-            out,
-            b"roster refused: unknown line ".as_slice(),
-            n,
-        ),
-        RosterRefusal::Width(n) => put_numbered(out, b"roster refused: width line ".as_slice(), n),
-        RosterRefusal::Weeks(n) => put_numbered(out, b"roster refused: weeks ".as_slice(), n),
-    }
-}
 
 // Appends what is wrong with a roster, without an LF.
 fn put_fault(out: &mut Vec<u8>, problem: &Problem, fault: &RosterFault) -> Result<(), AllocError>

@@ -1,7 +1,7 @@
 // Each limit and the first number beyond it: of command lines, problem files, logs, staff texts, and of their lengths.
 use super::logs::{TWOS, checks};
 use super::{TWO_DAYS, USAGE, ends, line_ends, ran, shelf_of, shows, status_of, words_in};
-use potential_bounds::NoGate;
+use clean_words::NoGate;
 use std::alloc::Global;
 use std::test::Fail;
 use std::thread::Threads;

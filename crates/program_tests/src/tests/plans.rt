@@ -1,7 +1,7 @@
 // Rosters and refutations: what `plan` prints is right by `verify` and `check`.
 use super::logs::{BOTH_DAYS, TOO_MANY, TWOS, checks, they_meet};
 use super::{NINE_WEEKS, TWO_DAYS, ends, shelf_of, status_of, verifies, words_of};
-use potential_bounds::NoGate;
+use clean_words::NoGate;
 use std::alloc::{AllocError, Global};
 use std::test::Fail;
 use std::thread::Threads;

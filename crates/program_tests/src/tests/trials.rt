@@ -2,8 +2,8 @@
 use super::logs::they_meet;
 use super::plans::printed;
 use super::{ends, outcome_of, shelf_of, words_of};
+use clean_words::NoGate;
 use made_problems::gen_problem;
-use potential_bounds::NoGate;
 use refutation_log::Found;
 use rwsp_file::print_problem;
 use rwsp_run::{Answer, Outcome};

@@ -10,7 +10,7 @@ use Rattle.refutation_terms.specs.Ranges.{AreWeightsOf}
 use Rattle.refutation_terms.specs.Log.{GoalFits}
 use Rattle.domain_store.specs.Store.{has_domain}
 use Rattle.domain_store.specs.Leaves.{IsHoldingLeaf}
-use Rattle.potential_bounds.specs.Claims.{IsGoalOf}
+use Rattle.clean_words.specs.Claims.{IsGoalOf}
 use Rattle.nearest_weights.proofs.leaf.leaf_of.Goals as goal
 
 -- a goal of a log without a turn is one of its problem

@@ -4,7 +4,7 @@ use Rattle.std.specs.Prelude.{slice_get}
 use Rattle.std.proofs.lemmas.Result.{IfOk-weaker}
 use Rattle.refutation_terms.specs.Sharp.{HoldsAtTop, plain_bounds}
 use Rattle.domain_store.specs.Store.{has_domain}
-use Rattle.potential_bounds.specs.First.{IsFirstHolding}
+use Rattle.clean_words.specs.First.{IsFirstHolding}
 use Rattle.propagators.proofs.Starts.{plain_holds, searched_answer}
 use Rattle.propagators.proofs.root_bounds.holding_weights.Goals as goal
 

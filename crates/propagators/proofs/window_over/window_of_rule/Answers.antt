@@ -2,7 +2,7 @@
 use Rattle.std.proofs.Common.{◌+◌, ◌*◌, ◌<◌, ap, arith}
 use Rattle.rwsp_terms.specs.Instance.{cells}
 use Rattle.rwsp_terms.specs.declared.limits.TheConstants.{LONGEST_WORD}
-use Rattle.plain_leaves.proofs.Domains.{positions}
+use Rattle.domain_store.proofs.Positions.{positions}
 use Rattle.propagators.proofs.Over.{leaf_of_window, no_window_over}
 use Rattle.propagators.proofs.window_over.window_of_rule.Goals as goal
 

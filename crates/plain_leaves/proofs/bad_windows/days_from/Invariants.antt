@@ -1,6 +1,0 @@
-use Rattle.std.proofs.Common.{ℕ, ◌+◌, ◌<◌}
-use Rattle.plain_leaves.specs.Views.{LiesIn}
-use Rattle.plain_leaves.proofs.bad_windows.days_from.Given as goal
-
-abbrev pub invariant-loop-ahead : goal.invariant-loop-ahead
-invariant-loop-ahead g l = (i : ℕ) → i < l.ahead → LiesIn (g.V.View.allows l.view) l.class (l.p + i)

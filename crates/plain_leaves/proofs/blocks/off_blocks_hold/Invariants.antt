@@ -1,6 +1,0 @@
-use Rattle.std.proofs.Common.{ℕ, ◌<◌}
-use Rattle.refutation_terms.specs.BlocksLeaf.{OffBlocksFit}
-use Rattle.plain_leaves.proofs.blocks.off_blocks_hold.Given as goal
-
-abbrev pub invariant-loop-k : goal.invariant-loop-k
-invariant-loop-k l = (i : ℕ) → i < l.k → OffBlocksFit l.problem i → ⊥

@@ -1,5 +1,0 @@
-use Rattle.plain_leaves.proofs.Shapes.{pattern_of_short}
-use Rattle.plain_leaves.proofs.pattern.shorter_than.Goals as goal
-
-pub returns : goal.returns
-returns c = pattern_of_short c.args.class c.args.least _ c.saturating_sub.ensures c.requires

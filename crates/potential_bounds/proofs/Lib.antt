@@ -1,9 +1,0 @@
-pub mod Products
-pub mod Growing
-pub mod FreeWords
-pub mod HeavyWords
-pub mod Chunks
-pub mod Stepping
-pub mod Searching
-pub mod WeightRows
-pub mod LeafWords

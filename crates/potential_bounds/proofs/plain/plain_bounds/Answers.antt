@@ -1,5 +1,0 @@
-use Rattle.potential_bounds.proofs.Growing.{bounds_grown}
-use Rattle.potential_bounds.proofs.plain.plain_bounds.Goals as goal
-
-pub loop-i-preserved : goal.loop-i-preserved
-loop-i-preserved c = bounds_grown c.args.problem.now _ _ _ c.loop-i.invariant c.in_ok-push_both-2.ensures
