@@ -5,7 +5,7 @@ pub mod DayGains
 pub mod Made
 pub mod Walks
 pub mod Readings
-pub mod Escapes
+pub mod LeastEscapes
 pub mod TailLists
 pub mod Parts
 pub mod RuleTests

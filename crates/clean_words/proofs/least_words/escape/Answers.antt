@@ -1,4 +1,4 @@
-use Rattle.clean_words.proofs.Escapes.{least_of_best, dead_of_below}
+use Rattle.clean_words.proofs.LeastEscapes.{least_of_best, dead_of_below}
 use Rattle.clean_words.proofs.least_words.escape.Goals as goal
 
 pub returns-in-Some : goal.returns-in-Some
