@@ -39,16 +39,20 @@ pub const STYLE_OF_TEXT: &[u8] =
     h1{font-size:1.5rem;margin:.5rem 0}\n\
     h2{font-size:1.2rem;margin:2rem 0 .5rem}\n";
 
-/// The style of tables, which scroll in their own frames where a screen is narrow.
+/// The style of tables, which scroll in their own frames where a screen is narrow. An element `caption` is as wide as
+/// its table. So the text in it keeps its place in the frame while the table scrolls, it is as wide as it needs within
+/// the screen, and its margin, less than nothing, lets it take no room: else it would widen a narrow table.
 pub const STYLE_OF_TABLES: &[u8] = b".wide{overflow-x:auto}\n\
     table{border-collapse:collapse}\n\
-    .caption{margin:1rem 0 .3rem;color:var(--soft)}\n\
+    caption{text-align:left;padding:.3rem 0;color:var(--soft)}\n\
+    caption span{display:inline-block;position:sticky;left:0;width:max-content;max-width:calc(100vw - 3rem);\
+    margin-right:-100vw}\n\
     th,td{border:1px solid var(--line);padding:.25rem .5rem;text-align:center;white-space:nowrap}\n\
     th{background:var(--head);font-weight:600}\n\
     thead th{white-space:normal}\n\
     tbody th{position:sticky;left:0}\n\
-    @media (max-width:30rem){main{padding:.5rem}th,td{padding:.2rem .3rem}\
-    tbody th{max-width:7rem;white-space:normal}}\n";
+    @media (max-width:30rem){main{padding:.5rem}caption span{max-width:calc(100vw - 2rem)}\
+    th,td{padding:.2rem .3rem}tbody th{max-width:7rem;white-space:normal}}\n";
 
 /// A colour for the day off and for each shift.
 pub const STYLE_OF_COLOURS: &[u8] = b".c0{color:var(--soft)}\n\
@@ -70,7 +74,7 @@ pub const STYLE_IN_THE_DARK: &[u8] =
 pub const STYLE_ON_PAPER: &[u8] =
     b"@media print{:root{--ink:#000;--paper:#fff;--soft:#444;--line:#888;--head:#ececec}body{font-size:9pt}\
     main{max-width:none;padding:0}.wide{overflow:visible}tbody th{position:static}tr{break-inside:avoid}\
-    h2,.caption{break-after:avoid}\
+    h2,caption{break-after:avoid}\
     th,td{padding:1pt 3pt;white-space:normal;-webkit-print-color-adjust:exact;print-color-adjust:exact}\
     td[class],th[class]{overflow-wrap:anywhere}}\n";
 
@@ -106,9 +110,9 @@ pub const TABLE_END: &[u8] = b"</tbody>\n</table>\n</div>\n";
 pub const ROSTER_TOP: &[u8] = b"</h1>\n\
     <p>Employee 1 begins with week 1, employee 2 with week 2, and so on. All go on week after week, and from \
     the last week to the first.</p>\n\
-    <p class=\"caption\" id=\"roster\">The shift of each day, week by week</p>\n\
     <div class=\"wide\" role=\"region\" tabindex=\"0\" aria-labelledby=\"roster\">\n\
-    <table aria-labelledby=\"roster\">\n\
+    <table>\n\
+    <caption id=\"roster\"><span>The shift of each day, week by week</span></caption>\n\
     <thead>\n\
     <tr><th scope=\"col\">Week</th>";
 
@@ -151,10 +155,10 @@ pub const SHORT_END: &[u8] = b"</li>\n</ul>\n";
 
 /// In front of the rows of the legend.
 pub const LEGEND_TOP: &[u8] = b"<h2>Shifts</h2>\n\
-    <p class=\"caption\" id=\"shifts\">When each shift starts and ends, and how long it is; (+1) means a day \
-    later</p>\n\
     <div class=\"wide\" role=\"region\" tabindex=\"0\" aria-labelledby=\"shifts\">\n\
-    <table aria-labelledby=\"shifts\">\n\
+    <table>\n\
+    <caption id=\"shifts\"><span>When each shift starts and ends, and how long it is; (+1) means a day \
+    later</span></caption>\n\
     <thead>\n\
     <tr><th scope=\"col\">Shift</th><th scope=\"col\">Start</th><th scope=\"col\">End</th><th scope=\"col\">\
     Hours</th></tr>\n\
@@ -180,10 +184,10 @@ pub const CLOSED: &[u8] = b")";
 
 /// In front of the days of the demand.
 pub const DEMAND_TOP: &[u8] = b"<h2>Demand</h2>\n\
-    <p class=\"caption\" id=\"demand\">How many have each shift on each day, and in brackets how many are \
-    demanded</p>\n\
     <div class=\"wide\" role=\"region\" tabindex=\"0\" aria-labelledby=\"demand\">\n\
-    <table aria-labelledby=\"demand\">\n\
+    <table>\n\
+    <caption id=\"demand\"><span>How many have each shift on each day, and in brackets how many are \
+    demanded</span></caption>\n\
     <thead>\n\
     <tr><th scope=\"col\">Shift</th>";
 

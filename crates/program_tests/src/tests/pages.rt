@@ -26,7 +26,8 @@ fn a_page_of_odd_names(rt: HostRuntime) -> Result<(), Fail> {
     Ok(())
 }
 
-const NINE_LINES: [&str; 4] = [
+const NINE_LINES: [&str; 5] = [
+    "<table>\n<caption id=\"roster\"><span>The shift of each day, week by week</span></caption>\n<thead>\n",
     "<tr><th scope=\"row\">2</th><td class=\"c0\">-</td><td class=\"c0\">-</td><td class=\"c1\">D</td><td class=\"c1\">D</td><td class=\"c2\">A</td><td class=\"c2\">A</td><td class=\"c3\">N</td><td>40:00</td><td></td></tr>\n",
     "<li>Hours a week, on average: 37:20</li>\n<li>Least rest between two shifts in a row, in hours: 16:00</li>\n<li>Free weekends (days 6 and 7 both off): 2 of 9</li>\n",
     "<tr><th scope=\"row\" class=\"c3\">N</th><td>2 (2)</td><td>2 (2)</td>",
