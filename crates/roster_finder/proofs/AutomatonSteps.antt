@@ -1,7 +1,6 @@
 -- The steps of an automaton.
-use Rattle.std.proofs.Common.{◌≡◌, ℕ, ◌<◌, ◌≤◌, length, Some, slice_index_or}
+use Rattle.std.proofs.Common.{◌≡◌, ℕ, ◌<◌, length, Some, slice_index_or}
 use Rattle.std.proofs.lemmas.List.{get_or_default}
-use Rattle.rwsp_terms.specs.Instance.{shift_count}
 use Rattle.clean_words.specs.declared.step.Step.{Step}
 use Rattle.clean_words.specs.Moves.{move_at}
 use Rattle.clean_words.specs.Automata.{RuleAutomaton, IsAutomaton}

@@ -1,3 +1,6 @@
 pub mod AutomatonSteps
 pub mod ClosedWalks
 pub mod Places
+pub mod QuotaSteps
+pub mod UsedSteps
+pub mod Words

@@ -1,8 +1,14 @@
 pub mod AutomatonSteps
+pub mod ByStep
 pub mod Cycles
 pub mod Found
+pub mod Mixtures
 pub mod Moves
+pub mod Parts
+pub mod Quotas
 pub mod Starters
 pub mod Steps
-pub mod Uses
+pub mod UsedSteps
 pub mod Walks
+pub mod Weighers
+pub mod Words

@@ -1,5 +1,5 @@
 -- Walks of one shape: through as many days, in as long weeks, of as many symbols and nodes.
-use Rattle.std.specs.Prelude.{◌≡◌, ◌<◌, ◌≤◌}
+use Rattle.std.specs.Prelude.{◌≡◌}
 use Rattle.roster_finder.specs.declared.walk.Walk.{Walk}
 use Rattle.roster_finder.specs.declared.steady_layer.SteadyLayer.{SteadyLayer}
 

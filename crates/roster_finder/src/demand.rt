@@ -1,7 +1,7 @@
 // How often each symbol is wanted on each weekday.
 ghost use Rattle.std.specs.Prelude.{◌≡◌, ◌+◌, ◌*◌, ◌<◌, ◌≤◌, IfOk};
 ghost use Rattle.rwsp_terms.specs.Instance.{shift_count};
-ghost use Rattle.rwsp_terms.specs.declared.limits.TheConstants.{MOST_CELLS};
+ghost use Rattle.rwsp_terms.specs.declared.limits.TheConstants.{MOST_CELLS, MOST_DAYS, MOST_WEEKS};
 
 use crate::table::Table;
 use rwsp_model::Problem;
@@ -34,6 +34,8 @@ pub(crate) struct Demand {
     ranges: Table<Range>,
     ghost some_days: { 0 < days },
     ghost some_weeks: { 0 < weeks },
+    ghost few_weeks: { weeks ≤ MOST_WEEKS },
+    ghost few_days: { days ≤ MOST_DAYS },
     ghost few_cells: { weeks * days ≤ MOST_CELLS },
     ghost some_symbols: { 0 < symbols },
     ghost rows: { ranges.rows ≡ symbols },
@@ -75,6 +77,22 @@ impl Demand {
             least: i64::from(self.free),
             greatest: self.cells() as i64,
         }
+    }
+
+    /// How many ranges of days there are.
+    pub fn coordinates(&self) -> usize
+        ensures { result ≡ self.now.days * self.now.symbols }
+    {
+        self.ranges.entries().len()
+    }
+
+    /// The place of a symbol on a weekday among all, symbol by symbol.
+    pub fn coordinate(&self, symbol: usize, weekday: usize) -> usize
+        requires symbol { symbol < self.now.symbols }
+        requires weekday { weekday < self.now.days }
+        ensures { result < self.now.days * self.now.symbols }
+    {
+        self.ranges.place(symbol, weekday)
     }
 
     pub fn range(&self, symbol: usize, weekday: usize) -> Range

@@ -14,7 +14,7 @@ pub(crate) struct Window {
     pub len: usize,
 }
 
-/// A clean cyclic word and its counters.
+/// A cyclic word, made of steps of the layer, and its counters.
 #[derive(Drop)]
 pub(crate) struct Draft {
     pub walk: Walk,

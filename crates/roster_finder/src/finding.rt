@@ -1,11 +1,11 @@
 // The search for a roster.
-ghost use Rattle.std.specs.Prelude.{◌≡◌, ◌<◌, ◌≤◌, IfOk, IfSome, IsTrue};
+ghost use Rattle.std.specs.Prelude.{◌≡◌, ◌<◌, ◌≤◌, length, IfOk, IfSome, IsTrue};
 ghost use Rattle.rwsp_terms.specs.Roster.{IsRoster};
 ghost use Rattle.refutation_terms.specs.FreeWeekends.{free_weekends};
 ghost use Rattle.roster_finder.specs.Found.{IsRosterWith};
 ghost use Rattle.roster_finder.specs.Moves.{IsMoverOf, IsWindowOf};
 ghost use Rattle.roster_finder.specs.Starters.{IsStarterOf};
-ghost use Rattle.roster_finder.specs.Uses.{AreUsesOf};
+ghost use Rattle.roster_finder.specs.ByStep.{IsByStep};
 ghost use Rattle.roster_finder.specs.declared.finding.TheConstants.{PATIENCE};
 ghost use Rattle.roster_finder.specs.Walks.{HaveOneShape, IsWalkOf};
 
@@ -87,20 +87,21 @@ struct Search<'a> {
     least: i64,
     since: usize,
     ghost nodes: { 0 < setting.layer.now.nodes },
+    ghost steps: { 0 < length setting.layer.now.steps.items },
     ghost days: { draft.walk.days ≡ setting.demand.now.days },
     ghost draft_walk: { IsWalkOf setting.layer.now draft.walk },
     ghost other_walk: { IsWalkOf setting.layer.now other.walk },
     ghost other_shape: { HaveOneShape other.walk draft.walk },
     ghost starter_room: { IsStarterOf setting.layer.now draft.walk starter },
     ghost mover_room: { IsMoverOf setting.layer.now mover },
-    ghost uses: { AreUsesOf setting shares.uses },
+    ghost uses: { IsByStep setting shares.uses },
     ghost few_moves: { since < PATIENCE },
 }
 
 impl<'a> Search<'a> {
     // A search without a word yet. None where there are no shares.
     fn new(setting: Setting<'a>) -> Result<Option<Search<'a>>, AllocError> {
-        if setting.layer.nodes == 0 {
+        if setting.layer.nodes == 0 || setting.layer.step_count() == 0 {
             return Ok(None);
         }
         let mut random = Random::new();
@@ -114,7 +115,8 @@ impl<'a> Search<'a> {
     // The search that has these shares.
     fn of(setting: Setting<'a>, shares: Shares, random: Random) -> Result<Search<'a>, AllocError>
         requires nodes { 0 < setting.layer.now.nodes }
-        requires uses { AreUsesOf setting shares.uses }
+        requires steps { 0 < length setting.layer.now.steps.items }
+        requires uses { IsByStep setting shares.uses }
     {
         let draft = Draft::new(setting)?;
         let other = Draft::new(setting)?;
@@ -219,11 +221,7 @@ impl<'a> Search<'a> {
             Patience::Long if self.shares.hang_together => MOST_MOVES,
             Patience::Long => MOST_LOOSE_MOVES,
         };
-        // A layer of no step has no word.
-        match MOST_STEP_MOVES.checked_div(self.setting.layer.step_count()) {
-            Some(affordable) => affordable.min(most),
-            None => 0,
-        }
+        (MOST_STEP_MOVES / self.setting.layer.step_count()).min(most)
     }
 
     // Rewrites windows until the word is a roster that meets every rule and has `free` free weekends at least.

@@ -1,5 +1,6 @@
-//! A search for rosters that distinguishes no cases: a fractional roster, a start word that follows it, and windows of
-//! that word, each rewritten in the best way. It answers a checked roster, or nothing.
+//! A search for rosters that distinguishes no cases: a fractional roster by column generation, a start word that follows
+//! it, and windows of that word (large neighbourhoods), each rewritten in the best way. It answers a checked roster, or
+//! nothing.
 #![tactic(auto)]
 
 mod cost;
@@ -8,7 +9,6 @@ mod cuts;
 mod demand;
 mod draft;
 mod finding;
-mod grid;
 mod heavy_word;
 mod laws;
 #[cfg(test)]
@@ -16,6 +16,7 @@ mod layer_tests;
 mod mixture;
 mod nodes;
 mod numbers;
+mod prices;
 mod quotas;
 mod random;
 mod setting;
@@ -24,6 +25,7 @@ mod start;
 mod steady_layer;
 mod step;
 mod table;
+mod used;
 mod walk;
 mod window;
 

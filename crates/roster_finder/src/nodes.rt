@@ -67,8 +67,9 @@ fn prove_moves(automaton: &Automaton)
     automaton.prove_facts();
 }
 
-// The states that words without beginning and end pass through: states are left out until a step enters and a step
-// leaves each of those that are left. Costs a look at each step for each time that some are left out.
+// The states that words without beginning and end pass through (the automaton is trimmed): states are left out until a
+// step enters and a step leaves each of those that are left. Costs a look at each step for each time that some are left
+// out.
 fn passed_states(alloc: Global, automaton: &Automaton) -> Result<Vec<bool>, AllocError>
     ensures { IfOk result (λ passed. length passed.items ≡ length automaton.now.moves) }
 {

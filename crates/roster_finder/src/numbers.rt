@@ -1,5 +1,5 @@
 // Lists and tables of numbers that are themselves places: each is below one number.
-ghost use Rattle.std.specs.Prelude.{◌≡◌, ◌*◌, ◌<◌, ◌≤◌, length, All, IfOk};
+ghost use Rattle.std.specs.Prelude.{◌≡◌, ◌*◌, ◌<◌, ◌≤◌, ◌^◌, length, All, IfOk};
 ghost use Rattle.roster_finder.specs.Steps.{IsUnder};
 
 use std::alloc::{AllocError, Global};
@@ -23,6 +23,18 @@ impl Numbers {
             below,
             entries: vec![in alloc; 0; len]?,
         })
+    }
+
+    /// The list of the numbers below one, in order.
+    pub fn counting(alloc: Global, below: usize) -> Result<Numbers, AllocError>
+        ensures below { IfOk result (λ list. list.below ≡ below) }
+        ensures length { IfOk result (λ list. length list.entries.items ≡ below) }
+    {
+        let mut entries = Vec::new(alloc);
+        for number in 0..below {
+            entries.push(number)?;
+        }
+        Ok(Numbers { below, entries })
     }
 
     pub fn entries(&self) -> &[usize]
@@ -109,5 +121,76 @@ impl NumberTable {
     {
         let place = self.place(row, column);
         self.numbers.set(place, number);
+    }
+}
+
+/// A large table of such numbers, which holds them in 32 bits.
+#[derive(Drop)]
+pub(crate) struct ShortNumberTable {
+    pub rows: usize,
+    pub columns: usize,
+    pub below: usize,
+    entries: Vec<u32>,
+    ghost few: { below ≤ 2 ^ 32 },
+    ghost within: { All (IsUnder below) entries.items },
+    ghost whole: { length entries.items ≡ columns * rows },
+}
+
+impl ShortNumberTable {
+    /// A table of zeros.
+    pub fn zeros(
+        alloc: Global,
+        rows: usize,
+        columns: usize,
+        below: usize,
+    ) -> Result<ShortNumberTable, AllocError>
+        requires { 0 < below }
+        ensures rows { IfOk result (λ t. t.rows ≡ rows) }
+        ensures columns { IfOk result (λ t. t.columns ≡ columns) }
+        ensures below { IfOk result (λ t. t.below ≡ below) }
+    {
+        // No memory holds more places than a number of it can count, nor more than 2^32 things to be numbered.
+        let Some(places) = columns.checked_mul(rows) else {
+            return Err(AllocError);
+        };
+        if below > 1 << 32 {
+            return Err(AllocError);
+        }
+        Ok(ShortNumberTable {
+            rows,
+            columns,
+            below,
+            entries: vec![in alloc; 0; places]?,
+        })
+    }
+
+    // The place of a number in the list of all.
+    #[tactic(auto, using(crate::proofs::Places::place_within))]
+    fn place(&self, row: usize, column: usize) -> usize
+        requires row { row < self.now.rows }
+        requires column { column < self.now.columns }
+        ensures { result < length self.now.entries.items }
+    {
+        row * self.columns + column
+    }
+
+    pub fn at(&self, row: usize, column: usize) -> usize
+        requires row { row < self.now.rows }
+        requires column { column < self.now.columns }
+        ensures { result < self.now.below }
+    {
+        self.entries[self.place(row, column)] as usize
+    }
+
+    pub fn set(&mut self, row: usize, column: usize, number: usize)
+        requires row { row < self.old.rows }
+        requires column { column < self.old.columns }
+        requires number { number < self.old.below }
+        ensures rows { self.new.rows ≡ self.old.rows }
+        ensures columns { self.new.columns ≡ self.old.columns }
+        ensures below { self.new.below ≡ self.old.below }
+    {
+        let place = self.place(row, column);
+        self.entries[place] = number as u32;
     }
 }

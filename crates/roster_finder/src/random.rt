@@ -35,11 +35,12 @@ impl Random {
 
     /// A cost below the limit; 0 where the limit is 0.
     pub fn noise(&mut self, limit: u32) -> i64 {
-        let drawn = self.draw();
-        if limit == 0 {
-            0
-        } else {
-            i64::from(drawn % limit)
-        }
+        self.cost_below(i64::from(limit))
+    }
+
+    /// A cost below the limit, and below 2^31; 0 where the limit is 0 or less.
+    pub fn cost_below(&mut self, limit: i64) -> i64 {
+        let drawn = i64::from(self.draw());
+        if limit > 0 { drawn % limit } else { 0 }
     }
 }

@@ -1,8 +1,8 @@
-// Fractional rosters.
-ghost use Rattle.std.specs.Prelude.{IfOk, IfSome, OnOk};
-ghost use Rattle.roster_finder.specs.Uses.{AreUsesOf};
+// Fractional rosters: what rosters are where steps may be taken in parts (the linear relaxation).
+ghost use Rattle.std.specs.Prelude.{◌<◌, length, IfOk, IfSome, OnOk};
+ghost use Rattle.roster_finder.specs.ByStep.{IsByStep};
+ghost use Rattle.roster_finder.specs.Mixtures.{IsMixtureOf};
 
-use crate::cuts::add_cuts;
 use crate::mixture::Mixture;
 use crate::random::Random;
 use crate::setting::Setting;
@@ -32,10 +32,12 @@ impl Shares {
         random: &mut Random,
         noise: u32,
     ) -> Result<Option<Shares>, AllocError>
-        ensures { IfOk result (λ found. IfSome found (λ s. AreUsesOf setting.entry s.uses)) }
+        requires nodes { 0 < setting.layer.now.nodes }
+        requires steps { 0 < length setting.layer.now.steps.items }
+        ensures { IfOk result (λ found. IfSome found (λ s. IsByStep setting.entry s.uses)) }
     {
         let mut mixture = Mixture::new(setting, noise)?;
-        if !mixture.approach(random)? {
+        if !mixture.approach(setting, random)? {
             return Ok(None);
         }
         let mut shares = Shares {
@@ -52,17 +54,19 @@ impl Shares {
         &mut self,
         setting: Setting<'_>,
         random: &mut Random,
-        mixture: &mut Mixture<'_>,
+        mixture: &mut Mixture,
     ) -> Result<(), AllocError>
-        requires { AreUsesOf setting self.old.uses }
-        ensures { OnOk result (AreUsesOf setting.entry self.new.uses) }
+        requires nodes { 0 < setting.layer.now.nodes }
+        requires steps { 0 < length setting.layer.now.steps.items }
+        requires mixture { IsMixtureOf setting mixture.old }
+        requires uses { IsByStep setting self.old.uses }
+        ensures { OnOk result (IsByStep setting.entry self.new.uses) }
     {
         for _ in 0..CUTTING_TURNS {
-            if !add_cuts(setting, &self.uses, &mut mixture.quotas)? {
+            if !mixture.cut(setting, &self.uses)? {
                 break;
             }
-            mixture.renew()?;
-            if !mixture.approach(random)? {
+            if !mixture.approach(setting, random)? {
                 self.hang_together = false;
                 break;
             }

@@ -97,7 +97,7 @@ impl Starter {
         }
     }
 
-    // Writes the word day by day from its first node.
+    // Writes the word day by day from its first node. Costs a look at each symbol on each day.
     fn write(
         &mut self,
         layer: &SteadyLayer,
@@ -207,9 +207,8 @@ fn drawn_node(layer: &SteadyLayer, shares: &Shares, random: &mut Random) -> usiz
     requires steps { shares.now.uses.columns ≡ length layer.now.steps.items }
     ensures { result < layer.now.nodes }
 {
-    // The shares of a weekday are some thousand uses at most, so that their sum is a number of 32 bits.
-    let sum = u32::try_from(sum_of(shares.uses.row(0))).unwrap_or(0);
-    let mut drawn = random.noise(sum);
+    // The shares of a weekday are some hundred uses at most, so that their sum is less than 2^31.
+    let mut drawn = random.cost_below(sum_of(shares.uses.row(0)));
     for number in 0..layer.step_count() {
         let share = shares.uses.at(0, number);
         if drawn < share {

@@ -11,8 +11,8 @@ use rwsp_model::Problem;
 use std::alloc::{AllocError, Global};
 
 /// The nodes that clean words without beginning and end pass through, and the steps between them. A node is a state of
-/// the automaton of the short rules, where each state tells the last symbol. A part of a clean word is clean, so a closed
-/// walk through nodes is a clean cyclic word.
+/// the automaton of the short rules, where each state tells the last symbol. A closed walk from a state that some word
+/// leads to is a clean cyclic word (`closed_walks_are_clean`). The automaton has no other states; but no clause says so.
 #[derive(Drop)]
 pub(crate) struct SteadyLayer {
     /// The number of symbols, the day off among them.

@@ -29,12 +29,13 @@ impl<T: Copy + Drop> Table<T> {
         })
     }
 
-    // The place of a value in the list of all.
+    /// The place of a value in the list of all.
     #[tactic(auto, using(crate::proofs::Places::place_within))]
-    fn place(&self, row: usize, column: usize) -> usize
+    pub fn place(&self, row: usize, column: usize) -> usize
         requires row { row < self.now.rows }
         requires column { column < self.now.columns }
-        ensures { result < length self.now.entries.items }
+        ensures place { result < self.now.columns * self.now.rows }
+        ensures entry { result < length self.now.entries.items }
     {
         row * self.columns + column
     }
@@ -66,7 +67,9 @@ impl<T: Copy + Drop> Table<T> {
     }
 
     /// All values, row by row.
-    pub fn entries(&self) -> &[T] {
+    pub fn entries(&self) -> &[T]
+        ensures { length result.now ≡ self.now.columns * self.now.rows }
+    {
         &self.entries
     }
 

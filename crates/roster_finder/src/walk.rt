@@ -1,4 +1,4 @@
-// Closed walks through the steady layer: clean cyclic words.
+// Closed walks through the steady layer: cyclic words that are clean where they lead on from node to node.
 ghost use Rattle.std.specs.Prelude.{◌≡◌, ◌+◌, ◌*◌, ◌<◌, ◌≤◌, length, IfOk};
 ghost use Rattle.rwsp_terms.specs.declared.limits.TheConstants.{MOST_CELLS};
 
