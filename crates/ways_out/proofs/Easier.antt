@@ -96,6 +96,13 @@ module _ (A B : Instance) (Spared : Rule → Type 0) (h : IsEasierBut A B Spared
     symbols = λ k d less. subst (λ (n : ℕ). (get_or s k d).number ≤ n) h.shifts (meets.is_roster.symbols k d less);
   }
 
+-- what has the shape of a roster of A has that of one of B
+pub shape_kept : (A B : Instance) (Spared : Rule → Type 0) (s : List Symbol) → IsEasierBut A B Spared → IsRoster A s → IsRoster B s
+shape_kept A B Spared s h is = record {
+  long = is.long ∙ ap (λ (n : ℕ). n * A.days) h.weeks ∙ ap (λ (n : ℕ). B.weeks * n) h.days;
+  symbols = λ k d less. subst (λ (n : ℕ). (get_or s k d).number ≤ n) h.shifts (is.symbols k d less);
+}
+
 -- where none is spared, each roster of A is one of B
 pub all_kept : (A B : Instance) (s : List Symbol) → IsEasierBut A B (λ r. ⊥) → MeetsAll A s → MeetsAll B s
 all_kept A B s h meets = record {

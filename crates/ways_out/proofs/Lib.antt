@@ -7,7 +7,8 @@ pub mod Easier
 pub mod Staying
 pub mod Helping
 pub mod Reaching
-pub mod Columns
+pub mod Zips
+pub mod Shares
 pub mod Agreeing
 pub mod AllOutcomes
 pub mod Reduced

@@ -1,5 +1,5 @@
 -- How far a search for the nearest number of steps has come.
-use Rattle.std.proofs.Common.{◌≡◌, ℕ, ◌+◌, ◌<◌, ◌≤◌, Bool, true, false, refl, subst, arith}
+use Rattle.std.proofs.Common.{◌≡◌, ℕ, ◌+◌, ◌<◌, ◌≤◌, Bool, true, false, refl, arith}
 use Rattle.std.specs.Prelude.{◌==◌}
 use Rattle.std.proofs.lemmas.Bool.{eqb-true, eqb-false}
 use Rattle.rwsp_terms.specs.Instance.{Instance}
@@ -7,17 +7,9 @@ use Rattle.roster_planner.specs.declared.effort.Effort.{Effort}
 use Rattle.ways_out.specs.declared.change.Change.{Change}
 use Rattle.ways_out.specs.declared.nearest.Reached.{Reached}
 use Rattle.ways_out.specs.Loosened.{loosened, most_steps, IsChange, IsStep}
-use Rattle.ways_out.specs.Helping.{HasRoster, HasNone, IsLeftOpen, IsNearestIf, HelpsWith, HelpsNever}
+use Rattle.ways_out.specs.Helping.{HasRoster, HasNone, IsLeftOpen, IsUnfound, IsNearestIf, HelpsWith, HelpsNever}
 use Rattle.ways_out.specs.Reached.{HasReached}
 use Rattle.ways_out.proofs.Helping.{none_nearer}
-
--- nothing is reached yet
-pub reached_start : (P : Instance) (effort : Effort) (change : Change) → HasReached P effort change (record { shut = 0; tried = 0 })
-reached_start P effort change = record {
-  order = omega arith;
-  none = λ m step le. let some = step.0 in absurd (omega (arith, some, le));
-  left = λ lt. absurd (omega (arith, lt));
-}
 
 pub reached_shut : (P : Instance) (effort : Effort) (change : Change) (steps : ℕ) → IsChange P change → HasNone (loosened P change steps) → HasReached P effort change (record { shut = steps; tried = steps })
 reached_shut P effort change steps known none = record {
@@ -31,29 +23,39 @@ reached_open P effort change r steps h le step left =
     let order = h.order in
     record { order = omega (arith, order, le); none = h.none; left = λ lt. (step, left) }
 
+-- the first step alone
+pub first_open : (P : Instance) (effort : Effort) (change : Change) → IsStep P change 1 → IsLeftOpen (loosened P change 1) effort → HasReached P effort change (record { shut = 0; tried = 1 })
+first_open P effort change step left = record {
+  order = omega arith;
+  none = λ m step le. let some = step.0 in absurd (omega (arith, some, le));
+  left = λ lt. (step, left);
+}
+
 -- the steps behind the last that were tried are the nearest, or these were left open
-nearest_if : (P : Instance) (effort : Effort) (change : Change) (r : Reached) (n : ℕ) → HasReached P effort change r → r.tried + 1 ≡ n → (b : Bool) → (r.shut == r.tried) ≡ b → IsNearestIf b P effort change n
-nearest_if P effort change r n h next true e =
+nearest_if : (P : Instance) (effort : Effort) (change : Change) (r : Reached) (n : ℕ) → HasReached P effort change r → IsUnfound (loosened P change 1) effort → r.tried + 1 ≡ n → (b : Bool) → (r.shut == r.tried) ≡ b → IsNearestIf b P effort change n
+nearest_if P effort change r n h first next true e =
     let same = eqb-true r.shut r.tried e in
     λ m step less. h.none m step (omega (arith, same, next, less))
-nearest_if P effort change r n h next false e =
+nearest_if P effort change r n h first next false e =
     let other = eqb-false r.shut r.tried e in
     let order = h.order in
     let lt : r.shut < r.tried = omega (arith, other, order) in
     let left = h.left lt in
-    (r.tried, left.0, omega (arith, next), left.1)
+    (first, r.tried, left.0, next, left.1)
 
-pub helps_with : (P : Instance) (effort : Effort) (change : Change) (r : Reached) (n : ℕ) → HasReached P effort change r → r.tried < n → (r.tried + 1 < n → ⊥) → IsStep P change n → HasRoster (loosened P change n) → HelpsWith P effort change n (r.shut == r.tried)
-helps_with P effort change r n h less last step roster =
+pub helps_with : (P : Instance) (effort : Effort) (change : Change) (r : Reached) (n : ℕ) → HasReached P effort change r → IsUnfound (loosened P change 1) effort → r.tried < n → (r.tried + 1 < n → ⊥) → IsStep P change n → HasRoster (loosened P change n) → HelpsWith P effort change n (r.shut == r.tried)
+helps_with P effort change r n h first less last step roster =
     let next : r.tried + 1 ≡ n = omega (arith, less, last) in
-    record { step = step; roster = roster; nearest = nearest_if P effort change r n h next (r.shut == r.tried) refl }
+    record { step = step; roster = roster; nearest = nearest_if P effort change r n h first next (r.shut == r.tried) refl }
 
--- where all steps were tried
-pub helps_never : (P : Instance) (effort : Effort) (change : Change) (r : Reached) → HasReached P effort change r → r.tried ≡ most_steps P change → r.shut ≡ r.tried → HelpsNever P change
-helps_never P effort change r h all same = λ n step. let few = step.1 in h.none n step (omega (arith, few, all, same))
+-- one step is the nearest
+pub helps_first : (P : Instance) (effort : Effort) (change : Change) → IsStep P change 1 → HasRoster (loosened P change 1) → HelpsWith P effort change 1 true
+helps_first P effort change step roster =
+    record { step = step; roster = roster; nearest = λ m step less. let some = step.0 in absurd (omega (arith, some, less)) }
 
-pub all_open : (P : Instance) (effort : Effort) (change : Change) (r : Reached) → HasReached P effort change r → r.tried ≡ most_steps P change → (r.shut ≡ r.tried → ⊥) → IsStep P change (most_steps P change) × IsLeftOpen (loosened P change (most_steps P change)) effort
-all_open P effort change r h all other =
-    let order = h.order in
-    let lt : r.shut < r.tried = omega (arith, other, order) in
-    subst (λ (n : ℕ). IsStep P change n × IsLeftOpen (loosened P change n) effort) all (h.left lt)
+-- where all steps give no roster, none do
+pub helps_never : (P : Instance) (change : Change) (most : ℕ) → IsChange P change → most ≡ most_steps P change → HasNone (loosened P change most) → HelpsNever P change
+helps_never P change most known all none = λ n step. let few = step.1 in none_nearer P change n most known (omega (arith, few, all)) none
+
+pub no_steps : (P : Instance) (change : Change) (most : ℕ) → most ≡ most_steps P change → most ≡ 0 → HelpsNever P change
+no_steps P change most all zero = λ n step. let some = step.0 in let few = step.1 in absurd (omega (arith, some, few, all, zero))

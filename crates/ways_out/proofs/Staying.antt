@@ -16,7 +16,7 @@ use Rattle.ways_out.specs.declared.change.Change.TheVariants.{LongerBlocks, Shor
 use Rattle.ways_out.specs.Loosened.{edited, raised, lowered, with_bounds, with_demand, loosened, changed_rule, max_rule, min_rule, IsChange}
 use Rattle.ways_out.specs.Laws.{RostersStay, RostersStayFurther, OtherRulesStay}
 use Rattle.ways_out.proofs.Edited.{length-edited, edited_same, edited_related, related_get, sum_edited}
-use Rattle.ways_out.proofs.Easier.{IsEasierBut, rule_kept, roster_kept, all_kept}
+use Rattle.ways_out.proofs.Easier.{IsEasierBut, rule_kept, roster_kept, all_kept, shape_kept}
 use Rattle.ways_out.proofs.Valid.{rebound}
 
 le_same : (n : ℕ) → n ≤ n
@@ -348,3 +348,7 @@ other_rules_stay P change n r s known meets rule other = rule_kept (loosened P c
 
 pub roster_stays : (P : Instance) (change : Change) (n : ℕ) (s : List Symbol) → IsChange P change → MeetsAll (loosened P change n) s → IsRoster P s
 roster_stays P change n s known meets = roster_kept (loosened P change n) P (λ q. q ≡ changed_rule change) (as_easy P change n known) s meets
+
+-- and the other way round, what has the shape of one of the instance has that of one of it loosened
+pub roster_loosened : (P : Instance) (change : Change) (n : ℕ) (s : List Symbol) → IsChange P change → IsRoster P s → IsRoster (loosened P change n) s
+roster_loosened P change n s known is = shape_kept P (loosened P change n) NoneSpared s (easier P change n known) is

@@ -1,5 +1,5 @@
 -- Whether a problem has a roster once something is loosened.
-use Rattle.std.specs.Prelude.{ℕ, ◌<◌, List, Bool, true, false}
+use Rattle.std.specs.Prelude.{◌≡◌, ℕ, ◌+◌, ◌<◌, ◌⊎◌, List, Bool, true, false}
 use Rattle.rwsp_terms.specs.declared.data.Symbol.{Symbol}
 use Rattle.rwsp_terms.specs.Instance.{Instance}
 use Rattle.rwsp_terms.specs.Roster.{MeetsAll}
@@ -38,16 +38,21 @@ IsLeftOpen P effort = (g : Log) × IsPlan P effort (Undecided g)
 abbrev pub IsNearest : Instance → Change → ℕ → Type 0
 IsNearest P change n = (m : ℕ) → IsStep P change m → m < n → HasNone (loosened P change m)
 
--- a plan with fewer steps has spent its budget
+-- no roster meets every rule, or a plan has spent its budget
+abbrev pub IsUnfound : Instance → Effort → Type 0
+IsUnfound P effort = HasNone P ⊎ IsLeftOpen P effort
+
+-- the plan with one step fewer has spent its budget, and with one step in all no roster was found
 abbrev pub IsNearerOpen : Instance → Effort → Change → ℕ → Type 0
 IsNearerOpen P effort change n =
-    (m : ℕ) × IsStep P change m × (m < n) × IsLeftOpen (loosened P change m) effort
+    IsUnfound (loosened P change 1) effort
+    × (m : ℕ) × IsStep P change m × (m + 1 ≡ n) × IsLeftOpen (loosened P change m) effort
 
 abbrev pub IsNearestIf : Bool → Instance → Effort → Change → ℕ → Type 0
 IsNearestIf true P effort change n = IsNearest P change n
 IsNearestIf false P effort change n = IsNearerOpen P effort change n
 
--- the steps give the instance a roster. They are the nearest, or fewer were left open
+-- the steps give the instance a roster. They are the nearest, or one step fewer was left open
 pub record HelpsWith (P : Instance) (effort : Effort) (change : Change) (n : ℕ) (is_nearest : Bool) : Type 0 where
   pub step : IsStep P change n
   pub roster : HasRoster (loosened P change n)
@@ -57,9 +62,14 @@ pub record HelpsWith (P : Instance) (effort : Effort) (change : Change) (n : ℕ
 abbrev pub HelpsNever : Instance → Change → Type 0
 HelpsNever P change = (n : ℕ) → IsStep P change n → HasNone (loosened P change n)
 
+-- the plan with all steps has spent its budget, and with one step no roster was found
+pub record IsOpen (P : Instance) (effort : Effort) (change : Change) : Type 0 where
+  pub step : IsStep P change (most_steps P change)
+  pub utmost : IsLeftOpen (loosened P change (most_steps P change)) effort
+  pub first : IsUnfound (loosened P change 1) effort
+
 -- what an outcome says of a change
 abbrev pub IsOutcome : Instance → Effort → Change → Outcome → Type 0
 IsOutcome P effort change (Helps n is_nearest) = HelpsWith P effort change n is_nearest
 IsOutcome P effort change Shut = HelpsNever P change
-IsOutcome P effort change Open =
-    IsStep P change (most_steps P change) × IsLeftOpen (loosened P change (most_steps P change)) effort
+IsOutcome P effort change Open = IsOpen P effort change

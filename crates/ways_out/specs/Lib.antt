@@ -7,4 +7,4 @@ pub mod Texts
 pub mod Agreement
 pub mod Verdicts
 pub mod Reached
-pub mod Columns
+pub mod Shares

@@ -3,6 +3,7 @@
 
 mod answer;
 mod change;
+mod enough;
 mod laws;
 mod listed;
 mod loosening;

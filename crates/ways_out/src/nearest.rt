@@ -1,18 +1,14 @@
 // The nearest number of steps of a change that gives a problem a roster.
-ghost use Rattle.std.specs.Prelude.{◌≡◌, ℕ, ◌<◌, ◌≤◌, IfOk, MatchOption, Some};
+ghost use Rattle.std.specs.Prelude.{◌≡◌, ◌<◌, ◌≤◌, IfOk};
 ghost use Rattle.rwsp_terms.specs.declared.limits.TheConstants.{GREATEST_BUDGET};
-ghost use Rattle.rwsp_terms.specs.Instance.{Instance};
 ghost use Rattle.ways_out.specs.Loosened.{loosened, most_steps, IsChange, IsStep};
-ghost use Rattle.ways_out.specs.Helping.{HasRoster, IsOutcome};
-ghost use Rattle.ways_out.specs.Verdicts.{IsVerdict};
+ghost use Rattle.ways_out.specs.Helping.{HasRoster, IsLeftOpen, IsOutcome, IsUnfound};
 ghost use Rattle.ways_out.specs.Reached.{HasReached};
 
 use crate::change::{Change, Outcome};
 use crate::loosening::most_steps;
-use crate::plans::{NoRoster, judge};
+use crate::plans::{Asked, Verdict, judge};
 use clean_words::Gate;
-use roster_planner::Effort;
-use rwsp_model::Problem;
 use std::alloc::{AllocError, Global};
 use std::thread::Threads;
 
@@ -25,78 +21,39 @@ pub struct Reached {
     pub tried: u32,
 }
 
-// What is reached where so many steps, more than were tried before, gave no roster.
-fn further(reached: Reached, steps: u32, why: NoRoster) -> Reached
-    ensures tried { result.tried ≡ steps }
-    ensures reached { (P : Instance) (effort : Effort) (change : Change) → IsChange P change
-        → HasReached P effort change reached → reached.tried ≤ steps → IsStep P change steps
-        → IsVerdict (loosened P change steps) effort (Some why) → HasReached P effort change result }
-{
-    match why {
-        NoRoster::Refuted => Reached {
-            shut: steps,
-            tried: steps,
-        },
-        NoRoster::Open => Reached {
-            shut: reached.shut,
-            tried: steps,
-        },
-    }
-}
-
-// The first number of steps with a roster, of one and then twice as many up to all; and what is reached before.
-fn climb<R: Threads + Sync, G: Gate>(
-    rt: &R,
-    alloc: Global,
-    problem: &Problem,
-    change: Change,
-    effort: Effort,
-    gate: &G,
-) -> Result<(Reached, Option<u32>), AllocError>
-    requires change { IsChange problem.now change }
-    requires budget { (1 ≤ effort.budget) × (effort.budget ≤ GREATEST_BUDGET) }
-    ensures reached { IfOk result (λ r. HasReached problem.now effort change r.0) }
-    ensures found { IfOk result (λ r. MatchOption r.1 (r.0.tried ≡ most_steps problem.now change)
-        (λ n. (r.0.tried < n) × IsStep problem.now change n × HasRoster (loosened problem.now change n))) }
-{
-    let most = most_steps(problem, change);
-    let mut reached = Reached { shut: 0, tried: 0 };
-    let mut steps = 1;
-    while reached.tried < most {
-        let Some(why) = judge(rt, alloc, problem, change, steps, effort, gate)? else {
-            return Ok((reached, Some(steps)));
-        };
-        reached = further(reached, steps, why);
-        steps = most.min(2 * steps);
-    }
-    Ok((reached, None))
-}
-
-// The nearest number of steps with a roster, by halves of what is between what is reached and steps with one.
+// The nearest number of steps with a roster, by halves of what is between what is reached and steps with one. With one
+// step none was found.
 fn narrow<R: Threads + Sync, G: Gate>(
     rt: &R,
     alloc: Global,
-    problem: &Problem,
+    asked: &Asked<'_, G>,
     change: Change,
     start: Reached,
     found: u32,
-    effort: Effort,
-    gate: &G,
 ) -> Result<Outcome, AllocError>
-    requires change { IsChange problem.now change }
-    requires budget { (1 ≤ effort.budget) × (effort.budget ≤ GREATEST_BUDGET) }
-    requires reached { HasReached problem.now effort change start }
+    requires change { IsChange asked.now.problem.now change }
+    requires budget { (1 ≤ asked.now.effort.budget) × (asked.now.effort.budget ≤ GREATEST_BUDGET) }
+    requires reached { HasReached asked.now.problem.now asked.now.effort change start }
     requires order { start.tried < found }
-    requires found { IsStep problem.now change found × HasRoster (loosened problem.now change found) }
-    ensures { IfOk result (IsOutcome problem.now effort change) }
+    requires step { IsStep asked.now.problem.now change found }
+    requires found { HasRoster (loosened asked.now.problem.now change found) }
+    requires first { IsUnfound (loosened asked.now.problem.now change 1) asked.now.effort }
+    ensures { IfOk result (IsOutcome asked.now.problem.now asked.now.effort change) }
 {
     let mut reached = start;
     let mut nearest = found;
     while reached.tried + 1 < nearest {
         let steps = reached.tried + (nearest - reached.tried) / 2;
-        match judge(rt, alloc, problem, change, steps, effort, gate)? {
-            None => nearest = steps,
-            Some(why) => reached = further(reached, steps, why),
+        match judge(rt, alloc, asked, change, reached.tried, steps)? {
+            Verdict::Enough(fewer) => nearest = fewer,
+            Verdict::Refuted => reached = Reached {
+                shut: steps,
+                tried: steps,
+            },
+            Verdict::Open => reached = Reached {
+                shut: reached.shut,
+                tried: steps,
+            },
         }
     }
     Ok(Outcome::Helps {
@@ -105,25 +62,84 @@ fn narrow<R: Threads + Sync, G: Gate>(
     })
 }
 
-/// The outcome of a change: the nearest number of steps that gives the problem a roster is looked for by plans, of one
-/// step, then of twice as many up to all, and then by halves. So near ones come first: a bound of many days is that of
-/// no short rule, and problems with one are harder to decide. The plans grow with the logarithm of the steps.
+// The outcome where so many steps give a roster: one step is planned, and then halves between it and them.
+fn nearest_of<R: Threads + Sync, G: Gate>(
+    rt: &R,
+    alloc: Global,
+    asked: &Asked<'_, G>,
+    change: Change,
+    found: u32,
+) -> Result<Outcome, AllocError>
+    requires change { IsChange asked.now.problem.now change }
+    requires budget { (1 ≤ asked.now.effort.budget) × (asked.now.effort.budget ≤ GREATEST_BUDGET) }
+    requires step { IsStep asked.now.problem.now change found }
+    requires found { HasRoster (loosened asked.now.problem.now change found) }
+    ensures { IfOk result (IsOutcome asked.now.problem.now asked.now.effort change) }
+{
+    if found == 1 {
+        return Ok(Outcome::Helps {
+            steps: 1,
+            is_nearest: true,
+        });
+    }
+    let reached = match judge(rt, alloc, asked, change, 0, 1)? {
+        Verdict::Enough(_) => return Ok(Outcome::Helps {
+            steps: 1,
+            is_nearest: true,
+        }),
+        Verdict::Refuted => Reached { shut: 1, tried: 1 },
+        Verdict::Open => Reached { shut: 0, tried: 1 },
+    };
+    narrow(rt, alloc, asked, change, reached, found)
+}
+
+// The outcome where the plan with all steps is left open: a bound of many days is that of no short rule, and what is
+// nearer may be easier to decide. So one step is planned.
+fn outcome_by_first<R: Threads + Sync, G: Gate>(
+    rt: &R,
+    alloc: Global,
+    asked: &Asked<'_, G>,
+    change: Change,
+    most: u32,
+) -> Result<Outcome, AllocError>
+    requires change { IsChange asked.now.problem.now change }
+    requires budget { (1 ≤ asked.now.effort.budget) × (asked.now.effort.budget ≤ GREATEST_BUDGET) }
+    requires most { (0 < most) × (most ≡ most_steps asked.now.problem.now change) }
+    requires open { IsLeftOpen (loosened asked.now.problem.now change most) asked.now.effort }
+    ensures { IfOk result (IsOutcome asked.now.problem.now asked.now.effort change) }
+{
+    if most == 1 {
+        return Ok(Outcome::Open);
+    }
+    match judge(rt, alloc, asked, change, 0, 1)? {
+        Verdict::Enough(_) => Ok(Outcome::Helps {
+            steps: 1,
+            is_nearest: true,
+        }),
+        Verdict::Refuted | Verdict::Open => Ok(Outcome::Open),
+    }
+}
+
+/// The outcome of a change. All steps are planned first: where they give no roster, none do, and one plan says so. Then
+/// one step is planned, and where there is a roster, the nearest number of steps is looked for by halves between. The
+/// plans grow with the logarithm of the steps that the first roster needs.
 pub fn outcome_of<R: Threads + Sync, G: Gate>(
     rt: &R,
     alloc: Global,
-    problem: &Problem,
+    asked: &Asked<'_, G>,
     change: Change,
-    effort: Effort,
-    gate: &G,
 ) -> Result<Outcome, AllocError>
-    requires change { IsChange problem.now change }
-    requires budget { (1 ≤ effort.budget) × (effort.budget ≤ GREATEST_BUDGET) }
-    ensures { IfOk result (IsOutcome problem.now effort change) }
+    requires change { IsChange asked.now.problem.now change }
+    requires budget { (1 ≤ asked.now.effort.budget) × (asked.now.effort.budget ≤ GREATEST_BUDGET) }
+    ensures { IfOk result (IsOutcome asked.now.problem.now asked.now.effort change) }
 {
-    let (reached, found) = climb(rt, alloc, problem, change, effort, gate)?;
-    match found {
-        Some(steps) => narrow(rt, alloc, problem, change, reached, steps, effort, gate),
-        None if reached.shut == reached.tried => Ok(Outcome::Shut),
-        None => Ok(Outcome::Open),
+    let most = most_steps(asked.problem, change);
+    if most == 0 {
+        return Ok(Outcome::Shut);
+    }
+    match judge(rt, alloc, asked, change, 0, most)? {
+        Verdict::Enough(steps) => nearest_of(rt, alloc, asked, change, steps),
+        Verdict::Refuted => Ok(Outcome::Shut),
+        Verdict::Open => outcome_by_first(rt, alloc, asked, change, most),
     }
 }

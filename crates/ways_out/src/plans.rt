@@ -1,13 +1,13 @@
 // Whether a problem with something loosened has a roster.
-ghost use Rattle.std.specs.Prelude.{ℕ, ◌≤◌, IfOk};
+ghost use Rattle.std.specs.Prelude.{◌<◌, ◌≤◌, IfOk};
 ghost use Rattle.rwsp_terms.specs.declared.limits.TheConstants.{GREATEST_BUDGET};
-ghost use Rattle.rwsp_terms.specs.Instance.{Instance};
 ghost use Rattle.refutation_log.specs.Planned.{IsCounted, IsPlanned};
 ghost use Rattle.ways_out.specs.Loosened.{loosened, IsChange, IsStep};
 ghost use Rattle.ways_out.specs.Helping.{IsPlan};
 ghost use Rattle.ways_out.specs.Verdicts.{IsVerdict};
 
 use crate::change::Change;
+use crate::enough::fewer_steps;
 use crate::loosening::loosen;
 use clean_words::Gate;
 use refutation_log::Found;
@@ -16,10 +16,21 @@ use rwsp_model::Problem;
 use std::alloc::{AllocError, Global};
 use std::thread::Threads;
 
-/// Why a plan gives no roster.
+/// What all plans of changes have in common: the problem that is changed, the effort of each plan, and the gate before
+/// its workers.
+#[derive(Drop)]
+pub struct Asked<'a, G> {
+    pub problem: &'a Problem,
+    pub effort: Effort,
+    pub gate: &'a G,
+}
+
+/// What a plan says of a problem with so many steps of a change.
 #[derive(Clone, Copy)]
-pub enum NoRoster {
-    /// There is none.
+pub enum Verdict {
+    /// It has a roster, and with so many steps too, which are no more.
+    Enough(u32),
+    /// It has none.
     Refuted,
     /// The plan has spent its budget.
     Open,
@@ -40,34 +51,52 @@ pub fn plan_within<R: Threads + Sync, G: Gate>(
     plan_roster(rt, alloc, problem, effort, gate)
 }
 
-// Why a plan gives no roster, or none where it gives one.
-fn verdict_of(found: Found) -> Option<NoRoster>
-    ensures { (P : Instance) (effort : Effort) → IsPlan P effort found → IsVerdict P effort result }
+// What is found says of the problem with so many steps of a change. A roster is tried with fewer steps, but with more
+// than `low`.
+fn verdict_of<G>(
+    alloc: Global,
+    asked: &Asked<'_, G>,
+    change: Change,
+    low: u32,
+    steps: u32,
+    found: Found,
+) -> Result<Verdict, AllocError>
+    requires change { IsChange asked.now.problem.now change }
+    requires steps { (low < steps) × IsStep asked.now.problem.now change steps }
+    requires plan { IsPlan (loosened asked.now.problem.now change steps) asked.now.effort found }
+    ensures { IfOk result (IsVerdict asked.now.problem.now asked.now.effort change low steps) }
 {
     match found {
-        Found::Roster(_) => None,
-        Found::NoRoster(_) => Some(NoRoster::Refuted),
-        Found::Undecided(_) => Some(NoRoster::Open),
+        Found::Roster(roster) => Ok(Verdict::Enough(fewer_steps(
+            alloc,
+            asked.problem,
+            change,
+            &roster,
+            low,
+            steps,
+        )?)),
+        Found::NoRoster(_) => Ok(Verdict::Refuted),
+        Found::Undecided(_) => Ok(Verdict::Open),
     }
 }
 
-/// Why the problem is given no roster with so many steps of a change, or none where it has one.
+/// What a plan says of the problem with so many steps of a change. Where there is a roster, it is tried with fewer
+/// steps too, but with more than `low`.
 pub fn judge<R: Threads + Sync, G: Gate>(
     rt: &R,
     alloc: Global,
-    problem: &Problem,
+    asked: &Asked<'_, G>,
     change: Change,
+    low: u32,
     steps: u32,
-    effort: Effort,
-    gate: &G,
-) -> Result<Option<NoRoster>, AllocError>
-    requires change { IsChange problem.now change }
-    requires step { IsStep problem.now change steps }
-    requires budget { (1 ≤ effort.budget) × (effort.budget ≤ GREATEST_BUDGET) }
-    ensures { IfOk result (IsVerdict (loosened problem.now change steps) effort) }
+) -> Result<Verdict, AllocError>
+    requires change { IsChange asked.now.problem.now change }
+    requires steps { (low < steps) × IsStep asked.now.problem.now change steps }
+    requires budget { (1 ≤ asked.now.effort.budget) × (asked.now.effort.budget ≤ GREATEST_BUDGET) }
+    ensures { IfOk result (IsVerdict asked.now.problem.now asked.now.effort change low steps) }
 {
-    let loosened = loosen(alloc, problem, change, steps)?;
-    let found = plan_within(rt, alloc, &loosened, effort, gate);
+    let loosened = loosen(alloc, asked.problem, change, steps)?;
+    let found = plan_within(rt, alloc, &loosened, asked.effort, asked.gate);
     drop(loosened);
-    Ok(verdict_of(found?))
+    verdict_of(alloc, asked, change, low, steps, found?)
 }

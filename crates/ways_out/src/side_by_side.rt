@@ -1,29 +1,35 @@
 // The outcomes of many changes, by workers side by side.
-ghost use Rattle.std.specs.Prelude.{◌<◌, ◌≤◌, length, All, IfOk, slice_index_or};
+ghost use Rattle.std.specs.Prelude.{◌<◌, ◌≤◌, length, All, IfOk, IfSome};
 ghost use Rattle.std.specs.List.{AllZip};
 ghost use Rattle.rwsp_terms.specs.declared.limits.TheConstants.{GREATEST_BUDGET, MOST_WORKERS};
 ghost use Rattle.ways_out.specs.Loosened.{IsChange};
 ghost use Rattle.ways_out.specs.Helping.{Refutes, IsOutcome};
-ghost use Rattle.ways_out.specs.declared.change.Change.{Change as ChangeValue};
-ghost use Rattle.ways_out.specs.Columns.{IsColumn, AreColumns};
+ghost use Rattle.ways_out.specs.Shares.{IsOutcomeAt, IsShare, AreShares};
 
 use crate::change::{Change, Outcome};
 use crate::listed::changed_rule;
 use crate::nearest::outcome_of;
+use crate::plans::Asked;
 use clean_words::Gate;
-use roster_planner::Effort;
-use rwsp_model::{Problem, number_of};
+use rwsp_model::number_of;
 use rwsp_terms::RuleList;
 use std::alloc::{AllocError, Global};
+use std::sync::atomic::{AtomicUsize, Ordering};
 use std::thread;
 use std::thread::Threads;
 
-/// A problem without a roster, the rules that show it, and the effort of each plan.
+/// The outcome of the change at a place.
+#[derive(Clone, Copy)]
+pub struct Placed {
+    pub place: usize,
+    pub outcome: Outcome,
+}
+
+/// A problem without a roster, and the rules that show it.
 #[derive(Drop)]
-pub struct Refuted<'a> {
-    pub problem: &'a Problem,
+pub struct Refuted<'a, G> {
+    pub asked: Asked<'a, G>,
     pub named: &'a RuleList,
-    pub effort: Effort,
 }
 
 // The outcome of a change. One of a rule that isn't named needs no plan: with the others as they are there is no
@@ -31,115 +37,171 @@ pub struct Refuted<'a> {
 fn outcome_by_rule<R: Threads + Sync, G: Gate>(
     rt: &R,
     alloc: Global,
-    refuted: &Refuted<'_>,
+    refuted: &Refuted<'_, G>,
     change: Change,
-    gate: &G,
 ) -> Result<Outcome, AllocError>
-    requires change { IsChange refuted.now.problem.now change }
-    requires refutes { Refutes refuted.now.problem.now refuted.now.named.now }
-    requires budget { (1 ≤ refuted.now.effort.budget) × (refuted.now.effort.budget ≤ GREATEST_BUDGET) }
-    ensures { IfOk result (IsOutcome refuted.now.problem.now refuted.now.effort change) }
+    requires change { IsChange refuted.now.asked.problem.now change }
+    requires refutes { Refutes refuted.now.asked.problem.now refuted.now.named.now }
+    requires budget { (1 ≤ refuted.now.asked.effort.budget) × (refuted.now.asked.effort.budget ≤ GREATEST_BUDGET) }
+    ensures { IfOk result (IsOutcome refuted.now.asked.problem.now refuted.now.asked.effort change) }
 {
-    let number = number_of(refuted.problem, changed_rule(change));
+    let number = number_of(refuted.asked.problem, changed_rule(change));
     if refuted.named.holds(number) {
-        outcome_of(rt, alloc, refuted.problem, change, refuted.effort, gate)
+        outcome_of(rt, alloc, &refuted.asked, change)
     } else {
         Ok(Outcome::Shut)
     }
 }
 
-// The outcomes of each change of a worker, who has one of as many in a row as there are workers, behind the gate.
-fn column<R: Threads + Sync, G: Gate>(
+// The outcomes of the changes that a worker takes, behind the gate: the next one that no worker has taken, as long as
+// there is one. So no worker idles while others have several to do.
+fn share<R: Threads + Sync, G: Gate>(
     rt: &R,
     alloc: Global,
-    refuted: &Refuted<'_>,
+    refuted: &Refuted<'_, G>,
     changes: &[Change],
+    next: &AtomicUsize,
     worker: usize,
-    workers: usize,
-    gate: &G,
-) -> Result<Vec<Outcome>, AllocError>
-    requires changes { All (IsChange refuted.now.problem.now) changes.now }
-    requires refutes { Refutes refuted.now.problem.now refuted.now.named.now }
-    requires budget { (1 ≤ refuted.now.effort.budget) × (refuted.now.effort.budget ≤ GREATEST_BUDGET) }
-    requires workers { (worker < workers) × (workers ≤ MOST_WORKERS) }
-    ensures { IfOk result (λ v.
-        IsColumn refuted.now.problem.now refuted.now.effort changes.now worker workers v.items) }
+) -> Result<Vec<Placed>, AllocError>
+    requires changes { All (IsChange refuted.now.asked.problem.now) changes.now }
+    requires refutes { Refutes refuted.now.asked.problem.now refuted.now.named.now }
+    requires budget { (1 ≤ refuted.now.asked.effort.budget) × (refuted.now.asked.effort.budget ≤ GREATEST_BUDGET) }
+    requires worker { worker < MOST_WORKERS }
+    ensures { IfOk result (λ v. IsShare refuted.now.asked.problem.now refuted.now.asked.effort changes.now v.items) }
 {
-    gate.enter(worker as u32 + 1);
+    refuted.asked.gate.enter(worker as u32 + 1);
     let mut outcomes = Vec::new(alloc);
-    let mut place = worker;
-    while place < changes.len() {
-        outcomes.push(outcome_by_rule(rt, alloc, refuted, changes[place], gate)?)?;
-        place += workers;
+    for _ in 0..changes.len() {
+        let place = next.fetch_add(1, Ordering::SeqCst);
+        if place >= changes.len() {
+            break;
+        }
+        let outcome = outcome_by_rule(rt, alloc, refuted, changes[place])?;
+        outcomes.push(Placed { place, outcome })?;
     }
     Ok(outcomes)
 }
 
-// The outcome of the change at a place.
-fn outcome_at(
-    refuted: &Refuted<'_>,
+// The outcome of the change at a place, where this worker took it.
+fn outcome_in<G>(
+    refuted: &Refuted<'_, G>,
     changes: &[Change],
-    columns: &[Result<Vec<Outcome>, AllocError>],
+    outcomes: &[Placed],
+    place: usize,
+) -> Option<Outcome>
+    requires { IsShare refuted.now.asked.problem.now refuted.now.asked.effort changes.now outcomes.now }
+    ensures { IfSome result (IsOutcomeAt refuted.now.asked.problem.now refuted.now.asked.effort changes.now place) }
+{
+    for taken in 0..outcomes.len() {
+        if outcomes[taken].place == place {
+            return Some(outcomes[taken].outcome);
+        }
+    }
+    None
+}
+
+// The outcome of the change at a place, where a worker took it. The lists are looked through, which takes as many steps
+// as there are changes: next to a plan, nothing.
+fn taken_at<G>(
+    refuted: &Refuted<'_, G>,
+    changes: &[Change],
+    shares: &[Result<Vec<Placed>, AllocError>],
+    place: usize,
+) -> Result<Option<Outcome>, AllocError>
+    requires { AreShares refuted.now.asked.problem.now refuted.now.asked.effort changes.now shares.now }
+    ensures { IfOk result (λ found. IfSome found
+        (IsOutcomeAt refuted.now.asked.problem.now refuted.now.asked.effort changes.now place)) }
+{
+    for worker in 0..shares.len() {
+        match &shares[worker] {
+            Ok(outcomes) => {
+                let found = outcome_in(refuted, changes, outcomes, place);
+                if found.is_some() {
+                    return Ok(found);
+                }
+            }
+            Err(_) => return Err(AllocError),
+        }
+    }
+    Ok(None)
+}
+
+// The outcome of the change at a place. No clause says that the workers take every change, so one that none took would
+// be looked at here.
+fn outcome_at<R: Threads + Sync, G: Gate>(
+    rt: &R,
+    alloc: Global,
+    refuted: &Refuted<'_, G>,
+    changes: &[Change],
+    shares: &[Result<Vec<Placed>, AllocError>],
     place: usize,
 ) -> Result<Outcome, AllocError>
-    requires workers { 0 < length columns.now }
-    requires columns { AreColumns refuted.now.problem.now refuted.now.effort changes.now columns.now }
+    requires changes { All (IsChange refuted.now.asked.problem.now) changes.now }
+    requires refutes { Refutes refuted.now.asked.problem.now refuted.now.named.now }
+    requires budget { (1 ≤ refuted.now.asked.effort.budget) × (refuted.now.asked.effort.budget ≤ GREATEST_BUDGET) }
+    requires shares { AreShares refuted.now.asked.problem.now refuted.now.asked.effort changes.now shares.now }
     requires place { place < length changes.now }
-    ensures { IfOk result (λ outcome. (c : ChangeValue)
-        → IsOutcome refuted.now.problem.now refuted.now.effort (slice_index_or changes.now place c) outcome) }
+    ensures { IfOk result
+        (IsOutcomeAt refuted.now.asked.problem.now refuted.now.asked.effort changes.now place) }
 {
-    match &columns[place % columns.len()] {
-        Ok(column) => Ok(column[place / columns.len()]),
-        Err(_) => Err(AllocError),
+    match taken_at(refuted, changes, shares, place)? {
+        Some(outcome) => Ok(outcome),
+        None => outcome_by_rule(rt, alloc, refuted, changes[place]),
     }
 }
 
 // The outcomes of all workers, in the order of the changes.
-fn in_order(
+fn in_order<R: Threads + Sync, G: Gate>(
+    rt: &R,
     alloc: Global,
-    refuted: &Refuted<'_>,
+    refuted: &Refuted<'_, G>,
     changes: &[Change],
-    columns: &[Result<Vec<Outcome>, AllocError>],
+    shares: &[Result<Vec<Placed>, AllocError>],
 ) -> Result<Vec<Outcome>, AllocError>
-    requires workers { 0 < length columns.now }
-    requires columns { AreColumns refuted.now.problem.now refuted.now.effort changes.now columns.now }
-    ensures { IfOk result (λ v. AllZip (IsOutcome refuted.now.problem.now refuted.now.effort) changes.now v.items) }
+    requires changes { All (IsChange refuted.now.asked.problem.now) changes.now }
+    requires refutes { Refutes refuted.now.asked.problem.now refuted.now.named.now }
+    requires budget { (1 ≤ refuted.now.asked.effort.budget) × (refuted.now.asked.effort.budget ≤ GREATEST_BUDGET) }
+    requires shares { AreShares refuted.now.asked.problem.now refuted.now.asked.effort changes.now shares.now }
+    ensures { IfOk result (λ v.
+        AllZip (IsOutcome refuted.now.asked.problem.now refuted.now.asked.effort) changes.now v.items) }
 {
     let mut outcomes = Vec::new(alloc);
     for place in 0..changes.len() {
-        outcomes.push(outcome_at(refuted, changes, columns, place)?)?;
+        outcomes.push(outcome_at(rt, alloc, refuted, changes, shares, place)?)?;
     }
     Ok(outcomes)
 }
 
-/// The outcome of each change, by as many workers: each has one of so many changes in a row, and passes the gate before
-/// its first. What is said of an outcome doesn't depend on how many there are.
+/// The outcome of each change, by as many workers: each passes the gate, and then takes the next change that none has
+/// taken. What is said of an outcome doesn't depend on how many there are.
 pub fn outcomes_of<R: Threads + Sync, G: Gate>(
     rt: &R,
     alloc: Global,
-    refuted: &Refuted<'_>,
+    refuted: &Refuted<'_, G>,
     changes: &[Change],
     workers: u32,
-    gate: &G,
 ) -> Result<Vec<Outcome>, AllocError>
-    requires changes { All (IsChange refuted.now.problem.now) changes.now }
-    requires refutes { Refutes refuted.now.problem.now refuted.now.named.now }
-    requires budget { (1 ≤ refuted.now.effort.budget) × (refuted.now.effort.budget ≤ GREATEST_BUDGET) }
+    requires changes { All (IsChange refuted.now.asked.problem.now) changes.now }
+    requires refutes { Refutes refuted.now.asked.problem.now refuted.now.named.now }
+    requires budget { (1 ≤ refuted.now.asked.effort.budget) × (refuted.now.asked.effort.budget ≤ GREATEST_BUDGET) }
     requires workers { (1 ≤ workers) × (workers ≤ MOST_WORKERS) }
-    ensures { IfOk result (λ v. AllZip (IsOutcome refuted.now.problem.now refuted.now.effort) changes.now v.items) }
+    ensures { IfOk result (λ v.
+        AllZip (IsOutcome refuted.now.asked.problem.now refuted.now.asked.effort) changes.now v.items) }
 {
-    let columns = thread::map_indices(
+    let next = AtomicUsize::new(0);
+    let shares = thread::map_indices(
         rt,
         alloc,
         workers as usize,
-        &|worker: usize| -> Result<Vec<Outcome>, AllocError>
-            requires changes { All (IsChange refuted.now.problem.now) changes.now }
-            requires refutes { Refutes refuted.now.problem.now refuted.now.named.now }
-            requires budget { (1 ≤ refuted.now.effort.budget) × (refuted.now.effort.budget ≤ GREATEST_BUDGET) }
-            requires worker { (worker < workers) × (workers ≤ MOST_WORKERS) }
-            ensures { IfOk result (λ v. IsColumn refuted.entry.now.problem.now refuted.entry.now.effort
-                changes.entry.now worker workers v.items) }
-        { column(rt, alloc, refuted, changes, worker, workers as usize, gate) },
+        &|worker: usize| -> Result<Vec<Placed>, AllocError>
+            requires changes { All (IsChange refuted.now.asked.problem.now) changes.now }
+            requires refutes { Refutes refuted.now.asked.problem.now refuted.now.named.now }
+            requires budget { (1 ≤ refuted.now.asked.effort.budget)
+                × (refuted.now.asked.effort.budget ≤ GREATEST_BUDGET) }
+            requires worker { worker < MOST_WORKERS }
+            ensures { IfOk result (λ v. IsShare refuted.entry.now.asked.problem.now refuted.entry.now.asked.effort
+                changes.entry.now v.items) }
+        { share(rt, alloc, refuted, changes, &next, worker) },
     )?;
-    in_order(alloc, refuted, changes, &columns)
+    in_order(rt, alloc, refuted, changes, &shares)
 }

@@ -6,7 +6,7 @@ ghost use Rattle.ways_out.specs.Answers.{AreWaysOut, AreWaysOf};
 
 use crate::answer::WaysOut;
 use crate::listed::changes_in;
-use crate::plans::plan_within;
+use crate::plans::{Asked, plan_within};
 use crate::side_by_side::{Refuted, outcomes_of};
 use clean_words::Gate;
 use refutation_log::{Found, Log};
@@ -35,26 +35,23 @@ fn reduced(alloc: Global, problem: &Problem, log: Log) -> Result<Log, AllocError
 fn outcomes_by_log<R: Threads + Sync, G: Gate>(
     rt: &R,
     alloc: Global,
-    problem: &Problem,
+    asked: Asked<'_, G>,
     log: &Log,
-    effort: Effort,
     workers: u32,
-    gate: &G,
 ) -> Result<WaysOut, AllocError>
-    requires passes { Passes problem.now log.now }
+    requires passes { Passes asked.problem.now log.now }
     requires no_goal { log.now.goal ≡ None }
-    requires budget { (1 ≤ effort.budget) × (effort.budget ≤ GREATEST_BUDGET) }
+    requires budget { (1 ≤ asked.effort.budget) × (asked.effort.budget ≤ GREATEST_BUDGET) }
     requires workers { (1 ≤ workers) × (workers ≤ MOST_WORKERS) }
-    ensures says { IfOk result (AreWaysOut problem.now effort) }
-    ensures own { IfOk result (AreWaysOf problem.now) }
+    ensures says { IfOk result (AreWaysOut asked.entry.problem.now asked.entry.effort) }
+    ensures own { IfOk result (AreWaysOf asked.entry.problem.now) }
 {
-    let changes = changes_in(alloc, problem)?;
+    let changes = changes_in(alloc, asked.problem)?;
     let refuted = Refuted {
-        problem,
+        asked,
         named: log.named(),
-        effort,
     };
-    let outcomes = outcomes_of(rt, alloc, &refuted, &changes, workers, gate)?;
+    let outcomes = outcomes_of(rt, alloc, &refuted, &changes, workers)?;
     Ok(WaysOut::Changes(outcomes))
 }
 
@@ -82,7 +79,12 @@ pub fn ways_out<R: Threads + Sync, G: Gate>(
         Found::Undecided(log) => return Ok(WaysOut::Undecided(log)),
         Found::NoRoster(log) => reduced(alloc, problem, log)?,
     };
-    let ways = outcomes_by_log(rt, alloc, problem, &log, effort, workers, gate);
+    let asked = Asked {
+        problem,
+        effort,
+        gate,
+    };
+    let ways = outcomes_by_log(rt, alloc, asked, &log, workers);
     drop(log);
     ways
 }

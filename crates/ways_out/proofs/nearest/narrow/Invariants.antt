@@ -6,10 +6,10 @@ use Rattle.ways_out.proofs.nearest.narrow.Given as goal
 
 abbrev pub invariant-loop-reached : goal.invariant-loop-reached
 invariant-loop-reached g l = record {
-  reached : HasReached l.problem l.effort l.change l.reached;
+  reached : HasReached l.asked.problem.now l.asked.effort l.change l.reached;
   order : l.reached.tried < l.nearest;
-  step : IsStep l.problem l.change l.nearest;
-  roster : HasRoster (loosened l.problem l.change l.nearest);
+  step : IsStep l.asked.problem.now l.change l.nearest;
+  roster : HasRoster (loosened l.asked.problem.now l.change l.nearest);
 }
 
 abbrev pub decreases-loop-reached : goal.decreases-loop-reached

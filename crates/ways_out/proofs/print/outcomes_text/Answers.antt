@@ -7,7 +7,7 @@ use Rattle.ways_out.specs.Loosened.{IsChange}
 use Rattle.ways_out.specs.Changes.{changes}
 use Rattle.ways_out.specs.Answers.{HasSteps}
 use Rattle.ways_out.specs.Texts.{outcome_text, outcomes_text, others_line}
-use Rattle.ways_out.proofs.Columns.{zip_long, zip_at}
+use Rattle.ways_out.proofs.Zips.{zip_long, zip_at}
 use Rattle.ways_out.proofs.AllOutcomes.{line_more}
 use Rattle.ways_out.proofs.print.outcomes_text.Goals as goal
 

@@ -3,13 +3,13 @@ use Rattle.std.proofs.lemmas.List.{length_push}
 use Rattle.ways_out.specs.declared.change.Change.{Change}
 use Rattle.ways_out.specs.declared.change.Outcome.{Outcome}
 use Rattle.ways_out.specs.Helping.{IsOutcome}
-use Rattle.ways_out.proofs.Columns.{each_push, zip_from}
+use Rattle.ways_out.proofs.Zips.{each_push, zip_from}
 use Rattle.ways_out.proofs.side_by_side.in_order.Goals as goal
 
 pub loop-place-preserved : goal.loop-place-preserved
-loop-place-preserved c =
-    let P = c.args.refuted.now.problem.now in
-    let b = c.args.refuted.now.effort in
+loop-place-preserved g c =
+    let P = c.args.refuted.now.asked.problem.now in
+    let b = c.args.refuted.now.asked.effort in
     let inv = c.loop-place.invariant in
     let items = c.in_ok-push.ensures.items in
     let more = ap length items ∙ length_push c.loop-place.outcomes.items c.in_ok-outcome_at.field-0 in
@@ -21,9 +21,9 @@ loop-place-preserved c =
     }
 
 pub returns : goal.returns
-returns c =
-    let P = c.args.refuted.now.problem.now in
-    let b = c.args.refuted.now.effort in
+returns g c =
+    let P = c.args.refuted.now.asked.problem.now in
+    let b = c.args.refuted.now.asked.effort in
     let inv = c.loop-place.invariant in
     let past = c.loop-place-test.false in
     let end = c.loop-place.auto.place-end in

@@ -5,7 +5,7 @@ use Rattle.ways_out.specs.Helping.{IsOutcome}
 use Rattle.ways_out.proofs.side_by_side.in_order.Given as goal
 
 abbrev pub invariant-loop-place : goal.invariant-loop-place
-invariant-loop-place l = record {
+invariant-loop-place g l = record {
   long : length l.outcomes.items ≡ l.place;
-  each : (i : ℕ) (d : Outcome) → i < length l.outcomes.items → (c : Change) → IsOutcome l.refuted.problem.now l.refuted.effort (get_or l.changes i c) (get_or l.outcomes.items i d);
+  each : (i : ℕ) (d : Outcome) → i < length l.outcomes.items → (c : Change) → IsOutcome l.refuted.asked.problem.now l.refuted.asked.effort (get_or l.changes i c) (get_or l.outcomes.items i d);
 }
