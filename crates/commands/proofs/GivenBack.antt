@@ -1,38 +1,32 @@
 -- `roster` gives back the roster of what `plan`, `best` and `staff` print.
-use Rattle.std.proofs.Common.{◌≡◌, ◌≢◌, ℕ, zero, suc, ◌+◌, ◌-◌, ◌*◌, ◌^◌, ◌<◌, ◌≤◌, ◌==◌, ◌⊎◌, inl, inr, List, [], ◌∷◌, ◌++◌, length, take, drop, map, codes, Bool, true, false, cond, not, Option, Some, None, refl, ap, sym, subst, ◌∙◌, arith, append_assoc, length-append}
+use Rattle.std.proofs.Common.{◌≡◌, ◌≢◌, ℕ, suc, ◌+◌, ◌-◌, ◌^◌, ◌<◌, ◌≤◌, ◌==◌, ◌⊎◌, inl, inr, List, [], ◌∷◌, ◌++◌, length, drop, map, codes, Bool, true, false, cond, not, Option, Some, None, refl, ap, sym, subst, ◌∙◌, arith, append_assoc, length-append}
 use Rattle.std.specs.Prelude.{All, ◌||◌, nat_eq, slice_get, filter, slice_index}
-use Rattle.std.specs.List.{flat_map, range_with_len, join_with_byte, list_all, starts_with, AllByRecursion}
+use Rattle.std.specs.List.{flat_map, join_with_byte, list_all, starts_with, AllByRecursion}
 use Rattle.std.specs.Char.{is_ascii_digit}
 use Rattle.std.specs.Fmt.{decimal}
 use Rattle.std.proofs.lemmas.Bool.{and_parts, ne_eqb, not-true, eqb-true, cond-true}
 use Rattle.std.proofs.lemmas.Bool.Decides.{Decides-eqb}
 use Rattle.std.proofs.lemmas.Fmt.{digits_decimal, decimal_nonempty}
 use Rattle.std.proofs.lemmas.List.{append-nil}
-use Rattle.std.proofs.lemmas.List.Sums.{count_by-le-length}
-use Rattle.std.proofs.lemmas.List.Elements.{All-nil, All-cons, All-weaker, All-take, All-drop}
-use Rattle.std.proofs.lemmas.List.FromFn.{length-range_with_len}
+use Rattle.std.proofs.lemmas.List.Elements.{All-nil, All-cons}
 use Rattle.std.proofs.lemmas.Slice.Eq.{starts_is}
 use Rattle.std.proofs.Math.Seq.{take-append_seam, drop-append_seam}
 use Rattle.rwsp_terms.specs.declared.data.Symbol.{Symbol}
-use Rattle.rwsp_terms.specs.Instance.{Instance, IsSymbol, symbol_of, name_of}
-use Rattle.rwsp_terms.specs.Roster.{IsRoster, MeetsAll}
-use Rattle.rwsp_text.specs.Fields.{is_visible}
-use Rattle.rwsp_text.specs.Kinds.{AreBlankless}
+use Rattle.rwsp_terms.specs.Instance.{Instance, symbol_of}
+use Rattle.rwsp_terms.specs.Roster.{MeetsAll}
 use Rattle.rwsp_text.specs.Lines.{HasNoFeed}
 use Rattle.rwsp_text.specs.Lexemes.{lines_of, words_of_line, has_some, is_space}
 use Rattle.rwsp_text.proofs.JoinedWords.{IsPrinted, printed_word, words_printed, line_printed}
 use Rattle.rwsp_text.proofs.LineLaws.{join_no_feed}
 use Rattle.rwsp_text.proofs.Printed.{ascii_digits_model, printed_is_read}
-use Rattle.rwsp_model.specs.Validity.{IsValid, KeepsLimits, breaks_name}
+use Rattle.rwsp_model.specs.Validity.{IsValid, KeepsLimits}
 use Rattle.rwsp_model.specs.declared.roster.Roster.{Roster}
 use Rattle.rwsp_model.proofs.Limits.{keeps_valid}
-use Rattle.rwsp_model.proofs.Names.{symbol_word}
-use Rattle.roster_print.specs.RosterText.{weeks_of, week_at, roster_text, SpellsRoster}
+use Rattle.roster_print.specs.RosterText.{weeks_of, roster_text, SpellsRoster}
 use Rattle.roster_print.proofs.Printed.{printed_is_spelled, printed_is_short}
-use Rattle.refutation_terms.specs.FreeWeekends.{free_weekends, is_free_weekend}
+use Rattle.refutation_terms.specs.FreeWeekends.{free_weekends}
 use Rattle.refutation_terms.specs.Log.{Log, Fits}
-use Rattle.refutation_terms.specs.declared.lines.Opening.{Opening}
-use Rattle.refutation_terms.specs.LogText.{log_text, header_text, lines_text}
+use Rattle.refutation_terms.specs.LogText.{log_text}
 use Rattle.refutation_log.specs.declared.best_found.BestFound.TheVariants.{Best, NoRoster, Undecided}
 use Rattle.crew_size.specs.Sizes.{with_weeks, IsSize}
 use Rattle.crew_size.specs.Texts.{Staff, staff_text, sections_text, end_text, next_size, roster_line, refuted_line}
@@ -45,7 +39,8 @@ use Rattle.crew_size.proofs.Decided.{sized_keeps}
 use Rattle.crew_size.proofs.Fronts.{size_is_short}
 use Rattle.crew_size.proofs.Headings.{heading_fields, heading_written, heading_words}
 use Rattle.crew_size.proofs.LogCuts.{logs_are_cut_whole}
-use Rattle.commands.specs.AnswerParts.{Numbered, behind_digits, digits_before, closed, number_at, behind_heading, found_or, heading_here, behind_first_heading, lines_len, before_log, part_of_best, best_part, staff_part}
+use Rattle.plain_words.specs.AnswerParts.{Numbered, number_at, behind_heading, found_or, heading_here, behind_first_heading, best_part, staff_part}
+use Rattle.plain_words.proofs.BestParts.{BeginsAsLog, closed_by, not_closed, few_free, free_begins, best_found}
 use Rattle.commands.specs.Best.{counted_text, IsWeeklyRoster}
 use Rattle.commands.specs.Roster.{SaysOf, SpellsNone, SaysOfWeeks, SaysOfStaff, SaysBehindWhole, IsRosterAnswer}
 use Rattle.commands.specs.RosterLaws.{GivesBack, PlansAreGivenBack, BestsAreGivenBack, StaffsAreGivenBack, StaffsSpellNoRoster}
@@ -122,105 +117,7 @@ digits_printed (b ∷ ds) some h =
 number_printed : (n : ℕ) → n < 2 ^ 64 → IsPrinted (decimal n)
 number_printed n small = digits_printed (decimal n) (decimal_nonempty n small) (digits_decimal ascii_digits_model n small)
 
-digits-skip : (b : ℕ) (l : List ℕ) → is_ascii_digit b ≡ true → behind_digits (b ∷ l) ≡ behind_digits l
-unfolding behind_digits
-digits-skip b l is = ap (λ d. cond d (behind_digits l) (b ∷ l)) is
-
-digits-stop : (b : ℕ) (l : List ℕ) → is_ascii_digit b ≡ false → behind_digits (b ∷ l) ≡ b ∷ l
-unfolding behind_digits
-digits-stop b l is = ap (λ d. cond d (behind_digits l) (b ∷ l)) is
-
-behind : (ds : List ℕ) (b : ℕ) (l : List ℕ) → list_all is_ascii_digit ds ≡ true → is_ascii_digit b ≡ false → behind_digits (ds ++ b ∷ l) ≡ b ∷ l
-behind [] b l h stop = digits-stop b l stop
-behind (d ∷ ds) b l h stop =
-    let p = and_parts (is_ascii_digit d) (list_all is_ascii_digit ds) h in
-    digits-skip d (ds ++ b ∷ l) p.0 ∙ behind ds b l p.1 stop
-
-before : (ds l : List ℕ) → digits_before (ds ++ l) l ≡ ds
-before ds l =
-    let long : length (ds ++ l) - length l ≡ length ds = omega (arith, length-append ds l) in
-    ap (λ n. take n (ds ++ l)) long ∙ take-append_seam ds l
-
--- the digits, and what is behind them and what closes them
-closed_by : (ds close l : List ℕ) (b : ℕ) → list_all is_ascii_digit ds ≡ true → is_ascii_digit b ≡ false → starts_with nat_eq (b ∷ l) close ≡ true → number_at close (ds ++ b ∷ l) ≡ Some (ds, drop (length close) (b ∷ l))
-closed_by ds close l b h stop is =
-    ap (closed close (ds ++ b ∷ l)) (behind ds b l h stop)
-    ∙ ap (λ t. cond t (Some (digits_before (ds ++ b ∷ l) (b ∷ l), drop (length close) (b ∷ l))) None) is
-    ∙ ap (λ d. Some (d, drop (length close) (b ∷ l))) (before ds (b ∷ l))
-
-not_closed : (ds close l : List ℕ) (b : ℕ) → list_all is_ascii_digit ds ≡ true → is_ascii_digit b ≡ false → starts_with nat_eq (b ∷ l) close ≡ false → number_at close (ds ++ b ∷ l) ≡ None
-not_closed ds close l b h stop is =
-    ap (closed close (ds ++ b ∷ l)) (behind ds b l h stop)
-    ∙ ap (λ t. cond t (Some (digits_before (ds ++ b ∷ l) (b ∷ l), drop (length close) (b ∷ l))) None) is
-
--- Lines.
-
-lines-zero : (l : List ℕ) → lines_len 0 l ≡ 0
-unfolding lines_len
-lines-zero [] = refl
-lines-zero (b ∷ l) = refl
-
-lines-in : (n b : ℕ) (l : List ℕ) → (b == 10) ≡ false → lines_len (suc n) (b ∷ l) ≡ lines_len (suc n) l + 1
-unfolding lines_len
-lines-in n b l in_line = ap (λ t. lines_len (cond t (suc n - 1) (suc n)) l + 1) in_line
-
-lines-end : (n : ℕ) (l : List ℕ) → lines_len (suc n) (10 ∷ l) ≡ lines_len n l + 1
-unfolding lines_len
-lines-end n l = let one : suc n - 1 ≡ n = omega arith in ap (λ m. lines_len m l + 1) one
-
-line_counted : (line l : List ℕ) (n : ℕ) → HasNoFeed line → lines_len (suc n) ((line ++ 10 ∷ []) ++ l) ≡ length (line ++ 10 ∷ []) + lines_len n l
-line_counted [] l n none = let one : lines_len n l + 1 ≡ 1 + lines_len n l = omega arith in lines-end n l ∙ one
-line_counted (b ∷ line) l n none =
-    let more = line_counted line l n (λ k d less. none (suc k) d (omega (arith, less))) in
-    let here = lines-in n b ((line ++ 10 ∷ []) ++ l) (ne_eqb b 10 (none 0 b (omega arith))) in
-    omega (arith, here, more)
-
-lines_counted : (line : ℕ → List ℕ) (rest : List ℕ) (a n : ℕ) → ((k : ℕ) → k < a + n → HasNoFeed (line k)) → lines_len n (flat_map (λ k. line k ++ 10 ∷ []) (range_with_len a n) ++ rest) ≡ length (flat_map (λ k. line k ++ 10 ∷ []) (range_with_len a n))
-lines_counted line rest a zero none = lines-zero rest
-lines_counted line rest a (suc n) none =
-    let later = flat_map (λ k. line k ++ 10 ∷ []) (range_with_len (a + 1) n) in
-    ap (lines_len (suc n)) (append_assoc (line a ++ 10 ∷ []) later rest)
-    ∙ line_counted (line a) (later ++ rest) n (none a (omega arith))
-    ∙ ap (λ m. length (line a ++ 10 ∷ []) + m) (lines_counted line rest (a + 1) n (λ k less. none k (omega (arith, less))))
-    ∙ sym (length-append (line a ++ 10 ∷ []) later)
-
-names_blankless : (P : Instance) (week : List Symbol) → KeepsLimits P → All (IsSymbol P) week → AreBlankless (map (name_of P) week)
-names_blankless P [] limits known = tt
-names_blankless P (x ∷ week) limits known = (
-  All-weaker (λ b. breaks_name b ≡ false) (λ b. is_visible b ≡ true) (λ b h. ap not h) (name_of P x) (symbol_word P x.number limits (known 0 x (omega arith))).0.unbroken,
-  names_blankless P week limits (λ k d less. known (suc k) d (omega (arith, less))),
-)
-
--- the text of a roster has a line for each week
-roster_lines : (P : Instance) (s : List Symbol) (rest : List ℕ) → KeepsLimits P → IsRoster P s → lines_len P.weeks (roster_text P s ++ rest) ≡ length (roster_text P s)
-roster_lines P s rest limits roster =
-    let known = λ (k : ℕ). All-take (IsSymbol P) P.days (drop (k * P.days) s) (All-drop (IsSymbol P) (k * P.days) s roster.symbols) in
-    let none = λ (k : ℕ) (less : k < 0 + P.weeks). join_no_feed (map (name_of P) (week_at P s k)) (names_blankless P (week_at P s k) limits (known k)) in
-    lines_counted (λ k. join_with_byte 32 (map (name_of P) (week_at P s k))) rest 0 P.weeks none
-
--- bytes in front of a log
-abbrev pub BeginsAsLog : List ℕ → Type 0
-BeginsAsLog log = starts_with nat_eq log (codes "rwsp-free ") ≡ true
-
-cut_before : (text log : List ℕ) → BeginsAsLog log → before_log (length text) (text ++ log) ≡ Some text
-cut_before text log begins =
-    ap (λ rest. cond (starts_with nat_eq rest (codes "rwsp-free ")) (Some (take (length text) (text ++ log))) None) (drop-append_seam text log)
-    ∙ ap (λ t. cond t (Some (take (length text) (text ++ log))) None) begins
-    ∙ ap Some (take-append_seam text log)
-
-free_header : (P : Instance) (named : List ℕ) (o : Opening) (goal : ℕ) (counts : Bool) (lines : List ℕ) → BeginsAsLog (header_text P named o (Some goal) counts ++ lines)
-free_header P named o goal false lines = refl
-free_header P named o goal true lines = refl
-
-free_begins : (P : Instance) (g : Log) (goal : ℕ) → g.goal ≡ Some goal → BeginsAsLog (log_text P g)
-free_begins P g goal is =
-    subst (λ (o : Option ℕ). BeginsAsLog (header_text P g.named g.opening o g.counts ++ lines_text P o g.lines)) (sym is) (free_header P g.named g.opening goal g.counts (lines_text P (Some goal) g.lines))
-
 -- Answers of `best`.
-
-few_free : (P : Instance) (s : List Symbol) → KeepsLimits P → IsRoster P s → free_weekends s < 2 ^ 64
-few_free P s limits roster =
-    omega (arith, count_by-le-length (is_free_weekend s) (range_with_len 0 (length s)), length-range_with_len 0 (length s), roster.long, limits.few_cells)
 
 -- a roster with a free log behind it
 best_given : (P : Instance) (s : Roster) (log : List ℕ) → KeepsLimits P → IsWeeklyRoster P s → MeetsAll P s.cells → BeginsAsLog log → GivesBack P (counted_text P s ++ log) (roster_text P s.cells)
@@ -232,12 +129,7 @@ best_given P s log limits weekly meets begins answer h =
     let all : counted_text P s ++ log ≡ first_line words (text ++ log) = append_assoc ((codes "free " ++ decimal n) ++ 10 ∷ []) text log in
     let printed : AllByRecursion IsPrinted words = (literal_printed (codes "free") (omega arith) (λ e. absurd (omega (arith, e))) refl, (number_printed n small, tt)) in
     let none : SpellsNone P (counted_text P s ++ log) = λ t spells. let long = first_long P words (text ++ log) t printed refl (subst (λ b. SpellsRoster P b t) all spells.1) in omega (arith, long, weekly.0) in
-    let shape : counted_text P s ++ log ≡ codes "free " ++ (decimal n ++ 10 ∷ (text ++ log)) = all ∙ append_assoc (codes "free " ++ decimal n) (10 ∷ []) (text ++ log) in
-    let found : best_part P.weeks (counted_text P s ++ log) ≡ Some text =
-    ap (best_part P.weeks) shape
-    ∙ ap (part_of_best P.weeks) (closed_by (decimal n) (codes "\n") (text ++ log) 10 (digits_decimal ascii_digits_model n small) refl refl)
-    ∙ ap (λ n. before_log n (text ++ log)) (roster_lines P s.cells log limits weekly.2)
-    ∙ cut_before text log begins in
+    let found : best_part P.weeks (counted_text P s ++ log) ≡ Some text = best_found P s.cells log limits weekly.2 begins in
     one_taken P (counted_text P s ++ log) answer (Shown text) h (inr (none, subst (λ part. SaysBehindWhole P (counted_text P s ++ log) part (Shown text)) (sym found) (inl (shown P s.cells limits meets))))
 
 pub bests_given_back : BestsAreGivenBack

@@ -16,5 +16,4 @@ pub mod Rests
 pub mod Pages
 pub mod RosterAnswers
 pub mod Explained
-pub mod Scanned
 pub mod GivenBack

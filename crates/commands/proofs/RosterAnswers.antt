@@ -7,7 +7,7 @@ use Rattle.roster_print.proofs.Spelling.{one_roster}
 use Rattle.roster_checker.proofs.FirstBroken.{first_broken-not_met, first_broken-same}
 use Rattle.roster_checker.specs.declared.broken.Broken.{Broken}
 use Rattle.crew_size.specs.Sizes.{with_weeks}
-use Rattle.commands.specs.AnswerParts.{Numbered, best_part, staff_part}
+use Rattle.plain_words.specs.AnswerParts.{Numbered, best_part, staff_part}
 use Rattle.commands.specs.Verify.{fault_line}
 use Rattle.commands.specs.declared.verify.RosterFault.TheVariants as Faults
 use Rattle.commands.specs.Roster.{IsJudged, SaysOf, SpellsNone, SaysOfWeeks, SaysOfStaff, SaysBehindWhole, IsRosterAnswer}

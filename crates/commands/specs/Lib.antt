@@ -11,7 +11,6 @@ pub mod Rest
 pub mod Page
 pub mod Ics
 pub mod On
-pub mod AnswerParts
 pub mod Roster
 pub mod Explain
 pub mod Trial

@@ -9,7 +9,7 @@ use Rattle.roster_print.specs.RosterText.{SpellsRoster, roster_text}
 use Rattle.roster_checker.specs.FirstBroken.{IsFirstBroken}
 use Rattle.roster_checker.specs.declared.broken.Broken.{Broken}
 use Rattle.crew_size.specs.Sizes.{with_weeks, IsSize}
-use Rattle.commands.specs.AnswerParts.{Numbered, best_part, staff_part}
+use Rattle.plain_words.specs.AnswerParts.{Numbered, best_part, staff_part}
 use Rattle.commands.specs.Lines.{line}
 use Rattle.commands.specs.Verify.{fault_line}
 use Rattle.commands.specs.declared.verify.RosterFault.TheVariants as Faults

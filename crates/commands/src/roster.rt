@@ -1,15 +1,13 @@
 // The roster that stands in an answer of `plan`, `best` or `staff`.
 ghost use Rattle.std.specs.Prelude.{◌≡◌, IfOk, MatchOption};
 ghost use Rattle.rwsp_terms.specs.Roster.{IsRoster};
-ghost use Rattle.commands.specs.AnswerParts.{best_part, staff_part};
+ghost use Rattle.plain_words.specs.AnswerParts.{best_part, staff_part};
 ghost use Rattle.crew_size.specs.Sizes.{with_weeks, IsSize};
 ghost use Rattle.commands.specs.Files.{IsWithinLimit};
 ghost use Rattle.commands.specs.declared.second_file.SecondKind.TheVariants as Kinds;
 ghost use Rattle.commands.specs.Roster.{IsJudged, SaysOf, SpellsNone, SaysOfWeeks, SaysOfStaff, SaysBehindWhole, IsRosterAnswer, roster_answer_text, roster_status};
 
 mod laws;
-mod parts;
-mod scan;
 
 use crate::crew::Calendar;
 use crate::verify::{RosterFault, fault_line};
@@ -17,7 +15,7 @@ use crew_size::{is_size, with_weeks};
 pub use laws::{
     bests_are_given_back, plans_are_given_back, staffs_are_given_back, staffs_spell_no_roster,
 };
-use parts::{best_part, staff_part};
+use plain_words::{best_part, staff_part};
 use roster_checker::first_broken;
 use roster_print::{print_roster, read_roster};
 use rwsp_model::{Fail, Problem, Roster};

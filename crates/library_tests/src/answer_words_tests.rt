@@ -2,7 +2,7 @@
 use plain_words::answer_words;
 use std::alloc::Global;
 use std::test::Fail;
-use test_helpers::{LONG_BLOCKS, THREE_IN_FIVE, TWOS_IN_SIX, problem_of};
+use test_helpers::{LONG_BLOCKS, THREE_IN_FIVE, TWOS_IN_FOUR, TWOS_IN_SIX, problem_of};
 
 const SHORT: [(&[u8], &[u8]); 12] = [
     (
@@ -74,6 +74,50 @@ const LOGS: [(&[u8], &[u8], &[u8]); 5] = [
     ),
 ];
 
+const PARTS: [(&[u8], &[u8], &[u8]); 9] = [
+    (
+        TWOS_IN_FOUR,
+        b"D\nD\n-\n-\n",
+        b"the roster meets every rule\n",
+    ),
+    (
+        TWOS_IN_FOUR,
+        b"D\n-\nD\n-\n",
+        b"the roster breaks rule 2 in the 3 days from week 2 day 1 on: at least 2 days of D in a row\n",
+    ),
+    (
+        LONG_BLOCKS,
+        b"- - - - D D D\nD D D D - - -\nD D D D D D D\n",
+        b"the roster meets every rule\nit has 1 free weekend\n",
+    ),
+    (
+        LONG_BLOCKS,
+        b"free 1\n- - - - D D D\nD D D D - - -\nD D D D D D D\nrwsp-free 1\nrules 3 5 6\ngoal 2\nfree 1 1 rules 3 5 6 weights\n",
+        b"the roster meets every rule\nit has 1 free weekend\nno roster with 2 free weekends or more meets these rules together (the log is the proof):\n3: at most 4 days off in a row\n5: at most 7 days of work in a row\n6: at least 6 days of work in a row\n",
+    ),
+    (
+        LONG_BLOCKS,
+        b"free 1\n- - - - D D D\nD D D D - - -\nD D D D D D D\nrwsp-free 1\nrules\ngoal 3\nopen\n",
+        b"",
+    ),
+    (
+        TWOS_IN_FOUR,
+        b"weeks 2 none\nrwsp-log 1\nrules 7\nday 1 - over\nweeks 3 none\nrwsp-log 1\nrules 1 7\nbound 1 1 1 rules 1 weights 1 D 1\nweeks 4 roster\nD\nD\n-\n-\n",
+        b"4 weeks, and so as many employees, are enough, and 2 to 3 are not\nthe roster meets every rule\nno roster of 3 weeks meets these rules together (the log is the proof):\n1: at most 2 days of D in a row\n7: day 1: D 2, off 1\nno roster of 2 weeks meets these rules together: 7\n",
+    ),
+    (
+        THREE_IN_FIVE,
+        b"weeks 5 none\nrwsp-log 3\nrules 1 2 7\nturn D 1\nblocks D\nnone to 5\n",
+        b"5 weeks have no roster\nno roster of 5 weeks meets these rules together (the log is the proof):\n1: at most 2 days of D in a row\n2: at least 2 days of D in a row\n7: day 1: D 3, off 2\ncounting shows it: 3 days of D cannot be made of blocks of 2 days: 1 block has at most 2 days, and 2 at least 4\n",
+    ),
+    (
+        TWOS_IN_FOUR,
+        b"weeks 3 none\nrwsp-log 1\nrules 7\nday 1 - over\nweeks 4 undecided\nrwsp-log 1\nrules\nopen\n",
+        b"3 weeks have no roster\n0 cases are closed and 1 was left open, so nothing is known of rosters of 4 weeks\nno roster of 3 weeks meets these rules together (the log is the proof):\n7: day 1: D 2, off 1\n",
+    ),
+    (TWOS_IN_FOUR, b"none to 3\n", b""),
+];
+
 fn words(alloc: Global, problem: &[u8], text: &[u8]) -> Result<Vec<u8>, Fail> {
     if text.len() > 10_000 {
         return Err(Fail::from("a long text"));
@@ -98,6 +142,15 @@ fn short_answers_in_words(rt: HostRuntime) -> Result<(), Fail> {
 #[test]
 fn logs_in_words(rt: HostRuntime) -> Result<(), Fail> {
     for (problem, text, expected) in LOGS {
+        let told = words(rt.alloc(), problem, text)?;
+        assert_eq!(rt; told.as_slice(), expected);
+    }
+    Ok(())
+}
+
+#[test]
+fn rosters_and_answers_of_parts_in_words(rt: HostRuntime) -> Result<(), Fail> {
+    for (problem, text, expected) in PARTS {
         let told = words(rt.alloc(), problem, text)?;
         assert_eq!(rt; told.as_slice(), expected);
     }

@@ -8,3 +8,12 @@ pub mod Said
 pub mod Minutes
 pub mod Misfits
 pub mod Sentences
+pub mod Scanned
+pub mod BestParts
+pub mod StaffPlaces
+pub mod LogSaid
+pub mod WholeSaid
+pub mod WholeReasons
+pub mod RosterSaid
+pub mod StaffLines
+pub mod BestSaid

@@ -1,16 +1,16 @@
 -- What the answers of commands say, in words.
-use Rattle.std.specs.Prelude.{◌≡◌, ◌⊎◌, ℕ, List, Option, MatchOption}
+use Rattle.std.specs.Prelude.{◌⊎◌, ℕ, List}
 use Rattle.rwsp_terms.specs.Instance.{Instance}
 use Rattle.refutation_terms.specs.declared.lines.LogKind.{LogKind}
 use Rattle.refutation_terms.specs.declared.lines.LogKind.TheVariants.{WithoutGoal, WithGoal}
 use Rattle.refutation_terms.specs.Log.{Log}
 use Rattle.refutation_log.specs.ReadLog.{HasLogsOf, IsReadAs}
-use Rattle.plain_words.specs.declared.statement.Rosters.{Rosters}
-use Rattle.plain_words.specs.declared.statement.Statement.{Statement}
-use Rattle.plain_words.specs.Statements.{statements_words}
-use Rattle.plain_words.specs.LogWords.{IsSaidOfLog, rosters_by}
+use Rattle.plain_words.specs.LogWords.{IsLogInWords, rosters_by}
 use Rattle.plain_words.specs.LineAnswers.{LineSays}
 use Rattle.plain_words.specs.AcceptedRules.{AcceptedSays}
+use Rattle.plain_words.specs.RosterWords.{RosterSays}
+use Rattle.plain_words.specs.BestWords.{BestSays}
+use Rattle.plain_words.specs.StaffWords.{StaffSays}
 
 -- nothing is said
 abbrev pub SaysNothing : (List ℕ → Type 0) → Type 0
@@ -19,11 +19,6 @@ SaysNothing Says = (text : List ℕ) → Says text → ⊥
 -- what the first kind of answer says; where it says nothing, what the second says
 abbrev pub OrElse : (First Second : List ℕ → Type 0) → List ℕ → Type 0
 OrElse First Second text = First text ⊎ (SaysNothing First × Second text)
-
--- the text is what is said of a log as one about these rosters
-abbrev pub IsLogInWords : Instance → Rosters → Log → List ℕ → Type 0
-IsLogInWords P w g text =
-    (statements : List Statement) × IsSaidOfLog P w g statements × (text ≡ statements_words P statements)
 
 -- what the bytes say that are a log of a kind, about the rosters of its goal
 abbrev pub LogSays : Instance → LogKind → List ℕ → List ℕ → Type 0
@@ -34,6 +29,15 @@ LogSays P kind bytes text =
 abbrev pub LineOf : Instance → List ℕ → List ℕ → Type 0
 LineOf P bytes = OrElse (AcceptedSays P bytes) (LineSays P bytes)
 
--- what the bytes say that are an answer: a log, a free log, or one line. The kinds are tried in this order
+-- what the bytes say that are the text of a roster, or an answer of `best` or `staff` that has several parts
+abbrev pub WholeSays : Instance → List ℕ → List ℕ → Type 0
+WholeSays P bytes = OrElse (RosterSays P bytes) (OrElse (BestSays P bytes) (StaffSays P bytes))
+
+-- what the bytes say that are no log
+abbrev pub NoLogSays : Instance → List ℕ → List ℕ → Type 0
+NoLogSays P bytes = OrElse (WholeSays P bytes) (LineOf P bytes)
+
+-- what the bytes say that are an answer: a log, a free log, a roster, an answer of `best` or `staff`, or one line. The
+-- kinds are tried in this order
 abbrev pub AnswerSays : Instance → List ℕ → List ℕ → Type 0
-AnswerSays P bytes = OrElse (LogSays P WithoutGoal bytes) (OrElse (LogSays P WithGoal bytes) (LineOf P bytes))
+AnswerSays P bytes = OrElse (LogSays P WithoutGoal bytes) (OrElse (LogSays P WithGoal bytes) (NoLogSays P bytes))

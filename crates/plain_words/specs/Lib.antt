@@ -10,5 +10,12 @@ pub mod Statements
 pub mod LogWords
 pub mod LineAnswers
 pub mod AcceptedRules
+pub mod AnswerParts
+pub mod RosterWords
+pub mod BestWords
+pub mod StaffParts
+pub mod StaffPlaces
+pub mod StaffWords
 pub mod AnswerWords
 pub mod AnswerLaws
+pub mod WholeLaws

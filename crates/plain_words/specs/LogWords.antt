@@ -18,6 +18,7 @@ use Rattle.plain_words.specs.declared.statement.Rosters.{Rosters}
 use Rattle.plain_words.specs.declared.statement.Rosters.TheVariants.{Every, Free}
 use Rattle.plain_words.specs.declared.statement.Statement.{Statement}
 use Rattle.plain_words.specs.declared.statement.Statement.TheVariants.{Together, Whatever, Named, OnlyTurn, Counted, Spent}
+use Rattle.plain_words.specs.Statements.{statements_words}
 
 -- one of the lines rests on the rule
 abbrev pub SomeCites : Instance → List Line → Rule → Type 0
@@ -93,6 +94,11 @@ IsSaidBy (suc n) P w g statements = statements ≡ Spent (count_by is_closed g.l
 -- what is said of a log as one about these rosters
 abbrev pub IsSaidOfLog : Instance → Rosters → Log → List Statement → Type 0
 IsSaidOfLog P w g statements = IsSaidBy (count_by is_open g.lines) P w g statements
+
+-- the text is what is said of a log as one about these rosters
+abbrev pub IsLogInWords : Instance → Rosters → Log → List ℕ → Type 0
+IsLogInWords P w g text =
+    (statements : List Statement) × IsSaidOfLog P w g statements × (text ≡ statements_words P statements)
 
 -- the rosters that a log with this goal or none is about
 abbrev pub rosters_by : Option ℕ → Rosters

@@ -2,11 +2,12 @@
 ghost use Rattle.std.specs.Prelude.{◌≤◌, length, IfOk, MatchOption};
 ghost use Rattle.rwsp_terms.specs.declared.limits.TheConstants.{LONGEST_LOG};
 ghost use Rattle.refutation_terms.specs.declared.lines.LogKind.TheVariants.{WithGoal};
-ghost use Rattle.plain_words.specs.AnswerWords.{SaysNothing, OrElse, LogSays, LineOf, AnswerSays};
+ghost use Rattle.plain_words.specs.AnswerWords.{SaysNothing, OrElse, LogSays, LineOf, NoLogSays, AnswerSays};
 
 use crate::accepted::accepted_line_words;
 use crate::line_answer::line_words;
 use crate::log_text::log_words;
+use crate::whole_answer::whole_words;
 use refutation_log::LogKind;
 use rwsp_model::Problem;
 use std::alloc::{AllocError, Global};
@@ -40,10 +41,26 @@ fn behind_logs(
 ) -> Result<Option<Vec<u8>>, AllocError>
     requires { length bytes.now ≤ LONGEST_LOG }
     ensures { IfOk result (λ found. MatchOption found
-        (SaysNothing (OrElse (LogSays problem.now WithGoal bytes.now) (LineOf problem.now bytes.now)))
-        (λ v. OrElse (LogSays problem.now WithGoal bytes.now) (LineOf problem.now bytes.now) v.items)) }
+        (SaysNothing (OrElse (LogSays problem.now WithGoal bytes.now) (NoLogSays problem.now bytes.now)))
+        (λ v. OrElse (LogSays problem.now WithGoal bytes.now) (NoLogSays problem.now bytes.now) v.items)) }
 {
     let first = log_words(alloc, problem, LogKind::WithGoal, bytes)?;
+    match first {
+        Some(text) => Ok(Some(text)),
+        None => {
+            let found = no_log(alloc, problem, bytes)?;
+            Ok(found)
+        }
+    }
+}
+
+// What bytes say that are no log.
+fn no_log(alloc: Global, problem: &Problem, bytes: &[u8]) -> Result<Option<Vec<u8>>, AllocError>
+    requires { length bytes.now ≤ LONGEST_LOG }
+    ensures { IfOk result (λ found. MatchOption found
+        (SaysNothing (NoLogSays problem.now bytes.now)) (λ v. NoLogSays problem.now bytes.now v.items)) }
+{
+    let first = whole_words(alloc, problem, bytes)?;
     match first {
         Some(text) => Ok(Some(text)),
         None => {

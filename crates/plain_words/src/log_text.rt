@@ -4,8 +4,8 @@ ghost use Rattle.rwsp_terms.specs.declared.limits.TheConstants.{LONGEST_LOG};
 ghost use Rattle.refutation_terms.specs.Log.{Fits, Log};
 ghost use Rattle.refutation_log.specs.ReadLog.{HasLogsOf, IsReadAs};
 ghost use Rattle.plain_words.specs.Statements.{StatementFits, statements_words};
-ghost use Rattle.plain_words.specs.LogWords.{rosters_by};
-ghost use Rattle.plain_words.specs.AnswerWords.{SaysNothing, IsLogInWords, LogSays};
+ghost use Rattle.plain_words.specs.LogWords.{IsLogInWords, rosters_by};
+ghost use Rattle.plain_words.specs.AnswerWords.{SaysNothing, LogSays};
 
 use crate::log_words::{log_statements, rosters_by};
 use crate::statement::{Rosters, Statement, put_statements};
@@ -14,8 +14,8 @@ use rwsp_model::{Fail, Problem};
 use rwsp_terms::limits::DAYS_OF_WEEK;
 use std::alloc::{AllocError, Global};
 
-// The log of a kind that the bytes are the text of.
-fn log_of(
+/// The log of a kind that the bytes are the text of.
+pub(crate) fn log_of(
     alloc: Global,
     problem: &Problem,
     kind: LogKind,

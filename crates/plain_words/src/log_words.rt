@@ -234,15 +234,15 @@ fn is_closed(line: &Line) -> bool
     matches!(line, Line::Closing(_))
 }
 
-// How many cases were left open.
-fn count_open(lines: &[Line]) -> usize
+/// How many cases were left open.
+pub(crate) fn count_open(lines: &[Line]) -> usize
     ensures { result ≡ count_by is_open lines.now }
 {
     lines.iter().filter(|line| is_open(line)).count()
 }
 
-// How many cases are closed.
-fn count_closed(lines: &[Line]) -> usize
+/// How many cases are closed.
+pub(crate) fn count_closed(lines: &[Line]) -> usize
     ensures { result ≡ count_by is_closed lines.now }
 {
     lines.iter().filter(|line| is_closed(line)).count()

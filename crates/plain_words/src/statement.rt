@@ -81,9 +81,9 @@ pub enum Statement {
     },
 }
 
-// Appends a number of free weekends.
+/// Appends a number of free weekends.
 #[tactic(auto, unfolding(crate::specs::Statements::weekends_words))]
-fn put_weekends(out: &mut Vec<u8>, count: u32) -> Result<(), AllocError>
+pub(crate) fn put_weekends(out: &mut Vec<u8>, count: u32) -> Result<(), AllocError>
     ensures { OnOk result (out.new.items ≡ out.old.items ++ weekends_words count) }
 {
     put_number(out, u64::from(count))?;
@@ -303,9 +303,9 @@ fn put_together(out: &mut Vec<u8>, rosters: Rosters) -> Result<(), AllocError>
     out.extend_from_slice(b" meets these rules together (the log is the proof):")
 }
 
-// Appends that there is no roster, where no rule is named.
+/// Appends that there is no roster, where no rule is named.
 #[tactic(auto, unfolding(crate::specs::Statements::whatever_words))]
-fn put_whatever(out: &mut Vec<u8>, rosters: Rosters) -> Result<(), AllocError>
+pub(crate) fn put_whatever(out: &mut Vec<u8>, rosters: Rosters) -> Result<(), AllocError>
     ensures { OnOk result (out.new.items ≡ out.old.items ++ whatever_words rosters) }
 {
     out.extend_from_slice(b"there is no roster")?;
