@@ -1,24 +1,17 @@
 -- What the answers of commands say, in words.
-use Rattle.std.specs.Prelude.{◌≡◌, ◌⊎◌, ℕ, List, Option, MatchOption}
+use Rattle.std.specs.Prelude.{◌≡◌, ℕ, List, Option, MatchOption}
 use Rattle.rwsp_terms.specs.Instance.{Instance}
 use Rattle.refutation_terms.specs.declared.lines.LogKind.{LogKind}
 use Rattle.refutation_terms.specs.declared.lines.LogKind.TheVariants.{WithoutGoal, WithGoal}
 use Rattle.refutation_terms.specs.Log.{Log}
 use Rattle.refutation_log.specs.ReadLog.{HasLogsOf, IsReadAs}
+pub use Rattle.plain_words.specs.Says.{SaysNothing, OrElse}
 use Rattle.plain_words.specs.declared.statement.Rosters.{Rosters}
 use Rattle.plain_words.specs.declared.statement.Statement.{Statement}
 use Rattle.plain_words.specs.Statements.{statements_words}
 use Rattle.plain_words.specs.LogWords.{IsSaidOfLog, rosters_by}
 use Rattle.plain_words.specs.LineAnswers.{LineSays}
 use Rattle.plain_words.specs.AcceptedRules.{AcceptedSays}
-
--- nothing is said
-abbrev pub SaysNothing : (List ℕ → Type 0) → Type 0
-SaysNothing Says = (text : List ℕ) → Says text → ⊥
-
--- what the first kind of answer says; where it says nothing, what the second says
-abbrev pub OrElse : (First Second : List ℕ → Type 0) → List ℕ → Type 0
-OrElse First Second text = First text ⊎ (SaysNothing First × Second text)
 
 -- the text is what is said of a log as one about these rosters
 abbrev pub IsLogInWords : Instance → Rosters → Log → List ℕ → Type 0
