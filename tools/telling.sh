@@ -96,27 +96,12 @@ slips_in() {
     "$program" explain "$3" 2>/dev/null | sed -n "1,/^1: /d; /^[0-9]\{1,\}: /d; $which"
 }
 
-# The part of an answer that can be explained where the whole can't: of `best` the log, and of `staff` what `check-staff`
-# prints of it.
-part_of_answer() {
-    case "$1" in
-        best) sed -n '/^rwsp-free [12]$/,$p' "$answer" ;;
-        staff)
-            low="$(sed -n 's/^weeks \([0-9]*\) [nr]o[a-z]*$/\1/p' "$answer" | head -n 1)"
-            sed -n "s/^weeks \([0-9]*\) roster$/accepted: least \1 from $low/p; s/^none to /accepted: none $low to /p" "$answer" | head -n 1
-            ;;
-    esac
-}
-
 # Has the program explain the answer. Of a roster there is nothing to explain, nor of what is no answer for `explain`.
 explain_answer() {
     answer=/dev/fd/6
     explained=0
     [ "$1 $2" != "1 plan" ] || reduce_answer "$3"
     [ "$1 $2" = "0 plan" ] || { words="$("$program" explain "$3" "$answer" 2>/dev/null)" || explained=$?; }
-    case "$2 $explained" in
-        "best 5" | "staff 5") words="$(part_of_answer "$2" | "$program" explain "$3" /dev/stdin 2>/dev/null)" && explained=0 ;;
-    esac
     case "$explained" in
         0 | 3) ;;
         5) words= ;;

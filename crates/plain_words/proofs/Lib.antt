@@ -3,7 +3,9 @@ pub mod Fitting
 pub mod OneSaid
 pub mod SaidLaws
 pub mod Either
+pub mod Named
 pub mod Pieces
+pub mod ShortSaid
 pub mod Said
 pub mod Minutes
 pub mod Misfits

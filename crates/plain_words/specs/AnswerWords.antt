@@ -1,24 +1,17 @@
 -- What the answers of commands say, in words.
-use Rattle.std.specs.Prelude.{◌⊎◌, ℕ, List}
+use Rattle.std.specs.Prelude.{ℕ, List}
 use Rattle.rwsp_terms.specs.Instance.{Instance}
 use Rattle.refutation_terms.specs.declared.lines.LogKind.{LogKind}
 use Rattle.refutation_terms.specs.declared.lines.LogKind.TheVariants.{WithoutGoal, WithGoal}
 use Rattle.refutation_terms.specs.Log.{Log}
 use Rattle.refutation_log.specs.ReadLog.{HasLogsOf, IsReadAs}
+pub use Rattle.plain_words.specs.Says.{SaysNothing, OrElse}
 use Rattle.plain_words.specs.LogWords.{IsLogInWords, rosters_by}
 use Rattle.plain_words.specs.LineAnswers.{LineSays}
 use Rattle.plain_words.specs.AcceptedRules.{AcceptedSays}
 use Rattle.plain_words.specs.RosterWords.{RosterSays}
 use Rattle.plain_words.specs.BestWords.{BestSays}
 use Rattle.plain_words.specs.StaffWords.{StaffSays}
-
--- nothing is said
-abbrev pub SaysNothing : (List ℕ → Type 0) → Type 0
-SaysNothing Says = (text : List ℕ) → Says text → ⊥
-
--- what the first kind of answer says; where it says nothing, what the second says
-abbrev pub OrElse : (First Second : List ℕ → Type 0) → List ℕ → Type 0
-OrElse First Second text = First text ⊎ (SaysNothing First × Second text)
 
 -- what the bytes say that are a log of a kind, about the rosters of its goal
 abbrev pub LogSays : Instance → LogKind → List ℕ → List ℕ → Type 0

@@ -6,6 +6,10 @@ pub mod SentenceText
 pub mod ProblemWords
 pub mod Laws
 pub mod Causes
+pub mod Says
+pub mod RuleLabels
+pub mod BrokenRules
+pub mod Escapes
 pub mod Statements
 pub mod LogWords
 pub mod LineAnswers

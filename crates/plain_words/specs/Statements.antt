@@ -9,13 +9,14 @@ use Rattle.rwsp_terms.specs.Instance.{Instance, IsSymbol, name_of}
 use Rattle.rwsp_terms.specs.Rules.{rules, rule_of}
 use Rattle.refutation_terms.specs.declared.lines.Turn.{Turn}
 use Rattle.plain_words.specs.Words.{weeks_words, range_words, name_words}
+use Rattle.plain_words.specs.BrokenRules.{breach_words}
 use Rattle.plain_words.specs.Causes.{short_words, count_words, line_words}
 use Rattle.plain_words.specs.RuleWords.{rule_words}
 use Rattle.plain_words.specs.Counting.{counted_words}
 use Rattle.plain_words.specs.declared.statement.Rosters.{Rosters}
 use Rattle.plain_words.specs.declared.statement.Rosters.TheVariants.{Every, Free, Weeks}
 use Rattle.plain_words.specs.declared.statement.Statement.{Statement}
-use Rattle.plain_words.specs.declared.statement.Statement.TheVariants.{Together, Whatever, Named, OnlyTurn, Counted, Spent, AtLine, Unnamed, Long, Plain, Numbered, Least, NoneTo}
+use Rattle.plain_words.specs.declared.statement.Statement.TheVariants.{Together, Whatever, Named, OnlyTurn, Counted, Spent, AtLine, Unnamed, Long, Plain, Numbered, Least, NoneTo, Breaks}
 
 -- a number of free weekends
 unfoldable pub weekends_words : ℕ → List ℕ
@@ -99,6 +100,7 @@ statement_words P (Long k n) =
     bad_rule_words P n k (codes " of the log lists rule ") (codes ", which is on too many days: ")
 statement_words P (Plain short) = short_words short
 statement_words P (Numbered count n) = count_words count n
+statement_words P (Breaks b) = breach_words P b
 statement_words P (Least weeks low) =
     weeks_words weeks ++ codes ", and so as many employees, are enough" ++ fewer_words low weeks
 statement_words P (NoneTo low last) = range_words (span low last) ++ codes " weeks have no roster"
@@ -118,6 +120,7 @@ StatementFits P (Counted x) = IsSymbol P x
 StatementFits P (Unnamed k n) = (0 < k) × (k ≤ length (rules P))
 StatementFits P (Long k n) = (0 < k) × (k ≤ length (rules P))
 StatementFits P (Least weeks low) = 0 < weeks
+StatementFits P (Breaks b) = (0 < b.rule) × (b.rule ≤ length (rules P))
 StatementFits P s = Unit {0}
 
 -- what is said of a text that is refused, of numbers of weeks, or of a short answer
@@ -129,4 +132,5 @@ IsOther (Plain short) = Unit {0}
 IsOther (Numbered count n) = Unit {0}
 IsOther (Least weeks low) = Unit {0}
 IsOther (NoneTo low last) = Unit {0}
+IsOther (Breaks b) = Unit {0}
 IsOther s = ⊥

@@ -4,10 +4,15 @@ ghost use Rattle.rwsp_terms.specs.Instance.{Instance};
 ghost use Rattle.rwsp_terms.specs.Rules.{rules};
 ghost use Rattle.rwsp_text.specs.Lines.{words_of};
 ghost use Rattle.plain_words.specs.Statements.{StatementFits, statement_line};
-ghost use Rattle.plain_words.specs.LineAnswers.{plain_at, count_at, line_at, rule_line, rule_line_at, refused_log_at, refused_staff_at, refused_roster_at, refused_file_at, refused_rest_at, least_at, none_at, accepted_at, no_at, refused_at, short_answer, LineSays};
+ghost use Rattle.plain_words.specs.LineAnswers.{plain_at, count_at, line_at, rule_line, rule_line_at, refused_log_at, refused_staff_at, refused_roster_at, range_at, refused_file_at, refused_rest_at, least_at, none_at, accepted_at, no_at, too_long_kind, too_at, horizon_at, not_at, staff_range_at, staff_at, breaks_at, failed_at, failure, refused_at, other_answer, short_answer, IsStatement, ReadSays, WordsSay, LineSays};
 ghost use Rattle.plain_words.specs.AnswerWords.{SaysNothing};
 
-use crate::cause::{Cause, Count, Short, file_cause, log_cause, roster_cause, staff_cause};
+use crate::breach::breach_at;
+use crate::cause::{
+    Cause, Count, Short, file_cause, log_cause, range_cause, roster_cause, staff_cause,
+};
+use crate::escape::escape_words;
+use crate::staff_failure::staff_words;
 use crate::statement::{Statement, put_line};
 use rwsp_model::{Problem, rule_count};
 use rwsp_terms::limits::{LONGEST_LOG, MOST_WEEKS};
@@ -130,6 +135,16 @@ fn refused_roster(fields: &mut Fields) -> Option<Statement>
     }
 }
 
+// The limit that a number of a problem's file is beyond.
+#[tactic(auto, unfolding(crate::specs::LineAnswers::range_at))]
+fn range_at(fields: &mut Fields) -> Option<Statement>
+    ensures value { range_at fields.old ≡ result }
+    ensures own { (P : Instance) → IfSome result (StatementFits P) }
+{
+    let limit = fields.number(1, 9)?;
+    line_at(range_cause(limit), fields)
+}
+
 // Why a problem's file is refused.
 #[tactic(auto, unfolding(crate::specs::LineAnswers::refused_file_at))]
 fn refused_file(fields: &mut Fields) -> Option<Statement>
@@ -137,7 +152,11 @@ fn refused_file(fields: &mut Fields) -> Option<Statement>
     ensures own { (P : Instance) → IfSome result (StatementFits P) }
 {
     let word = fields.next()?;
-    line_at(file_cause(word), fields)
+    if word == b"range".as_slice() {
+        range_at(fields)
+    } else {
+        line_at(file_cause(word), fields)
+    }
 }
 
 // Why a least rest is refused.
@@ -225,44 +244,172 @@ fn no_at(fields: &mut Fields) -> Option<Statement>
     }
 }
 
+// What is too long.
+#[tactic(auto, unfolding(crate::specs::LineAnswers::too_long_kind))]
+fn too_long_kind(fields: &mut Fields) -> Option<Statement>
+    ensures value { too_long_kind fields.old ≡ result }
+    ensures own { (P : Instance) → IfSome result (StatementFits P) }
+{
+    let word = fields.next()?;
+    if word == b"problem".as_slice() {
+        plain_at(Short::LongProblem, fields)
+    } else if word == b"roster".as_slice() {
+        plain_at(Short::LongRoster, fields)
+    } else if word == b"log".as_slice() {
+        plain_at(Short::LongLog, fields)
+    } else {
+        None
+    }
+}
+
+#[tactic(auto, unfolding(crate::specs::LineAnswers::too_at))]
+fn too_at(fields: &mut Fields) -> Option<Statement>
+    ensures value { too_at fields.old ≡ result }
+    ensures own { (P : Instance) → IfSome result (StatementFits P) }
+{
+    fields.word(b"long:")?;
+    too_long_kind(fields)
+}
+
+// That a calendar reaches too far.
+#[tactic(auto, unfolding(crate::specs::LineAnswers::horizon_at))]
+fn horizon_at(fields: &mut Fields) -> Option<Statement>
+    ensures value { horizon_at fields.old ≡ result }
+    ensures own { (P : Instance) → IfSome result (StatementFits P) }
+{
+    fields.word(b"refused")?;
+    plain_at(Short::Horizon, fields)
+}
+
+// That the weeks have not seven days.
+#[tactic(auto, unfolding(crate::specs::LineAnswers::not_at))]
+fn not_at(fields: &mut Fields) -> Option<Statement>
+    ensures value { not_at fields.old ≡ result }
+    ensures own { (P : Instance) → IfSome result (StatementFits P) }
+{
+    fields.word(b"weekly:")?;
+    fields.word(b"days")?;
+    count_at(Count::NotWeekly, fields)
+}
+
+// That there would be too many days.
+#[tactic(auto, unfolding(crate::specs::LineAnswers::staff_range_at))]
+fn staff_range(fields: &mut Fields) -> Option<Statement>
+    ensures value { staff_range_at fields.old ≡ result }
+    ensures own { (P : Instance) → IfSome result (StatementFits P) }
+{
+    fields.word(b"weeks")?;
+    count_at(Count::StaffRange, fields)
+}
+
+// Why a text of a least crew is refused, or the search of one.
+#[tactic(auto, unfolding(crate::specs::LineAnswers::staff_at))]
+fn staff_at(fields: &mut Fields) -> Option<Statement>
+    ensures value { staff_at fields.old ≡ result }
+    ensures own { (P : Instance) → IfSome result (StatementFits P) }
+{
+    let word = fields.next()?;
+    if word == b"refused:".as_slice() {
+        refused_staff(fields)
+    } else if word == b"range:".as_slice() {
+        staff_range(fields)
+    } else {
+        None
+    }
+}
+
+// Which rule a roster breaks.
+#[tactic(auto, unfolding(crate::specs::LineAnswers::breaks_at))]
+fn breaks_at(problem: &Problem, fields: &mut Fields) -> Option<Statement>
+    ensures value { breaks_at problem.now fields.old ≡ result }
+    ensures own { IfSome result (StatementFits problem.now) }
+{
+    let breach = breach_at(problem, fields)?;
+    Some(Statement::Breaks(breach))
+}
+
+// Why a log or a roster fails.
+#[tactic(auto, unfolding(crate::specs::LineAnswers::failed_at))]
+fn failed_at(problem: &Problem, what: &[u8], fields: &mut Fields) -> Option<Statement>
+    ensures value { failed_at problem.now what.now fields.old ≡ result }
+    ensures own { IfSome result (StatementFits problem.now) }
+{
+    if what == b"log".as_slice() {
+        refused_log(problem, fields)
+    } else if what == b"roster".as_slice() {
+        refused_roster(fields)
+    } else {
+        None
+    }
+}
+
+/// What the fields say of a log or a roster that fails.
+#[tactic(auto, unfolding(crate::specs::LineAnswers::failure))]
+pub(crate) fn failure(problem: &Problem, fields: &mut Fields) -> Option<Statement>
+    ensures value { failure problem.now fields.old ≡ result }
+    ensures own { IfSome result (StatementFits problem.now) }
+{
+    let word = fields.next()?;
+    if word == b"breaks".as_slice() {
+        breaks_at(problem, fields)
+    } else {
+        fields.word(b"refused:")?;
+        failed_at(problem, word, fields)
+    }
+}
+
 // Why a text is refused.
 #[tactic(auto, unfolding(crate::specs::LineAnswers::refused_at))]
 fn refused_at(problem: &Problem, what: &[u8], fields: &mut Fields) -> Option<Statement>
     ensures value { refused_at problem.now what.now fields.old ≡ result }
     ensures own { IfSome result (StatementFits problem.now) }
 {
-    if what == b"log".as_slice() {
-        refused_log(problem, fields)
-    } else if what == b"staff".as_slice() {
-        refused_staff(fields)
-    } else if what == b"roster".as_slice() {
-        refused_roster(fields)
-    } else if what == b"file".as_slice() {
+    if what == b"file".as_slice() {
         refused_file(fields)
     } else if what == b"rest".as_slice() {
         refused_rest(fields)
     } else {
-        None
+        failed_at(problem, what, fields)
     }
 }
 
-// What the words of a line say.
-#[tactic(auto, unfolding(crate::specs::LineAnswers::short_answer))]
-fn short_answer(problem: &Problem, body: &[u8]) -> Option<Statement>
-    ensures value { short_answer problem.now (words_of body.now) ≡ result }
+// What the fields behind a first word say that stands in front of no other answers.
+#[tactic(auto, unfolding(crate::specs::LineAnswers::other_answer))]
+fn other_answer(problem: &Problem, word: &[u8], fields: &mut Fields) -> Option<Statement>
+    ensures value { other_answer problem.now word.now fields.old ≡ result }
     ensures own { IfSome result (StatementFits problem.now) }
 {
-    let mut fields = Fields::of(body);
-    let word = fields.next()?;
-    if word == b"accepted:".as_slice() {
-        accepted_at(&mut fields)
-    } else if word == b"meets".as_slice() {
-        plain_at(Short::Meets, &mut fields)
-    } else if word == b"no".as_slice() {
-        no_at(&mut fields)
+    if word == b"breaks".as_slice() {
+        breaks_at(problem, fields)
+    } else if word == b"staff".as_slice() {
+        staff_at(fields)
+    } else if word == b"too".as_slice() {
+        too_at(fields)
+    } else if word == b"horizon".as_slice() {
+        horizon_at(fields)
+    } else if word == b"not".as_slice() {
+        not_at(fields)
     } else {
         fields.word(b"refused:")?;
-        refused_at(problem, word, &mut fields)
+        refused_at(problem, word, fields)
+    }
+}
+
+// What the fields of a line say.
+#[tactic(auto, unfolding(crate::specs::LineAnswers::short_answer))]
+fn short_answer(problem: &Problem, fields: &mut Fields) -> Option<Statement>
+    ensures value { short_answer problem.now fields.old ≡ result }
+    ensures own { IfSome result (StatementFits problem.now) }
+{
+    let word = fields.next()?;
+    if word == b"accepted:".as_slice() {
+        accepted_at(fields)
+    } else if word == b"meets".as_slice() {
+        plain_at(Short::Meets, fields)
+    } else if word == b"no".as_slice() {
+        no_at(fields)
+    } else {
+        other_answer(problem, word, fields)
     }
 }
 
@@ -283,6 +430,74 @@ fn line_text(alloc: Global, problem: &Problem, statement: Statement) -> Result<V
     Ok(out)
 }
 
+/// What was read, as a line; else what the fields say that refuse a log by days in a row.
+pub(crate) fn read_words(
+    alloc: Global,
+    problem: &Problem,
+    read: Option<Statement>,
+    again: &mut Fields,
+) -> Result<Option<Vec<u8>>, AllocError>
+    requires { IfSome read (StatementFits problem.now) }
+    ensures { IfOk result (λ found. MatchOption found
+        (SaysNothing (ReadSays problem.now read again.old)) (λ v. ReadSays problem.now read again.old v.items)) }
+{
+    match read {
+        Some(statement) => {
+            let text = line_text(alloc, problem, statement)?;
+            Ok(Some(text))
+        }
+        None => {
+            let found = escape_words(alloc, problem, again)?;
+            Ok(found)
+        }
+    }
+}
+
+// What all fields say, read twice.
+fn whole_words(
+    alloc: Global,
+    problem: &Problem,
+    fields: &mut Fields,
+    again: &mut Fields,
+) -> Result<Option<Vec<u8>>, AllocError>
+    requires { again.now ≡ fields.now }
+    ensures { IfOk result (λ found. MatchOption found
+        (SaysNothing (ReadSays problem.now (short_answer problem.now fields.old) fields.old))
+        (λ v. ReadSays problem.now (short_answer problem.now fields.old) fields.old v.items)) }
+{
+    let read = short_answer(problem, fields);
+    let found = read_words(alloc, problem, read, again)?;
+    Ok(found)
+}
+
+// What the words of a line say.
+fn short_words(alloc: Global, problem: &Problem, body: &[u8]) -> Result<Option<Vec<u8>>, AllocError>
+    ensures { IfOk result (λ found. MatchOption found
+        (SaysNothing (ReadSays problem.now (short_answer problem.now (words_of body.now)) (words_of body.now)))
+        (λ v. ReadSays problem.now (short_answer problem.now (words_of body.now)) (words_of body.now) v.items)) }
+{
+    let mut fields = Fields::of(body);
+    let mut again = Fields::of(body);
+    let found = whole_words(alloc, problem, &mut fields, &mut again)?;
+    Ok(found)
+}
+
+// What the words of a line say, or those of a text of a least crew.
+fn words_said(alloc: Global, problem: &Problem, body: &[u8]) -> Result<Option<Vec<u8>>, AllocError>
+    ensures { IfOk result (λ found. MatchOption found
+        (SaysNothing (WordsSay problem.now (words_of body.now)))
+        (λ v. WordsSay problem.now (words_of body.now) v.items)) }
+{
+    let first = short_words(alloc, problem, body)?;
+    match first {
+        Some(text) => Ok(Some(text)),
+        None => {
+            let found = staff_words(alloc, problem, body)?;
+            Ok(found)
+        }
+    }
+}
+
 /// What the bytes say that are the one line of a short answer.
 pub(crate) fn line_words(
     alloc: Global,
@@ -295,9 +510,6 @@ pub(crate) fn line_words(
     let Some(body) = body_of(bytes) else {
         return Ok(None);
     };
-    let Some(statement) = short_answer(problem, body) else {
-        return Ok(None);
-    };
-    let text = line_text(alloc, problem, statement)?;
-    Ok(Some(text))
+    let found = words_said(alloc, problem, body)?;
+    Ok(found)
 }

@@ -144,8 +144,12 @@ fn put_wanted(out: &mut Vec<u8>, problem: &Problem, day: u32, number: u8) -> Res
     out.extend_from_slice(b", ")
 }
 
-// Appends what is demanded of each shift on a day.
-fn put_all_wanted(out: &mut Vec<u8>, problem: &Problem, day: u32) -> Result<(), AllocError>
+/// Appends what is demanded of each shift on a day.
+pub(crate) fn put_all_wanted(
+    out: &mut Vec<u8>,
+    problem: &Problem,
+    day: u32,
+) -> Result<(), AllocError>
     requires { IsDay problem.now day }
     ensures { OnOk result (out.new.items
         ≡ out.old.items ++ flat_map (wanted_words problem.now day) (range_with_len 1 (shift_count problem.now))) }
@@ -234,8 +238,8 @@ pub fn put_crossed(
     out.extend_from_slice(b": the least is above the greatest")
 }
 
-// The first shift whose demand no number meets on a day.
-fn first_crossed(problem: &Problem, day: u32) -> Option<u8>
+/// The first shift whose demand no number meets on a day.
+pub(crate) fn first_crossed(problem: &Problem, day: u32) -> Option<u8>
     requires { IsDay problem.now day }
     ensures value { result ≡ first_crossed problem.now day }
     ensures within { IfSome result (λ x. (0 < x) × (x ≤ shift_count problem.now)) }

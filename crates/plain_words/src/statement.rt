@@ -4,6 +4,7 @@ ghost use Rattle.rwsp_terms.specs.Instance.{IsSymbol};
 ghost use Rattle.rwsp_terms.specs.Rules.{rules};
 ghost use Rattle.plain_words.specs.Statements.{weekends_words, rosters_words, unknown_words, numbered_words, works_words, somebody_words, cases_words, open_words, bad_rule_words, fewer_words, together_words, whatever_words, counting_words, statement_words, statement_line, statements_words, StatementFits, IsOther};
 
+use crate::breach::{Breach, put_breach};
 use crate::cause::{Cause, Count, Short, put_count, put_line_words, put_short};
 use crate::counted::put_counted;
 use crate::rule_words::put_rule_words;
@@ -79,6 +80,8 @@ pub enum Statement {
         low: u32,
         last: u32,
     },
+    /// The roster breaks a rule.
+    Breaks(Breach),
 }
 
 /// Appends a number of free weekends.
@@ -274,6 +277,7 @@ fn put_other(out: &mut Vec<u8>, problem: &Problem, statement: Statement) -> Resu
         ),
         Statement::Plain(short) => put_short(out, short),
         Statement::Numbered { count, number } => put_count(out, count, number),
+        Statement::Breaks(breach) => put_breach(out, problem, breach),
         Statement::Least { weeks, low } => {
             put_weeks(out, weeks)?;
             out.extend_from_slice(b", and so as many employees, are enough")?;

@@ -1,0 +1,10 @@
+-- What kinds of answers say.
+use Rattle.std.specs.Prelude.{◌⊎◌, ℕ, List}
+
+-- nothing is said
+abbrev pub SaysNothing : (List ℕ → Type 0) → Type 0
+SaysNothing Says = (text : List ℕ) → Says text → ⊥
+
+-- what the first kind of answer says; where it says nothing, what the second says
+abbrev pub OrElse : (First Second : List ℕ → Type 0) → List ℕ → Type 0
+OrElse First Second text = First text ⊎ (SaysNothing First × Second text)
