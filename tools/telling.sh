@@ -96,7 +96,7 @@ slips_in() {
     "$program" explain "$3" 2>/dev/null | sed -n "1,/^1: /d; /^[0-9]\{1,\}: /d; $which"
 }
 
-# Has the program explain the answer. Of a roster there is nothing to explain, nor of what is no answer for `explain`.
+# Has the program explain the answer. Of a roster that `plan` found nothing is said, nor of what is no answer for `explain`.
 explain_answer() {
     answer=/dev/fd/6
     explained=0
