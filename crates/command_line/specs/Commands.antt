@@ -2,8 +2,7 @@
 use Rattle.std.specs.Prelude.{◌≡◌, ℕ, ◌+◌, ◌<◌, ◌≤◌, List, [], ◌∷◌, ◌++◌, map, Option, Some, None, MatchOption, String, codes}
 use Rattle.std.specs.String.{string_bytes}
 use Rattle.std.specs.declared.alloc.Global.{Global}
-use Rattle.rwsp_terms.specs.declared.limits.TheConstants.{MOST_WEEKS, USUAL_BUDGET, GREATEST_BUDGET, LONGEST_CALENDAR, USUAL_WORKERS, MOST_WORKERS, MOST_SIZES, USUAL_STAFF_BUDGET, GREATEST_STAFF_BUDGET, USUAL_BEST_BUDGET, DAYS_OF_WEEK, LONGEST_REST}
-use Rattle.rwsp_terms.specs.Instance.{Instance}
+use Rattle.rwsp_terms.specs.declared.limits.TheConstants.{MOST_WEEKS, USUAL_BUDGET, GREATEST_BUDGET, LONGEST_CALENDAR, USUAL_WORKERS, MOST_WORKERS, MOST_SIZES, USUAL_STAFF_BUDGET, GREATEST_STAFF_BUDGET, USUAL_BEST_BUDGET, LONGEST_REST}
 use Rattle.crew_calendar.specs.Calendar.{FitsDates, IsNotBefore}
 use Rattle.command_line.specs.Forms.{Field, File, Number, Day, Range, Setting, Perhaps, Form, said_by, forms_text}
 use Rattle.command_line.specs.declared.command.TheConstants.{GREATEST_NUMBER, USUAL_MEND_BUDGET}
@@ -12,7 +11,7 @@ use Rattle.command_line.specs.declared.command.Command.TheVariants.{Trial, OnPro
 use Rattle.command_line.specs.declared.command.ProblemTask.{ProblemTask}
 use Rattle.command_line.specs.declared.command.ProblemTask.TheVariants.{Plan, Show, Best, Staff, Mend, Rest}
 use Rattle.command_line.specs.declared.command.FilesTask.{FilesTask}
-use Rattle.command_line.specs.declared.command.FilesTask.TheVariants.{Check, Verify, Reduce, CheckFree, CheckStaff, Crew, Page, Ics, On, Roster}
+use Rattle.command_line.specs.declared.command.FilesTask.TheVariants.{Check, Verify, Reduce, CheckFree, CheckStaff, Crew, Page, Ics, On, Roster, Fill, CheckFill}
 
 -- the words behind the program's name
 abbrev pub CommandWords : Type 0
@@ -87,6 +86,13 @@ mend_form = record {
   make = λ v. OnProblem v.0 (Mend v.1.0.0 v.1.0.1);
 }
 
+abbrev pub fill_form : Form Command
+fill_form = record {
+  word = codes "fill";
+  fields = problem_file ∷ File (codes "CELLS") ∷ budget USUAL_BUDGET GREATEST_BUDGET ∷ [];
+  make = λ v. OnFiles v.0 v.1.0 (Fill v.1.1.0.0);
+}
+
 abbrev pub rest_form : Form Command
 rest_form = record {
   word = codes "rest";
@@ -124,8 +130,9 @@ forms =
     ∷ files_form (codes "reduce") (codes "LOG") Reduce ∷ show_form ∷ trial_form ∷ best_form
     ∷ files_form (codes "check-free") (codes "LOG") CheckFree ∷ staff_form
     ∷ files_form (codes "check-staff") (codes "TEXT") CheckStaff ∷ crew_form
-    ∷ mend_form ∷ rest_form ∷ files_form (codes "page") (codes "ROSTER") Page
-    ∷ ics_form ∷ on_form ∷ files_form (codes "roster") (codes "ANSWER") Roster ∷ explain_form ∷ []
+    ∷ mend_form ∷ fill_form ∷ files_form (codes "check-fill") (codes "LOG") CheckFill ∷ rest_form
+    ∷ files_form (codes "page") (codes "ROSTER") Page ∷ ics_form ∷ on_form
+    ∷ files_form (codes "roster") (codes "ANSWER") Roster ∷ explain_form ∷ []
 
 -- the words are a form of the command
 abbrev pub IsForm : CommandWords → Command → Type 0
@@ -192,6 +199,7 @@ abbrev pub IsFilesTaskInRange : FilesTask → Type 0
 IsFilesTaskInRange (Check workers) = IsUpTo MOST_WORKERS workers
 IsFilesTaskInRange (Crew date days employee) = IsUpTo LONGEST_CALENDAR days × IsEmployeeNumber employee
 IsFilesTaskInRange (Ics date days employee) = IsUpTo LONGEST_CALENDAR days × (1 ≤ employee)
+IsFilesTaskInRange (Fill budget) = IsUpTo GREATEST_BUDGET budget
 IsFilesTaskInRange task = Unit {0}
 
 -- the numbers of a command are in their ranges
@@ -211,17 +219,3 @@ EndsInTime task = Unit {0}
 abbrev pub IsWithinHorizon : Command → Type 0
 IsWithinHorizon (OnFiles file second task) = EndsInTime task
 IsWithinHorizon command = Unit {0}
-
--- the week of the instance has as many days as the task asks for
-abbrev pub HasProblemDays : ProblemTask → Instance → Type 0
-HasProblemDays (Best budget counts) P = P.days ≡ DAYS_OF_WEEK
-HasProblemDays task P = Unit {0}
-
-abbrev pub HasFilesDays : FilesTask → Instance → Type 0
-HasFilesDays CheckFree P = P.days ≡ DAYS_OF_WEEK
-HasFilesDays task P = Unit {0}
-
-abbrev pub HasDaysFor : Command → Instance → Type 0
-HasDaysFor (OnProblem file task) P = HasProblemDays task P
-HasDaysFor (OnFiles file second task) P = HasFilesDays task P
-HasDaysFor command P = Unit {0}

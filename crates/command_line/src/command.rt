@@ -107,6 +107,12 @@ pub enum FilesTask {
     },
     /// The roster that stands in an answer.
     Roster,
+    /// A roster that holds given cells, or why there is none, by a fill log of at most `budget` lines.
+    Fill {
+        budget: u32,
+    },
+    /// Whether a fill log passes.
+    CheckFill,
 }
 
 /// Whether a calendar that the command asks for ends by 9999-12-31, with all duties, and a date doesn't come before the

@@ -2,7 +2,7 @@
 ghost use Rattle.std.specs.Prelude.{◌≡◌, [], IfSome};
 ghost use Rattle.rwsp_text.specs.Reads.{Reads};
 ghost use Rattle.command_line.specs.Forms.{form_at, named_at};
-ghost use Rattle.command_line.specs.Commands.{IsCommandOf, IsInRange, IsFilesTaskInRange, usage_text, forms, plan_form, check_form, files_form, show_form, trial_form, best_form, staff_form, crew_form, mend_form, rest_form, ics_form, on_form, explain_form};
+ghost use Rattle.command_line.specs.Commands.{IsCommandOf, IsInRange, IsFilesTaskInRange, usage_text, forms, plan_form, check_form, files_form, show_form, trial_form, best_form, staff_form, crew_form, mend_form, fill_form, rest_form, ics_form, on_form, explain_form};
 
 use crate::command::{Command, FilesTask, GREATEST_NUMBER, ProblemTask, USUAL_MEND_BUDGET};
 use crate::words::Words;
@@ -12,7 +12,7 @@ use rwsp_terms::limits::{
 };
 
 const USAGE: &str =
-    "usage: rwsp plan FILE [--budget B] | check FILE LOG [--workers N] | verify FILE ROSTER | reduce FILE LOG | show FILE | trial NUMBER WEEKS | best FILE [--budget B] | check-free FILE LOG | staff FILE LOW HIGH [--budget B] | check-staff FILE TEXT | crew FILE ROSTER DATE DAYS [EMPLOYEE] | mend FILE [--budget B] | rest FILE MINUTES | page FILE ROSTER | ics FILE ROSTER DATE DAYS EMPLOYEE | on FILE ROSTER START DATE | roster FILE ANSWER | explain FILE [ANSWER]";
+    "usage: rwsp plan FILE [--budget B] | check FILE LOG [--workers N] | verify FILE ROSTER | reduce FILE LOG | show FILE | trial NUMBER WEEKS | best FILE [--budget B] | check-free FILE LOG | staff FILE LOW HIGH [--budget B] | check-staff FILE TEXT | crew FILE ROSTER DATE DAYS [EMPLOYEE] | mend FILE [--budget B] | fill FILE CELLS [--budget B] | check-fill FILE LOG | rest FILE MINUTES | page FILE ROSTER | ics FILE ROSTER DATE DAYS EMPLOYEE | on FILE ROSTER START DATE | roster FILE ANSWER | explain FILE [ANSWER]";
 
 /// The line that lists all forms, without its LF.
 #[tactic(auto, unfolding(crate::specs::Commands::usage_text))]
@@ -56,6 +56,8 @@ fn form_of<'a>(word: &str, words: &mut Words<'a>) -> Option<Command<'a>>
         "check-staff" => on_files(words, FilesTask::CheckStaff),
         "crew" => crew(words),
         "mend" => mend(words),
+        "fill" => fill(words),
+        "check-fill" => on_files(words, FilesTask::CheckFill),
         "rest" => rest(words),
         "page" => on_files(words, FilesTask::Page),
         "ics" => ics(words),
@@ -171,6 +173,17 @@ fn mend<'a>(words: &mut Words<'a>) -> Option<Command<'a>>
     let (budget, counts) = words.setting("--budget", USUAL_MEND_BUDGET, GREATEST_BUDGET)?;
     let task = ProblemTask::Mend { budget, counts };
     Some(Command::OnProblem { file, task })
+}
+
+fn fill<'a>(words: &mut Words<'a>) -> Option<Command<'a>>
+    ensures form { Reads (form_at fill_form words.old) result words.new }
+    ensures range { IfSome result IsInRange }
+{
+    let file = words.file()?;
+    let second = words.file()?;
+    let (budget, _) = words.setting("--budget", USUAL_BUDGET, GREATEST_BUDGET)?;
+    let task = FilesTask::Fill { budget };
+    Some(Command::OnFiles { file, second, task })
 }
 
 fn rest<'a>(words: &mut Words<'a>) -> Option<Command<'a>>

@@ -17,3 +17,4 @@ pub mod Pages
 pub mod RosterAnswers
 pub mod Explained
 pub mod GivenBack
+pub mod Fills

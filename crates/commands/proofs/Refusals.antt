@@ -42,7 +42,7 @@ symbols_over P D known p (x ∷ w) over = All-cons (IsSymbol P) x w (known (p % 
 known_at : (P : Instance) (o : Opening) (lines : List Line) (k p z : ℕ) → IsTrue (domains_at P o lines k p z) → z ≤ shift_count P
 known_at P o lines k p z h = leb-true z (shift_count P) (left_of (nat_le z (shift_count P)) (opening_leaves o p z) (left_of (opening P o p z) (lines_leave (take k lines) p z) h))
 
-escaping : (P : Instance) (goal : Option ℕ) (D : Domains) (line : Line) (w : List Symbol) → ((p z : ℕ) → IsTrue (D p z) → z ≤ shift_count P) → Escapes P goal D line w → All (IsSymbol P) w
+pub escaping : (P : Instance) (goal : Option ℕ) (D : Domains) (line : Line) (w : List Symbol) → ((p z : ℕ) → IsTrue (D p z) → z ≤ shift_count P) → Escapes P goal D line w → All (IsSymbol P) w
 escaping P goal D (Closing (Words p R (Dead len))) w known h = symbols_over P D known p w h.clean.over
 escaping P goal D (Closing (Words p R (Light turns reward y))) w known h = symbols_over P D known p w h.0.heavy.clean.over
 escaping P goal D line w known h = absurd h

@@ -5,6 +5,8 @@ pub mod Plan
 pub mod Verify
 pub mod Check
 pub mod Reduce
+pub mod Fill
+pub mod CheckFill
 pub mod Crew
 pub mod Mend
 pub mod Rest

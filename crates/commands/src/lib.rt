@@ -4,10 +4,12 @@
 
 pub mod best;
 pub mod check;
+pub mod check_fill;
 pub mod check_free;
 pub mod check_staff;
 pub mod crew;
 pub mod explain;
+pub mod fill;
 pub mod ics;
 mod log_refusal;
 pub mod mend;

@@ -2,7 +2,10 @@
 use plain_words::answer_words;
 use std::alloc::Global;
 use std::test::Fail;
-use test_helpers::{LONG_BLOCKS, THREE_IN_FIVE, TWOS_IN_FOUR, TWOS_IN_SIX, problem_of};
+use test_helpers::{
+    DAYS_AND_NIGHTS, LONG_BLOCKS, MOST_OF_FOUR_WEEKS, THREE_IN_FIVE, TWOS_IN_FOUR, TWOS_IN_SIX,
+    problem_of,
+};
 
 const SHORT: [(&[u8], &[u8]); 12] = [
     (
@@ -83,7 +86,7 @@ const PARTS: [(&[u8], &[u8], &[u8]); 9] = [
     (
         TWOS_IN_FOUR,
         b"D\n-\nD\n-\n",
-        b"the roster breaks rule 2 in the 3 days from week 2 day 1 on: at least 2 days of D in a row\n",
+        b"the roster breaks rule 2: at least 2 days of D in a row, but the block behind week 2, day 1 has 1 day\n",
     ),
     (
         LONG_BLOCKS,
@@ -116,6 +119,43 @@ const PARTS: [(&[u8], &[u8], &[u8]); 9] = [
         b"3 weeks have no roster\n0 cases are closed and 1 was left open, so nothing is known of rosters of 4 weeks\nno roster of 3 weeks meets these rules together (the log is the proof):\n7: day 1: D 2, off 1\n",
     ),
     (TWOS_IN_FOUR, b"none to 3\n", b""),
+];
+
+const CHANGES: [(&[u8], &[u8], &[u8]); 14] = [
+    (
+        DAYS_AND_NIGHTS,
+        b"rule 1 max shift D: 3 to 21 or nearer\nrule 6 min off: 2 to 1\nrule 9 not N D: dropped\nrule 10 not D D N: dropped\nrule 11 day 1 D: 1 to 0..1\nrule 12 day 2 N: 1 to 1..3\nno other\n",
+        b"each of these changes alone gives a roster:\n1: change the greatest block of D from 3 to 21 days; maybe a nearer number is enough\n6: change the least block of days off from 2 to 1 day\n9: drop this rule: never N, then D\n10: drop this rule: never D, then D, then N\n11: let day 1 have 0 to 1 D in place of 1\n12: let day 2 have 1 to 3 N in place of 1\nno other single change gives a roster\n",
+    ),
+    (
+        MOST_OF_FOUR_WEEKS,
+        b"rule 2 min shift D: 3 to 2\nrule 7 day 1 D: 2..3 to 1..3\nrule 7 day 1 D: 2..3 to 2..4 or nearer\nopen 2\n",
+        b"each of these changes alone gives a roster:\n2: change the least block of D from 3 to 2 days\n7: let day 1 have 1 to 3 D in place of 2 to 3\n7: let day 1 have 2 to 4 D in place of 2 to 3; maybe a nearer number is enough\n2 changes were left open; no other single change gives a roster\n",
+    ),
+    (
+        TWOS_IN_SIX,
+        b"no other\n",
+        b"no single change gives a roster\n",
+    ),
+    (
+        TWOS_IN_SIX,
+        b"open 1\n",
+        b"1 change was left open; no other single change gives a roster\n",
+    ),
+    (
+        TWOS_IN_FOUR,
+        b"no change is needed\nD\nD\n-\n-\n",
+        b"no change is needed: there is a roster\nthe roster meets every rule\n",
+    ),
+    (TWOS_IN_SIX, b"rule 5 max work: 3 to 4\nno other\n", b""),
+    (TWOS_IN_SIX, b"rule 5 max work: 2 to 2\nno other\n", b""),
+    (TWOS_IN_SIX, b"rule 5 max work: 2 to 31\nno other\n", b""),
+    (TWOS_IN_SIX, b"rule 4 max work: 2 to 3\nno other\n", b""),
+    (TWOS_IN_SIX, b"rule 5 max work: 2 to 03\nno other\n", b""),
+    (TWOS_IN_SIX, b"rule 7 day 1 D: 3 to 2..4\nno other\n", b""),
+    (TWOS_IN_SIX, b"rule 5 max work: 2 to 3\n", b""),
+    (TWOS_IN_SIX, b"open 0\n", b""),
+    (TWOS_IN_SIX, b"no change is needed\n", b""),
 ];
 
 fn words(alloc: Global, problem: &[u8], text: &[u8]) -> Result<Vec<u8>, Fail> {
@@ -151,6 +191,15 @@ fn logs_in_words(rt: HostRuntime) -> Result<(), Fail> {
 #[test]
 fn rosters_and_answers_of_parts_in_words(rt: HostRuntime) -> Result<(), Fail> {
     for (problem, text, expected) in PARTS {
+        let told = words(rt.alloc(), problem, text)?;
+        assert_eq!(rt; told.as_slice(), expected);
+    }
+    Ok(())
+}
+
+#[test]
+fn changes_in_words(rt: HostRuntime) -> Result<(), Fail> {
+    for (problem, text, expected) in CHANGES {
         let told = words(rt.alloc(), problem, text)?;
         assert_eq!(rt; told.as_slice(), expected);
     }

@@ -7,6 +7,10 @@ mod answer_words_tests;
 #[cfg(test)]
 mod crew_calendar_tests;
 #[cfg(test)]
+mod fill_checker_tests;
+#[cfg(test)]
+mod given_cells_tests;
+#[cfg(test)]
 mod hull_tests;
 #[cfg(test)]
 mod made_problems_tests;

@@ -1,5 +1,5 @@
 -- What is said of a log names rules and symbols of the problem.
-use Rattle.std.proofs.Common.{◌≡◌, ℕ, zero, suc, ◌+◌, ◌<◌, ◌≤◌, ◌==◌, List, [], ◌∷◌, ◌++◌, length, map, get_or, refl, sym, subst, arith, ◌⊎◌, inl, inr, Option, Some, None, Bool, true, false}
+use Rattle.std.proofs.Common.{◌≡◌, ℕ, ◌+◌, ◌<◌, ◌≤◌, ◌==◌, List, [], ◌∷◌, length, map, get_or, sym, subst, arith, inl, inr, Option, Some, None, Bool, true, false}
 use Rattle.std.specs.Prelude.{All, IfSome, if◌then◌else◌}
 use Rattle.std.specs.List.{range_with_len}
 use Rattle.std.proofs.lemmas.List.FromFn.{get_or-range_with_len, length-range_with_len}
@@ -11,10 +11,8 @@ use Rattle.refutation_terms.specs.declared.lines.Turn.{Turn}
 use Rattle.refutation_terms.specs.declared.lines.Opening.{Opening}
 use Rattle.refutation_terms.specs.declared.lines.Opening.TheVariants.{Full, Turned}
 use Rattle.refutation_terms.specs.declared.lines.Line.{Line}
-use Rattle.refutation_terms.specs.Ranges.{AreRules}
 use Rattle.refutation_terms.specs.Log.{OpeningFits}
 use Rattle.plain_words.specs.declared.statement.Rosters.{Rosters}
-use Rattle.plain_words.specs.declared.statement.Statement.{Statement}
 use Rattle.plain_words.specs.declared.statement.Statement.TheVariants.{Named, OnlyTurn, Counted}
 use Rattle.plain_words.specs.Statements.{StatementFits}
 use Rattle.plain_words.specs.LogWords.{IsLoneTurn, rule_statement, day_number, AreThose, symbols, first_statement, reason_statements}

@@ -19,3 +19,7 @@ pub mod WholeReasons
 pub mod RosterSaid
 pub mod StaffLines
 pub mod BestSaid
+pub mod WayNumbers
+pub mod WayFronts
+pub mod WayChanges
+pub mod WaysOne

@@ -1,5 +1,5 @@
 -- The test of what is counted is that of the leaf.
-use Rattle.std.proofs.Common.{◌≡◌, ◌↔◌, ℕ, zero, suc, ◌+◌, ◌-◌, ◌*◌, ◌<◌, ◌≤◌, Bool, true, false, IsTrue, ℤ, pos, ◌≤ℤ◌, refl, ap, sym, subst, ◌∙◌, arith}
+use Rattle.std.proofs.Common.{◌≡◌, ◌↔◌, ℕ, zero, suc, ◌+◌, ◌-◌, ◌*◌, ◌<◌, Bool, true, false, IsTrue, ℤ, pos, ◌≤ℤ◌, refl, ap, sym, ◌∙◌, arith}
 use Rattle.std.specs.Prelude.{◌&&◌, ◌||◌, not, nat_le}
 use Rattle.std.specs.Int.Signed.{le_z}
 use Rattle.std.specs.List.{list_any, range_with_len}
@@ -9,8 +9,8 @@ use Rattle.rwsp_terms.specs.declared.data.Bounds.{Bounds}
 use Rattle.rwsp_terms.specs.declared.data.Symbol.{Symbol}
 use Rattle.rwsp_terms.specs.declared.data.Class.TheVariants.{Shift}
 use Rattle.rwsp_terms.specs.Instance.{Instance, bounds, cells, symbol_numbered}
-use Rattle.refutation_terms.specs.BlocksLeaf.{BlocksFitBy, BlocksHold, OffBlocksFit, ShiftBlocksFit, CanBe, least_days, most_days, shortest}
-use Rattle.plain_words.specs.Counting.{shift_blocks_fit, can_be, off_days_fit, blocks_fit, is_misfit}
+use Rattle.refutation_terms.specs.BlocksLeaf.{BlocksFitBy, BlocksHold, CanBe, least_days, most_days, shortest}
+use Rattle.plain_words.specs.Counting.{can_be, off_days_fit, blocks_fit, is_misfit}
 
 -- tests of numbers
 at_most_decided : (a b : ℤ) → a ≤ℤ b → le_z a b ≡ true

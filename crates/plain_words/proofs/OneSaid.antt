@@ -16,9 +16,11 @@ use Rattle.plain_words.specs.Escapes.{EscapeSays, AreNamed, escape_line}
 use Rattle.plain_words.specs.AcceptedRules.{AcceptedSays, accepted_in, accepted_words}
 use Rattle.rwsp_text.specs.Lines.{words_of}
 use Rattle.plain_words.specs.LogWords.{IsLogInWords, rosters_by}
-use Rattle.plain_words.specs.AnswerWords.{LogSays, LineOf, WholeSays, NoLogSays, AnswerSays}
+use Rattle.plain_words.specs.MendWords.{MendSays}
+use Rattle.plain_words.specs.AnswerWords.{LogSays, LineOf, WholeSays, MendOrLine, NoLogSays, AnswerSays}
 use Rattle.plain_words.proofs.LogSaid.{IsOne, or_one, in_words_one}
 use Rattle.plain_words.proofs.WholeSaid.{whole_one}
+use Rattle.plain_words.proofs.WaysOne.{mend_one}
 
 pub log_one : (P : Instance) (kind : LogKind) (bytes : List ℕ) → KeepsLimits P → IsOne (LogSays P kind bytes)
 log_one P kind bytes limits a b is other =
@@ -100,4 +102,5 @@ pub answers_one : (P : Instance) (bytes text other : List ℕ) → KeepsLimits P
 answers_one P bytes text other limits is too =
     or_one (LogSays P WithoutGoal bytes) (OrElse (LogSays P WithGoal bytes) (NoLogSays P bytes)) (log_one P WithoutGoal bytes limits)
     (or_one (LogSays P WithGoal bytes) (NoLogSays P bytes) (log_one P WithGoal bytes limits)
-    (or_one (WholeSays P bytes) (LineOf P bytes) (whole_one P bytes limits) (line_of_one P bytes))) text other is too
+    (or_one (WholeSays P bytes) (MendOrLine P bytes) (whole_one P bytes limits)
+    (or_one (MendSays P bytes) (LineOf P bytes) (mend_one P bytes limits) (line_of_one P bytes)))) text other is too

@@ -51,7 +51,7 @@ roster_words_one : (P : Instance) (s : List Symbol) (a b : List ℕ) → IsRoste
 roster_words_one P s a b is other =
     is.2 ∙ ap (λ (f : Option Broken). judged_words P f ++ free_words P s) (found_one P s is.0 other.0 is.1 other.1) ∙ sym other.2
 
-roster_one : (P : Instance) (bytes : List ℕ) → IsOne (RosterSays P bytes)
+pub roster_one : (P : Instance) (bytes : List ℕ) → IsOne (RosterSays P bytes)
 roster_one P bytes a b is other =
     let same : other.0 ≡ is.0 = one_roster P bytes other.0 is.0 other.1.1 is.1.1 in
     roster_words_one P is.0 a b is.2 (subst (λ s. IsRosterInWords P s b) same other.2)

@@ -1,5 +1,5 @@
 -- Laws of what answers say, for valid problems.
-use Rattle.std.specs.Prelude.{◌≡◌, ℕ, List, slice_get, Some, count_by}
+use Rattle.std.specs.Prelude.{◌≡◌, ℕ, List, slice_get, Some}
 use Rattle.std.specs.List.{flat_map}
 use Rattle.rwsp_terms.specs.declared.data.Symbol.{Symbol}
 use Rattle.rwsp_terms.specs.Instance.{Instance}
@@ -12,7 +12,7 @@ use Rattle.refutation_terms.specs.Log.{Log}
 use Rattle.plain_words.specs.declared.statement.Rosters.{Rosters}
 use Rattle.plain_words.specs.declared.statement.Statement.{Statement}
 use Rattle.plain_words.specs.declared.statement.Statement.TheVariants.{Counted}
-use Rattle.plain_words.specs.LogWords.{IsReason, rule_in, is_open}
+use Rattle.plain_words.specs.LogWords.{IsReason, rule_in}
 use Rattle.plain_words.specs.AnswerWords.{AnswerSays}
 
 -- the rules in what is said of a refutation are those that the log names, in order, once each

@@ -1,5 +1,5 @@
 -- What holds of the sentences about every problem.
-use Rattle.std.specs.Prelude.{◌≡◌, ◌↔◌, ℕ, List, length, map, filter, Contains, Bool, true, false}
+use Rattle.std.specs.Prelude.{◌≡◌, ◌↔◌, List, length, map, filter, Contains, Bool, true, false}
 use Rattle.std.specs.List.{range_with_len}
 use Rattle.rwsp_terms.specs.Instance.{Instance, IsSymbol}
 use Rattle.rwsp_terms.specs.Rules.{rules}

@@ -15,8 +15,12 @@ pub mod LogWords
 pub mod LineAnswers
 pub mod AcceptedRules
 pub mod AnswerParts
+pub mod Ways
+pub mod WayWords
+pub mod WayPlaces
 pub mod RosterWords
 pub mod BestWords
+pub mod MendWords
 pub mod StaffParts
 pub mod StaffPlaces
 pub mod StaffWords

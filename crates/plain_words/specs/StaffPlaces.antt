@@ -1,6 +1,10 @@
 -- How the parts of an answer of `staff` are read. No public contract cites these.
-use Rattle.std.specs.Prelude.{◌≡◌, ℕ, ◌+◌, List, ◌∷◌, ◌++◌, slice_get, Bool, true, Some}
+use Rattle.std.specs.Prelude.{◌≡◌, ◌≢◌, ℕ, ◌+◌, List, ◌∷◌, ◌++◌, slice_get, Bool, true, Option, Some, MatchOption}
+use Rattle.rwsp_terms.specs.declared.data.Symbol.{Symbol}
 use Rattle.rwsp_terms.specs.Instance.{Instance}
+use Rattle.rwsp_terms.specs.Roster.{IsRoster}
+use Rattle.rwsp_model.specs.declared.roster.Roster.{Roster}
+use Rattle.roster_print.specs.RosterText.{roster_text}
 use Rattle.refutation_terms.specs.declared.lines.LogKind.TheVariants.{WithoutGoal}
 use Rattle.refutation_terms.specs.Log.{Log, Fits}
 use Rattle.refutation_log.specs.ReadLog.{IsReadAs}
@@ -8,7 +12,30 @@ use Rattle.crew_size.specs.Sizes.{with_weeks, IsSize}
 use Rattle.crew_size.specs.Texts.{refuted_line}
 use Rattle.crew_size.specs.Sections.{AreUpToHeading}
 use Rattle.crew_size.specs.declared.run.StaffEnd.{StaffEnd}
-use Rattle.plain_words.specs.StaffParts.{AreParts}
+use Rattle.crew_size.specs.declared.run.StaffEnd.TheVariants.{Least, NoneTo, Undecided}
+use Rattle.plain_words.specs.StaffParts.{IsEndText, AreParts}
+
+-- what was found is the roster whose printed text the bytes are, or they are the text of none
+abbrev pub IsPrintedRoster : Instance → List ℕ → Option Roster → Type 0
+IsPrintedRoster P bytes found =
+    MatchOption found ((s : List Symbol) → IsRoster P s → bytes ≢ roster_text P s)
+    (λ s. (s.days ≡ P.days) × IsRoster P s.cells × (bytes ≡ roster_text P s.cells))
+
+-- the bytes are this end, where the next size is m, with sections in front of them or none
+abbrev pub IsAnyEnd : Instance → ℕ → StaffEnd → List ℕ → Type 0
+IsAnyEnd P m end bytes = (follows : Bool) → IsEndText P follows m end bytes
+
+-- they are no end with a roster
+abbrev pub HasNoRosterEnd : Instance → ℕ → List ℕ → Type 0
+HasNoRosterEnd P m bytes = (follows : Bool) (s : Roster) → IsEndText P follows m (Least s) bytes → ⊥
+
+-- none with a log
+abbrev pub HasNoLogEnd : Instance → ℕ → List ℕ → Type 0
+HasNoLogEnd P m bytes = (follows : Bool) (g : Log) → IsEndText P follows m (Undecided g) bytes → ⊥
+
+-- neither of them
+abbrev pub HasNoSizedEnd : Instance → ℕ → List ℕ → Type 0
+HasNoSizedEnd P m bytes = (follows : Bool) (end : StaffEnd) → IsEndText P follows m end bytes → end ≡ NoneTo
 
 -- the bytes begin with this log for m weeks, and the rest begins at a heading or is empty
 abbrev pub IsCutLog : Instance → ℕ → Log → (bytes rest : List ℕ) → Type 0

@@ -1,5 +1,5 @@
 -- Sentences about the answers of commands, and their words.
-use Rattle.std.specs.Prelude.{◌≡◌, ℕ, ◌+◌, ◌-◌, ◌<◌, ◌≤◌, ◌==◌, List, [], ◌∷◌, ◌++◌, length, Option, Some, None, codes, if◌then◌else◌}
+use Rattle.std.specs.Prelude.{ℕ, ◌-◌, ◌<◌, ◌≤◌, ◌==◌, List, [], ◌∷◌, ◌++◌, length, Option, Some, None, codes, if◌then◌else◌}
 use Rattle.std.specs.Fmt.{decimal}
 use Rattle.std.specs.List.{flat_map}
 use Rattle.rwsp_terms.specs.declared.data.Bounds.{Bounds}
@@ -7,7 +7,6 @@ use Rattle.rwsp_terms.specs.declared.data.Rule.{Rule}
 use Rattle.rwsp_terms.specs.declared.data.Symbol.{Symbol}
 use Rattle.rwsp_terms.specs.Instance.{Instance, IsSymbol, name_of}
 use Rattle.rwsp_terms.specs.Rules.{rules, rule_of}
-use Rattle.refutation_terms.specs.declared.lines.Turn.{Turn}
 use Rattle.plain_words.specs.Words.{weeks_words, range_words, name_words}
 use Rattle.plain_words.specs.BrokenRules.{breach_words}
 use Rattle.plain_words.specs.Causes.{short_words, count_words, line_words}

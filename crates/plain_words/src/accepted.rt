@@ -1,10 +1,10 @@
 // The line of an accepted log, which names its rules.
-ghost use Rattle.std.specs.Prelude.{◌≡◌, ◌<◌, ◌≤◌, ◌+◌, ◌++◌, ◌∷◌, [], ℕ, List, length, Option, Some, None, All, IfOk, IfSome, MatchOption, OnOk};
+ghost use Rattle.std.specs.Prelude.{◌≡◌, ◌<◌, ◌≤◌, ◌+◌, ◌++◌, ◌∷◌, [], ℕ, List, length, Option, Some, None, All, IfOk, IfSome, OnOk};
 ghost use Rattle.rwsp_text.specs.Fields.{rules_at};
 ghost use Rattle.rwsp_text.specs.Lines.{words_of};
 ghost use Rattle.rwsp_terms.specs.Rules.{rules};
 ghost use Rattle.plain_words.specs.AcceptedRules.{rules_behind, goal_behind, named_behind, accepted_in, accepted_words, AcceptedSays, Accepted, IsOwn, IsRead};
-ghost use Rattle.plain_words.specs.AnswerWords.{SaysNothing};
+ghost use Rattle.plain_words.specs.AnswerWords.{IsSaid};
 
 use crate::line_answer::body_of;
 use crate::log_text::lines_of;
@@ -130,8 +130,7 @@ pub(crate) fn accepted_line_words(
     problem: &Problem,
     bytes: &[u8],
 ) -> Result<Option<Vec<u8>>, AllocError>
-    ensures { IfOk result (λ found. MatchOption found
-        (SaysNothing (AcceptedSays problem.now bytes.now)) (λ v. AcceptedSays problem.now bytes.now v.items)) }
+    ensures { IfOk result (IsSaid (AcceptedSays problem.now bytes.now)) }
 {
     let Some(body) = body_of(bytes) else {
         return Ok(None);

@@ -1,12 +1,13 @@
 // What an answer says, in words.
-ghost use Rattle.std.specs.Prelude.{◌≤◌, length, IfOk, MatchOption};
+ghost use Rattle.std.specs.Prelude.{◌≤◌, length, IfOk};
 ghost use Rattle.rwsp_terms.specs.declared.limits.TheConstants.{LONGEST_LOG};
 ghost use Rattle.refutation_terms.specs.declared.lines.LogKind.TheVariants.{WithGoal};
-ghost use Rattle.plain_words.specs.AnswerWords.{SaysNothing, OrElse, LogSays, LineOf, NoLogSays, AnswerSays};
+ghost use Rattle.plain_words.specs.AnswerWords.{OrElse, LogSays, LineOf, NoLogSays, AnswerSays, IsSaid, MendOrLine};
 
 use crate::accepted::accepted_line_words;
 use crate::line_answer::line_words;
 use crate::log_text::log_words;
+use crate::mend_words::mend_words;
 use crate::whole_answer::whole_words;
 use refutation_log::LogKind;
 use rwsp_model::Problem;
@@ -20,8 +21,7 @@ pub fn answer_words(
     bytes: &[u8],
 ) -> Result<Option<Vec<u8>>, AllocError>
     requires { length bytes.now ≤ LONGEST_LOG }
-    ensures { IfOk result (λ found. MatchOption found
-        (SaysNothing (AnswerSays problem.now bytes.now)) (λ v. AnswerSays problem.now bytes.now v.items)) }
+    ensures { IfOk result (IsSaid (AnswerSays problem.now bytes.now)) }
 {
     let first = log_words(alloc, problem, LogKind::WithoutGoal, bytes)?;
     match first {
@@ -40,9 +40,7 @@ fn behind_logs(
     bytes: &[u8],
 ) -> Result<Option<Vec<u8>>, AllocError>
     requires { length bytes.now ≤ LONGEST_LOG }
-    ensures { IfOk result (λ found. MatchOption found
-        (SaysNothing (OrElse (LogSays problem.now WithGoal bytes.now) (NoLogSays problem.now bytes.now)))
-        (λ v. OrElse (LogSays problem.now WithGoal bytes.now) (NoLogSays problem.now bytes.now) v.items)) }
+    ensures { IfOk result (IsSaid (OrElse (LogSays problem.now WithGoal bytes.now) (NoLogSays problem.now bytes.now))) }
 {
     let first = log_words(alloc, problem, LogKind::WithGoal, bytes)?;
     match first {
@@ -57,10 +55,27 @@ fn behind_logs(
 // What bytes say that are no log.
 fn no_log(alloc: Global, problem: &Problem, bytes: &[u8]) -> Result<Option<Vec<u8>>, AllocError>
     requires { length bytes.now ≤ LONGEST_LOG }
-    ensures { IfOk result (λ found. MatchOption found
-        (SaysNothing (NoLogSays problem.now bytes.now)) (λ v. NoLogSays problem.now bytes.now v.items)) }
+    ensures { IfOk result (IsSaid (NoLogSays problem.now bytes.now)) }
 {
     let first = whole_words(alloc, problem, bytes)?;
+    match first {
+        Some(text) => Ok(Some(text)),
+        None => {
+            let found = mend_or_line(alloc, problem, bytes)?;
+            Ok(found)
+        }
+    }
+}
+
+// What bytes say that are an answer of `mend` or one line.
+fn mend_or_line(
+    alloc: Global,
+    problem: &Problem,
+    bytes: &[u8],
+) -> Result<Option<Vec<u8>>, AllocError>
+    ensures { IfOk result (IsSaid (MendOrLine problem.now bytes.now)) }
+{
+    let first = mend_words(alloc, problem, bytes)?;
     match first {
         Some(text) => Ok(Some(text)),
         None => {
@@ -72,8 +87,7 @@ fn no_log(alloc: Global, problem: &Problem, bytes: &[u8]) -> Result<Option<Vec<u
 
 // What bytes say that are one line.
 fn line_of(alloc: Global, problem: &Problem, bytes: &[u8]) -> Result<Option<Vec<u8>>, AllocError>
-    ensures { IfOk result (λ found. MatchOption found
-        (SaysNothing (LineOf problem.now bytes.now)) (λ v. LineOf problem.now bytes.now v.items)) }
+    ensures { IfOk result (IsSaid (LineOf problem.now bytes.now)) }
 {
     let first = accepted_line_words(alloc, problem, bytes)?;
     match first {

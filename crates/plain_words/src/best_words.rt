@@ -8,7 +8,7 @@ ghost use Rattle.refutation_terms.specs.Log.{Log, Fits};
 ghost use Rattle.refutation_log.specs.ReadLog.{IsReadAs};
 ghost use Rattle.plain_words.specs.BestWords.{counted_roster, IsBestText, IsBestInWords, BestSaysOf, BestSaysSome, BestSays};
 ghost use Rattle.plain_words.specs.AnswerParts.{best_part};
-ghost use Rattle.plain_words.specs.AnswerWords.{SaysNothing};
+ghost use Rattle.plain_words.specs.AnswerWords.{IsSaid};
 
 use crate::log_text::{log_in_words, log_of};
 use crate::parts::best_part;
@@ -133,9 +133,7 @@ fn words_with(
     requires roster { IsRoster problem.now roster.now.cells }
     requires days { roster.now.days ≡ problem.now.days }
     requires few { length bytes.now ≤ LONGEST_LOG }
-    ensures { IfOk result (λ found. MatchOption found
-        (SaysNothing (BestSaysOf problem.now roster.now.cells bytes.now))
-        (λ v. BestSaysOf problem.now roster.now.cells bytes.now v.items)) }
+    ensures { IfOk result (IsSaid (BestSaysOf problem.now roster.now.cells bytes.now)) }
 {
     problem.prove_limits();
     let goal = free_weekends(problem, roster) + 1;
@@ -159,8 +157,7 @@ fn words_by_part(
     requires week { problem.now.days ≡ DAYS_OF_WEEK }
     requires part { best_part problem.now.weeks bytes.now ≡ Some part.now }
     requires few { length bytes.now ≤ LONGEST_LOG }
-    ensures { IfOk result (λ found. MatchOption found
-        (SaysNothing (BestSaysSome problem.now bytes.now)) (λ v. BestSaysSome problem.now bytes.now v.items)) }
+    ensures { IfOk result (IsSaid (BestSaysSome problem.now bytes.now)) }
 {
     problem.prove_limits();
     let found = roster_of(alloc, problem, part)?;
@@ -181,8 +178,7 @@ fn weekly_words(
 ) -> Result<Option<Vec<u8>>, AllocError>
     requires week { problem.now.days ≡ DAYS_OF_WEEK }
     requires few { length bytes.now ≤ LONGEST_LOG }
-    ensures { IfOk result (λ found. MatchOption found
-        (SaysNothing (BestSaysSome problem.now bytes.now)) (λ v. BestSaysSome problem.now bytes.now v.items)) }
+    ensures { IfOk result (IsSaid (BestSaysSome problem.now bytes.now)) }
 {
     problem.prove_limits();
     match best_part(problem.weeks(), bytes) {
@@ -208,8 +204,7 @@ pub(crate) fn best_words(
     bytes: &[u8],
 ) -> Result<Option<Vec<u8>>, AllocError>
     requires { length bytes.now ≤ LONGEST_LOG }
-    ensures { IfOk result (λ found. MatchOption found
-        (SaysNothing (BestSays problem.now bytes.now)) (λ v. BestSays problem.now bytes.now v.items)) }
+    ensures { IfOk result (IsSaid (BestSays problem.now bytes.now)) }
 {
     if !is_weekly(problem) {
         return Ok(None);

@@ -2,7 +2,7 @@
 ghost use Rattle.std.specs.Prelude.{◌≡◌, ◌++◌, List, Some, None, All, IfOk, OnOk, MatchOption, flat_map};
 ghost use Rattle.rwsp_terms.specs.Instance.{IsSymbol};
 ghost use Rattle.rwsp_text.specs.Reads.{Reads};
-ghost use Rattle.plain_words.specs.Says.{SaysNothing};
+ghost use Rattle.plain_words.specs.Says.{IsSaid};
 ghost use Rattle.plain_words.specs.Escapes.{line_number_at, escape_at, AreNamed, next_words, row_words, escape_line, EscapeSays};
 
 use crate::rule_label::{before_colon, whole_number};
@@ -119,8 +119,7 @@ pub(crate) fn escape_words(
     problem: &Problem,
     fields: &mut Fields,
 ) -> Result<Option<Vec<u8>>, AllocError>
-    ensures { IfOk result (λ found. MatchOption found
-        (SaysNothing (EscapeSays problem.now fields.old)) (λ v. EscapeSays problem.now fields.old v.items)) }
+    ensures { IfOk result (IsSaid (EscapeSays problem.now fields.old)) }
 {
     let Some(line) = escape_at(fields) else {
         return Ok(None);

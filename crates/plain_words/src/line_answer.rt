@@ -5,7 +5,7 @@ ghost use Rattle.rwsp_terms.specs.Rules.{rules};
 ghost use Rattle.rwsp_text.specs.Lines.{words_of};
 ghost use Rattle.plain_words.specs.Statements.{StatementFits, statement_line};
 ghost use Rattle.plain_words.specs.LineAnswers.{plain_at, count_at, line_at, rule_line, rule_line_at, refused_log_at, refused_staff_at, refused_roster_at, range_at, refused_file_at, refused_rest_at, least_at, none_at, accepted_at, no_at, too_long_kind, too_at, horizon_at, not_at, staff_range_at, staff_at, breaks_at, failed_at, failure, refused_at, other_answer, short_answer, IsStatement, ReadSays, WordsSay, LineSays};
-ghost use Rattle.plain_words.specs.AnswerWords.{SaysNothing};
+ghost use Rattle.plain_words.specs.AnswerWords.{IsSaid};
 
 use crate::breach::breach_at;
 use crate::cause::{
@@ -438,8 +438,7 @@ pub(crate) fn read_words(
     again: &mut Fields,
 ) -> Result<Option<Vec<u8>>, AllocError>
     requires { IfSome read (StatementFits problem.now) }
-    ensures { IfOk result (λ found. MatchOption found
-        (SaysNothing (ReadSays problem.now read again.old)) (λ v. ReadSays problem.now read again.old v.items)) }
+    ensures { IfOk result (IsSaid (ReadSays problem.now read again.old)) }
 {
     match read {
         Some(statement) => {
@@ -461,9 +460,7 @@ fn whole_words(
     again: &mut Fields,
 ) -> Result<Option<Vec<u8>>, AllocError>
     requires { again.now ≡ fields.now }
-    ensures { IfOk result (λ found. MatchOption found
-        (SaysNothing (ReadSays problem.now (short_answer problem.now fields.old) fields.old))
-        (λ v. ReadSays problem.now (short_answer problem.now fields.old) fields.old v.items)) }
+    ensures { IfOk result (IsSaid (ReadSays problem.now (short_answer problem.now fields.old) fields.old)) }
 {
     let read = short_answer(problem, fields);
     let found = read_words(alloc, problem, read, again)?;
@@ -472,9 +469,8 @@ fn whole_words(
 
 // What the words of a line say.
 fn short_words(alloc: Global, problem: &Problem, body: &[u8]) -> Result<Option<Vec<u8>>, AllocError>
-    ensures { IfOk result (λ found. MatchOption found
-        (SaysNothing (ReadSays problem.now (short_answer problem.now (words_of body.now)) (words_of body.now)))
-        (λ v. ReadSays problem.now (short_answer problem.now (words_of body.now)) (words_of body.now) v.items)) }
+    ensures { IfOk result
+        (IsSaid (ReadSays problem.now (short_answer problem.now (words_of body.now)) (words_of body.now))) }
 {
     let mut fields = Fields::of(body);
     let mut again = Fields::of(body);
@@ -484,9 +480,7 @@ fn short_words(alloc: Global, problem: &Problem, body: &[u8]) -> Result<Option<V
 
 // What the words of a line say, or those of a text of a least crew.
 fn words_said(alloc: Global, problem: &Problem, body: &[u8]) -> Result<Option<Vec<u8>>, AllocError>
-    ensures { IfOk result (λ found. MatchOption found
-        (SaysNothing (WordsSay problem.now (words_of body.now)))
-        (λ v. WordsSay problem.now (words_of body.now) v.items)) }
+    ensures { IfOk result (IsSaid (WordsSay problem.now (words_of body.now))) }
 {
     let first = short_words(alloc, problem, body)?;
     match first {
@@ -504,8 +498,7 @@ pub(crate) fn line_words(
     problem: &Problem,
     bytes: &[u8],
 ) -> Result<Option<Vec<u8>>, AllocError>
-    ensures { IfOk result (λ found. MatchOption found
-        (SaysNothing (LineSays problem.now bytes.now)) (λ v. LineSays problem.now bytes.now v.items)) }
+    ensures { IfOk result (IsSaid (LineSays problem.now bytes.now)) }
 {
     let Some(body) = body_of(bytes) else {
         return Ok(None);

@@ -5,7 +5,7 @@ ghost use Rattle.refutation_terms.specs.Log.{Fits, Log};
 ghost use Rattle.refutation_log.specs.ReadLog.{HasLogsOf, IsReadAs};
 ghost use Rattle.plain_words.specs.Statements.{StatementFits, statements_words};
 ghost use Rattle.plain_words.specs.LogWords.{IsLogInWords, rosters_by};
-ghost use Rattle.plain_words.specs.AnswerWords.{SaysNothing, LogSays};
+ghost use Rattle.plain_words.specs.AnswerWords.{IsSaid, LogSays};
 
 use crate::log_words::{log_statements, rosters_by};
 use crate::statement::{Rosters, Statement, put_statements};
@@ -81,8 +81,7 @@ pub(crate) fn log_words(
     bytes: &[u8],
 ) -> Result<Option<Vec<u8>>, AllocError>
     requires { length bytes.now ≤ LONGEST_LOG }
-    ensures { IfOk result (λ found. MatchOption found
-        (SaysNothing (LogSays problem.now kind bytes.now)) (λ v. LogSays problem.now kind bytes.now v.items)) }
+    ensures { IfOk result (IsSaid (LogSays problem.now kind bytes.now)) }
 {
     if !has_logs(problem, kind) {
         return Ok(None);

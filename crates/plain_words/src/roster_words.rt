@@ -1,21 +1,18 @@
 // A roster in words.
-ghost use Rattle.std.specs.Prelude.{◌≡◌, ◌++◌, List, MatchOption, IfOk, IfSome, OnOk};
+ghost use Rattle.std.specs.Prelude.{◌≡◌, ◌++◌, ◌∷◌, [], List, MatchOption, IfOk, IfSome, OnOk};
 ghost use Rattle.rwsp_terms.specs.declared.data.Symbol.{Symbol};
 ghost use Rattle.rwsp_terms.specs.Roster.{IsRoster};
-ghost use Rattle.rwsp_terms.specs.Rules.{rule_of};
 ghost use Rattle.roster_checker.specs.BreaksText.{HasBroken};
-ghost use Rattle.plain_words.specs.RosterWords.{IsRosterText, window_words, place_words, broken_in_words, broken_words, judged_words, free_words, IsRosterInWords, RosterSays};
-ghost use Rattle.plain_words.specs.AnswerWords.{SaysNothing};
+ghost use Rattle.plain_words.specs.BrokenRules.{breach_words};
+ghost use Rattle.plain_words.specs.RosterWords.{IsRosterText, breach_of, judged_words, free_words, IsRosterInWords, RosterSays};
+ghost use Rattle.plain_words.specs.AnswerWords.{IsSaid};
 
-use crate::rule_words::put_rule_words;
+use crate::breach::{Breach, put_breach};
 use crate::statement::put_weekends;
-use crate::words::put_days;
 use roster_checker::{Broken, first_broken, free_weekends};
 use roster_print::read_roster;
-use rwsp_model::{Fail, Problem, Roster, rule_at};
-use rwsp_terms::Rule;
+use rwsp_model::{Fail, Problem, Roster};
 use rwsp_terms::limits::{DAYS_OF_WEEK, LONGEST_FILE};
-use rwsp_text::put_number;
 use std::alloc::{AllocError, Global};
 
 /// The roster that the bytes spell, where they are no longer than a roster's text may be.
@@ -40,52 +37,25 @@ pub(crate) fn roster_of(
     }
 }
 
-// Appends the days of a window.
-#[tactic(auto, unfolding(crate::specs::RosterWords::window_words))]
-fn put_window(out: &mut Vec<u8>, broken: Broken) -> Result<(), AllocError>
-    ensures { OnOk result (out.new.items ≡ out.old.items ++ window_words broken) }
+// The rule that is broken, and where.
+fn breach_of(broken: Broken) -> Breach
+    ensures { result ≡ breach_of broken }
 {
-    out.extend_from_slice(b" in the ")?;
-    put_days(out, broken.length)?;
-    out.extend_from_slice(b" from week ")?;
-    put_number(out, u64::from(broken.week))?;
-    out.extend_from_slice(b" day ")?;
-    put_number(out, u64::from(broken.day))?;
-    out.extend_from_slice(b" on")
-}
-
-// Appends in which days a rule is broken; of the rule of a day nothing.
-fn put_place(out: &mut Vec<u8>, rule: Rule, broken: Broken) -> Result<(), AllocError>
-    ensures { OnOk result (out.new.items ≡ out.old.items ++ place_words rule broken) }
-{
-    if let Rule::Day(_) = rule {
-        return Ok(());
+    Breach {
+        rule: broken.rule,
+        week: broken.week,
+        day: broken.day,
+        days: broken.length,
     }
-    put_window(out, broken)
-}
-
-// Appends where a rule is broken, and the rule.
-#[tactic(auto, unfolding(crate::specs::RosterWords::broken_in_words))]
-fn put_in_words(out: &mut Vec<u8>, problem: &Problem, broken: Broken) -> Result<(), AllocError>
-    requires { HasBroken problem.now broken }
-    ensures { OnOk result (out.new.items
-        ≡ out.old.items ++ broken_in_words problem.now (rule_of problem.now broken.rule) broken) }
-{
-    let rule = rule_at(problem, broken.rule);
-    put_place(out, rule, broken)?;
-    out.extend_from_slice(b": ")?;
-    put_rule_words(out, problem, rule)
 }
 
 // Appends the rule that a roster breaks, and where.
-#[tactic(auto, unfolding(crate::specs::RosterWords::broken_words))]
+#[tactic(auto, using(rwsp_model::proofs::Numbering::rule_in_range))]
 fn put_broken(out: &mut Vec<u8>, problem: &Problem, broken: Broken) -> Result<(), AllocError>
     requires { HasBroken problem.now broken }
-    ensures { OnOk result (out.new.items ≡ out.old.items ++ broken_words problem.now broken) }
+    ensures { OnOk result (out.new.items ≡ out.old.items ++ (breach_words problem.now (breach_of broken) ++ 10 ∷ [])) }
 {
-    out.extend_from_slice(b"the roster breaks rule ")?;
-    put_number(out, u64::from(broken.rule))?;
-    put_in_words(out, problem, broken)?;
+    put_breach(out, problem, breach_of(broken))?;
     out.extend_from_slice(b"\n")
 }
 
@@ -163,8 +133,7 @@ pub(crate) fn roster_words(
     problem: &Problem,
     bytes: &[u8],
 ) -> Result<Option<Vec<u8>>, AllocError>
-    ensures { IfOk result (λ found. MatchOption found
-        (SaysNothing (RosterSays problem.now bytes.now)) (λ v. RosterSays problem.now bytes.now v.items)) }
+    ensures { IfOk result (IsSaid (RosterSays problem.now bytes.now)) }
 {
     let Some(roster) = roster_of(alloc, problem, bytes)? else {
         return Ok(None);

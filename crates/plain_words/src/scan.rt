@@ -2,8 +2,8 @@
 ghost use Rattle.std.specs.Prelude.{◌≡◌, ◌≢◌, ◌++◌, ◌≤◌, List, ℕ, length, Some, None, MatchOption};
 ghost use Rattle.plain_words.specs.AnswerParts.{behind_digits, closed, number_at, behind_word};
 
-// The bytes behind the digits at the front.
-fn behind_digits(bytes: &[u8]) -> &[u8]
+/// The bytes behind the digits at the front.
+pub(crate) fn behind_digits(bytes: &[u8]) -> &[u8]
     ensures value { result.now ≡ behind_digits bytes.now }
     ensures few { length result.now ≤ length bytes.now }
 {

@@ -1,8 +1,8 @@
 // Why a text of a least crew is refused, for a number of weeks.
-ghost use Rattle.std.specs.Prelude.{◌≡◌, ◌++◌, ◌*◌, ◌≤◌, ℕ, List, IfOk, IfSome, MatchOption};
+ghost use Rattle.std.specs.Prelude.{◌≡◌, ◌++◌, ◌*◌, ◌≤◌, ℕ, List, IfOk, IfSome};
 ghost use Rattle.rwsp_text.specs.Lines.{words_of};
 ghost use Rattle.rwsp_text.specs.Reads.{Reads};
-ghost use Rattle.plain_words.specs.Says.{SaysNothing};
+ghost use Rattle.plain_words.specs.Says.{IsSaid};
 ghost use Rattle.plain_words.specs.LineAnswers.{sized, size_or_none, staffed_at, sized_front, failure, ReadSays, SizedSays, RefusedStaffSays};
 
 use crate::line_answer::{failure, read_words};
@@ -38,9 +38,7 @@ fn failure_words(
     again: &mut Fields,
 ) -> Result<Option<Vec<u8>>, AllocError>
     requires { again.now ≡ fields.now }
-    ensures { IfOk result (λ found. MatchOption found
-        (SaysNothing (ReadSays problem.now (failure problem.now fields.old) fields.old))
-        (λ v. ReadSays problem.now (failure problem.now fields.old) fields.old v.items)) }
+    ensures { IfOk result (IsSaid (ReadSays problem.now (failure problem.now fields.old) fields.old)) }
 {
     let read = failure(problem, fields);
     let found = read_words(alloc, problem, read, again)?;
@@ -69,9 +67,8 @@ fn sized_words(
 ) -> Result<Option<Vec<u8>>, AllocError>
     requires size { (1 ≤ weeks) × (weeks ≤ MOST_WEEKS) × (weeks * problem.now.days ≤ MOST_CELLS) }
     requires same { again.now ≡ fields.now }
-    ensures { IfOk result (λ found. MatchOption found
-        (SaysNothing (ReadSays (sized problem.now weeks) (failure (sized problem.now weeks) fields.old) fields.old))
-        (λ v. ReadSays (sized problem.now weeks) (failure (sized problem.now weeks) fields.old) fields.old v.items)) }
+    ensures { IfOk result
+        (IsSaid (ReadSays (sized problem.now weeks) (failure (sized problem.now weeks) fields.old) fields.old)) }
 {
     let sized = problem.with_weeks(weeks)?;
     let found = failure_words(alloc, &sized, fields, again)?;
@@ -88,9 +85,7 @@ fn sized_text(
 ) -> Result<Option<Vec<u8>>, AllocError>
     requires size { (1 ≤ weeks) × (weeks ≤ MOST_WEEKS) × (weeks * problem.now.days ≤ MOST_CELLS) }
     requires same { again.now ≡ fields.now }
-    ensures { IfOk result (λ found. MatchOption found
-        (SaysNothing (SizedSays problem.now weeks fields.old))
-        (λ v. SizedSays problem.now weeks fields.old v.items)) }
+    ensures { IfOk result (IsSaid (SizedSays problem.now weeks fields.old)) }
 {
     let Some(why) = sized_words(alloc, problem, weeks, fields, again)? else {
         return Ok(None);
@@ -105,9 +100,7 @@ pub(crate) fn staff_words(
     problem: &Problem,
     body: &[u8],
 ) -> Result<Option<Vec<u8>>, AllocError>
-    ensures { IfOk result (λ found. MatchOption found
-        (SaysNothing (RefusedStaffSays problem.now (words_of body.now)))
-        (λ v. RefusedStaffSays problem.now (words_of body.now) v.items)) }
+    ensures { IfOk result (IsSaid (RefusedStaffSays problem.now (words_of body.now))) }
 {
     let mut fields = Fields::of(body);
     let Some(weeks) = staffed_at(problem, &mut fields) else {

@@ -1,13 +1,10 @@
 // The parts of an answer of `staff`.
-ghost use Rattle.std.specs.Prelude.{◌≡◌, ◌≢◌, ◌++◌, ◌∷◌, ◌≤◌, ◌<◌, ◌-◌, ◌+◌, [], ℕ, List, length, Some, None, Bool, false, true, MatchOption, IfOk, IfSome};
+ghost use Rattle.std.specs.Prelude.{◌≡◌, ◌≢◌, ◌++◌, ◌∷◌, ◌≤◌, ◌<◌, ◌-◌, ◌+◌, [], ℕ, List, length, Some, None, false, true, MatchOption, IfOk, IfSome};
 ghost use Rattle.std.specs.Bool.{Decides};
 ghost use Rattle.rwsp_terms.specs.declared.limits.TheConstants.{LONGEST_LOG, MOST_WEEKS};
-ghost use Rattle.rwsp_terms.specs.Roster.{IsRoster};
-ghost use Rattle.rwsp_terms.specs.declared.data.Symbol.{Symbol};
 ghost use Rattle.refutation_terms.specs.declared.lines.LogKind.TheVariants.{WithoutGoal};
 ghost use Rattle.refutation_terms.specs.Log.{Log};
 ghost use Rattle.refutation_log.specs.ReadLog.{IsReadAs};
-ghost use Rattle.roster_print.specs.RosterText.{roster_text};
 ghost use Rattle.rwsp_model.specs.declared.roster.Roster.{Roster};
 ghost use Rattle.crew_size.specs.Sizes.{with_weeks, IsSize};
 ghost use Rattle.crew_size.specs.Texts.{heading, none_line};
@@ -15,7 +12,7 @@ ghost use Rattle.crew_size.specs.Sections.{AreUpToHeading};
 ghost use Rattle.crew_size.specs.declared.run.StaffEnd.{StaffEnd};
 ghost use Rattle.crew_size.specs.declared.run.StaffEnd.TheVariants as Ends;
 ghost use Rattle.plain_words.specs.StaffParts.{IsEndText, AreParts};
-ghost use Rattle.plain_words.specs.StaffPlaces.{IsCutLog, HasNoCutLog, HasNoSection, IsOnlySection};
+ghost use Rattle.plain_words.specs.StaffPlaces.{IsCutLog, HasNoCutLog, HasNoSection, IsOnlySection, IsPrintedRoster, IsAnyEnd, HasNoRosterEnd, HasNoLogEnd, HasNoSizedEnd};
 
 use crate::log_text::log_of;
 use crate::roster_words::roster_of;
@@ -162,8 +159,8 @@ fn take_part<'a>(
     }
 }
 
-// Whether two texts are one.
-fn is_same(bytes: &[u8], text: &[u8]) -> bool
+/// Whether two texts are one.
+pub(crate) fn is_same(bytes: &[u8], text: &[u8]) -> bool
     ensures { Decides result (bytes.now ≡ text.now) }
 {
     bytes == text
@@ -175,10 +172,7 @@ fn printed_roster(
     problem: &Problem,
     bytes: &[u8],
 ) -> Result<Option<Roster>, AllocError>
-    ensures { IfOk result (λ found. MatchOption found
-        ((s : List Symbol) → IsRoster problem.now s → bytes.now ≢ roster_text problem.now s)
-        (λ s. (s.days ≡ problem.now.days) × IsRoster problem.now s.cells
-        × (bytes.now ≡ roster_text problem.now s.cells))) }
+    ensures { IfOk result (λ found. IsPrintedRoster problem.now bytes.now found) }
 {
     problem.prove_limits();
     let found = roster_of(alloc, problem, bytes)?;
@@ -203,11 +197,7 @@ fn sized_roster(
     bytes: &[u8],
 ) -> Result<Option<Roster>, AllocError>
     requires { IsSize problem.now weeks }
-    ensures { IfOk result (λ found. MatchOption found
-        ((s : List Symbol) → IsRoster (with_weeks problem.now weeks) s →
-        bytes.now ≢ roster_text (with_weeks problem.now weeks) s)
-        (λ s. (s.days ≡ problem.now.days) × IsRoster (with_weeks problem.now weeks) s.cells
-        × (bytes.now ≡ roster_text (with_weeks problem.now weeks) s.cells))) }
+    ensures { IfOk result (λ found. IsPrintedRoster (with_weeks problem.now weeks) bytes.now found) }
 {
     let sized = with_weeks(problem, weeks)?;
     let found = printed_roster(alloc, &sized, bytes)?;
@@ -223,8 +213,8 @@ fn roster_end(
 ) -> Result<Option<Roster>, AllocError>
     requires { IsSize problem.now weeks }
     ensures { IfOk result (λ found. MatchOption found
-        ((follows : Bool) (s : Roster) → IsEndText problem.now follows weeks (Ends.Least s) bytes.now → ⊥)
-        (λ s. (follows : Bool) → IsEndText problem.now follows weeks (Ends.Least s) bytes.now)) }
+        (HasNoRosterEnd problem.now weeks bytes.now)
+        (λ s. IsAnyEnd problem.now weeks (Ends.Least s) bytes.now)) }
 {
     let found = behind_heading(alloc, b"weeks ", weeks, b" roster", bytes)?;
     match found {
@@ -246,8 +236,8 @@ fn spent_end(
     requires size { IsSize problem.now weeks }
     requires few { length bytes.now ≤ LONGEST_LOG }
     ensures { IfOk result (λ found. MatchOption found
-        ((follows : Bool) (g : Log) → IsEndText problem.now follows weeks (Ends.Undecided g) bytes.now → ⊥)
-        (λ g. (follows : Bool) → IsEndText problem.now follows weeks (Ends.Undecided g) bytes.now)) }
+        (HasNoLogEnd problem.now weeks bytes.now)
+        (λ g. IsAnyEnd problem.now weeks (Ends.Undecided g) bytes.now)) }
 {
     let found = behind_heading(alloc, b"weeks ", weeks, b" undecided", bytes)?;
     match found {
@@ -269,8 +259,8 @@ fn end_by_log(
     requires size { IsSize problem.now weeks }
     requires few { length bytes.now ≤ LONGEST_LOG }
     ensures { IfOk result (λ found. MatchOption found
-        ((follows : Bool) (g : Log) → IsEndText problem.now follows weeks (Ends.Undecided g) bytes.now → ⊥)
-        (λ end. (follows : Bool) → IsEndText problem.now follows weeks end bytes.now)) }
+        (HasNoLogEnd problem.now weeks bytes.now)
+        (λ end. IsAnyEnd problem.now weeks end bytes.now)) }
 {
     let found = spent_end(alloc, problem, weeks, bytes)?;
     match found {
@@ -289,8 +279,8 @@ fn sized_end(
     requires size { IsSize problem.now weeks }
     requires few { length bytes.now ≤ LONGEST_LOG }
     ensures { IfOk result (λ found. MatchOption found
-        ((follows : Bool) (end : StaffEnd) → IsEndText problem.now follows weeks end bytes.now → end ≡ Ends.NoneTo)
-        (λ end. (follows : Bool) → IsEndText problem.now follows weeks end bytes.now)) }
+        (HasNoSizedEnd problem.now weeks bytes.now)
+        (λ end. IsAnyEnd problem.now weeks end bytes.now)) }
 {
     let found = roster_end(alloc, problem, weeks, bytes)?;
     match found {
@@ -311,8 +301,8 @@ fn some_end(
 ) -> Result<Option<StaffEnd>, AllocError>
     requires { length bytes.now ≤ LONGEST_LOG }
     ensures { IfOk result (λ found. MatchOption found
-        ((follows : Bool) (end : StaffEnd) → IsEndText problem.now follows weeks end bytes.now → end ≡ Ends.NoneTo)
-        (λ end. (follows : Bool) → IsEndText problem.now follows weeks end bytes.now)) }
+        (HasNoSizedEnd problem.now weeks bytes.now)
+        (λ end. IsAnyEnd problem.now weeks end bytes.now)) }
 {
     if is_size(problem, weeks) {
         let found = sized_end(alloc, problem, weeks, bytes)?;

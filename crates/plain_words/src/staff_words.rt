@@ -1,5 +1,5 @@
 // What an answer of `staff` says.
-ghost use Rattle.std.specs.Prelude.{◌≡◌, ◌++◌, ◌∷◌, ◌≤◌, ◌<◌, ◌+◌, ◌-◌, ℕ, List, length, take, slice_get, Some, MatchOption, IfOk, OnOk};
+ghost use Rattle.std.specs.Prelude.{◌≡◌, ◌++◌, ◌∷◌, ◌≤◌, ◌<◌, ◌+◌, ◌-◌, ℕ, List, length, take, slice_get, Some, IfOk, OnOk};
 ghost use Rattle.std.specs.List.{flat_map};
 ghost use Rattle.std.specs.Fmt.{decimal};
 ghost use Rattle.rwsp_terms.specs.declared.limits.TheConstants.{LONGEST_LOG, MOST_WEEKS};
@@ -11,7 +11,7 @@ ghost use Rattle.plain_words.specs.declared.statement.Statement.TheVariants.{Lea
 ghost use Rattle.plain_words.specs.Statements.{statement_line};
 ghost use Rattle.plain_words.specs.RosterWords.{IsRosterInWords};
 ghost use Rattle.plain_words.specs.StaffPlaces.{AreFitting};
-ghost use Rattle.plain_words.specs.AnswerWords.{SaysNothing};
+ghost use Rattle.plain_words.specs.AnswerWords.{IsSaid};
 ghost use Rattle.plain_words.specs.StaffWords.{numbers_words, by_numbers, size_line, size_lines, IsSizeInWords, AreSizesSaid, AreSectionsInWords, none_below, IsEndInWords, IsStaffInWords, StaffSaysFrom, StaffSays};
 
 use crate::log_text::log_in_words;
@@ -331,9 +331,7 @@ fn words_from(
 ) -> Result<Option<Vec<u8>>, AllocError>
     requires low { (0 < low) × (low ≤ MOST_WEEKS) }
     requires few { length bytes.now ≤ LONGEST_LOG }
-    ensures { IfOk result (λ found. MatchOption found
-        (SaysNothing (StaffSaysFrom problem.now low bytes.now))
-        (λ v. StaffSaysFrom problem.now low bytes.now v.items)) }
+    ensures { IfOk result (IsSaid (StaffSaysFrom problem.now low bytes.now)) }
 {
     let mut logs = Vec::new(alloc);
     let found = parts_of(alloc, problem, low, bytes, &mut logs)?;
@@ -353,8 +351,7 @@ pub(crate) fn staff_words(
     bytes: &[u8],
 ) -> Result<Option<Vec<u8>>, AllocError>
     requires { length bytes.now ≤ LONGEST_LOG }
-    ensures { IfOk result (λ found. MatchOption found
-        (SaysNothing (StaffSays problem.now bytes.now)) (λ v. StaffSays problem.now bytes.now v.items)) }
+    ensures { IfOk result (IsSaid (StaffSays problem.now bytes.now)) }
 {
     for low in 1..MOST_WEEKS + 1 {
         let found = words_from(alloc, problem, low, bytes)?;

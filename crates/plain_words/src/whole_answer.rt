@@ -1,9 +1,9 @@
 // Answers that are a roster, or have several parts.
-ghost use Rattle.std.specs.Prelude.{◌≤◌, length, MatchOption, IfOk};
+ghost use Rattle.std.specs.Prelude.{◌≤◌, length, IfOk};
 ghost use Rattle.rwsp_terms.specs.declared.limits.TheConstants.{LONGEST_LOG};
 ghost use Rattle.plain_words.specs.BestWords.{BestSays};
 ghost use Rattle.plain_words.specs.StaffWords.{StaffSays};
-ghost use Rattle.plain_words.specs.AnswerWords.{SaysNothing, OrElse, WholeSays};
+ghost use Rattle.plain_words.specs.AnswerWords.{OrElse, WholeSays, IsSaid};
 
 use crate::best_words::best_words;
 use crate::roster_words::roster_words;
@@ -18,9 +18,7 @@ fn parts_words(
     bytes: &[u8],
 ) -> Result<Option<Vec<u8>>, AllocError>
     requires { length bytes.now ≤ LONGEST_LOG }
-    ensures { IfOk result (λ found. MatchOption found
-        (SaysNothing (OrElse (BestSays problem.now bytes.now) (StaffSays problem.now bytes.now)))
-        (λ v. OrElse (BestSays problem.now bytes.now) (StaffSays problem.now bytes.now) v.items)) }
+    ensures { IfOk result (IsSaid (OrElse (BestSays problem.now bytes.now) (StaffSays problem.now bytes.now))) }
 {
     let first = best_words(alloc, problem, bytes)?;
     match first {
@@ -39,8 +37,7 @@ pub(crate) fn whole_words(
     bytes: &[u8],
 ) -> Result<Option<Vec<u8>>, AllocError>
     requires { length bytes.now ≤ LONGEST_LOG }
-    ensures { IfOk result (λ found. MatchOption found
-        (SaysNothing (WholeSays problem.now bytes.now)) (λ v. WholeSays problem.now bytes.now v.items)) }
+    ensures { IfOk result (IsSaid (WholeSays problem.now bytes.now)) }
 {
     let first = roster_words(alloc, problem, bytes)?;
     match first {

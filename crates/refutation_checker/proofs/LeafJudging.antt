@@ -20,7 +20,7 @@ use Rattle.domain_store.specs.Store.{Store, IsStore, BelongsTo, HasDomains, has_
 use Rattle.domain_store.proofs.Idle.{positions_of}
 use Rattle.refutation_checker.specs.LineVerdicts.{HasList, HasNoList, HoldsByWords}
 use Rattle.refutation_checker.specs.LineTexts.{MayStep}
-use Rattle.refutation_checker.proofs.Judging.{may_step}
+use Rattle.refutation_checker.proofs.LineJudging.{may_step}
 
 pub same_by_words : (P : Instance) (goal : Option ℕ) (counts : Bool) (D E : Domains) (line : Line) → GoalFits P Full goal → LineFits P goal counts line → AreSame P D E → HoldsByWords P goal D line → HoldsByWords P goal E line
 same_by_words P goal counts D E (Closing (Words p R (Dead len))) weeks fits same h =

@@ -1,6 +1,6 @@
 pub mod Lists
 pub mod Lines
-pub mod Judging
+pub mod LineJudging
 pub mod Passing
 pub mod HeaderFaults
 pub mod SoundLines

@@ -40,7 +40,7 @@ use Rattle.refutation_checker.specs.ChunkVerdicts.{AreSoundBehind, IsChunkRefuse
 use Rattle.refutation_log.specs.Headers.{GoalIsInRange}
 use Rattle.refutation_checker.specs.Turns.{IsSoundTurn, TurnFault, IsTurnFault}
 use Rattle.refutation_checker.specs.LogVerdicts.{judging_of, IsPassed, IsRefusedAt, IsTreeJudged}
-use Rattle.refutation_checker.proofs.Judging.{refused_next}
+use Rattle.refutation_checker.proofs.LineJudging.{refused_next}
 use Rattle.refutation_checker.proofs.SoundLines.{sound_joined, HasHeader, passes, refused}
 use Rattle.refutation_checker.proofs.HeaderFaults.{refused_at_line}
 

@@ -33,7 +33,7 @@ use Rattle.refutation_checker.specs.ChunkVerdicts.{AreSoundBehind}
 use Rattle.refutation_checker.specs.LineTexts.{Judging, log_of, IsSoundNext}
 use Rattle.refutation_checker.specs.Laws.{TextsHaveAVerdict}
 use Rattle.refutation_checker.proofs.HeaderFaults.{refused_at_line}
-use Rattle.refutation_checker.proofs.Judging.{refused_next}
+use Rattle.refutation_checker.proofs.LineJudging.{refused_next}
 use Rattle.refutation_checker.proofs.Passing.{turned_text}
 use Rattle.refutation_checker.proofs.SoundLines.{lines_joined, sound_joined, HasHeader, header_judged, accepted, ends, refused}
 use Rattle.refutation_checker.proofs.Deciding.{least_number, cited_is_named, line_stands}

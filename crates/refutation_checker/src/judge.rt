@@ -179,7 +179,7 @@ impl<'a> Judge<'a> {
         }
     }
 
-    // The word that escapes a leaf of words; None exactly where the leaf holds, and for other lines.
+    /// The word that escapes a leaf of words; None exactly where the leaf holds, and for other lines.
     pub fn leaf_escape(
         &mut self,
         alloc: Global,

@@ -26,6 +26,7 @@ mod workers;
 
 pub use chunk_starts::chunks_for;
 pub use clean_words::{Gate, NoGate};
+pub use judge::{Judge, Judging};
 pub use laws::texts_have_a_verdict;
 pub use leaf_judge::{LeafJudge, go_past};
 pub use log_check::check_log;

@@ -152,8 +152,8 @@ fn goal_line(problem: &Problem, reader: &mut LineReader) -> Result<u32, LogRefus
     }
 }
 
-// The rules that the second line names.
-fn rules_line(
+/// The rules that the second line of a text names, from a reader behind its first.
+pub fn rules_line(
     alloc: Global,
     problem: &Problem,
     reader: &mut LineReader,

@@ -20,15 +20,16 @@ mod turn;
 
 pub use best_found::BestFound;
 pub use cited::{put_cited, put_opening_cited};
+pub use fields::{put_place, put_word};
 pub use found::Found;
-pub use header::{Header, lines_of_header, read_header};
+pub use header::{Header, lines_of_header, read_header, rules_line};
 pub use laws::{
     logs_have_one_text, texts_have_one_verdict, texts_of_logs_are_read, unread_texts_have_one_cause,
 };
-pub use line::read_line;
+pub use line::{body_of, read_line};
 pub use log::{Log, copy_line};
 pub use one_leaf::one_leaf_log;
-pub use print::print_log;
+pub use print::{print_log, put_lines, put_named};
 pub use read::read_log;
 pub use refusal::LineRefusal;
 pub use refusal_text::put_log_refusal;

@@ -42,7 +42,8 @@ fn put_line(
     Ok(())
 }
 
-fn put_lines(
+/// Appends the texts of lines of a log of these terms.
+pub fn put_lines(
     out: &mut Vec<u8>,
     problem: &Problem,
     terms: Terms,
@@ -154,8 +155,9 @@ fn put_opening(out: &mut Vec<u8>, problem: &Problem, opening: Opening) -> Result
     }
 }
 
+/// Appends the line of a header that names rules.
 #[tactic(auto, using(crate::proofs::PrintedTexts::named_text))]
-fn put_named(out: &mut Vec<u8>, named: &[u32]) -> Result<(), AllocError>
+pub fn put_named(out: &mut Vec<u8>, named: &[u32]) -> Result<(), AllocError>
     ensures { OnOk result (out.new.items ≡ out.old.items ++ rules_text named.now) }
 {
     out.extend_from_slice(b"rules")?;

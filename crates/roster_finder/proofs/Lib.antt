@@ -1,5 +1,6 @@
 pub mod AutomatonSteps
 pub mod ClosedWalks
+pub mod GivenCells
 pub mod Places
 pub mod QuotaSteps
 pub mod UsedSteps

@@ -1,7 +1,7 @@
 -- Places in tables that are laid out row by row.
-use Rattle.std.proofs.Common.{◌≡◌, ℕ, ◌+◌, ◌*◌, ◌/◌, ◌<◌, ◌≤◌, sym, subst}
+use Rattle.std.proofs.Common.{◌≡◌, ℕ, ◌+◌, ◌*◌, ◌/◌, ◌<◌, ◌≤◌, sym, subst, ◌∙◌}
 use Rattle.std.proofs.lemmas.Nat.{mul-add-lt}
-use Rattle.std.proofs.Math.Nat.{mul-pos, mul-le-mul_left, div-le_self}
+use Rattle.std.proofs.Math.Nat.{mul-pos, mul_comm, mul-le-mul_left, div-le_self}
 
 -- a row and a column have a place in the table
 pub place_within : (row columns column rows n : ℕ) → n ≡ columns * rows → row < rows → column < columns → row * columns + column < n
@@ -16,3 +16,8 @@ days_within days weeks most few = mul-le-mul_left days few
 
 pub quotient_within : (n m : ℕ) → n / m ≤ n
 quotient_within n m = div-le_self n m
+
+-- a day of a week is one of all weeks
+pub day_of_week : (week days weekday weeks n : ℕ) → n ≡ weeks * days → week < weeks → weekday < days → week * days + weekday < n
+day_of_week week days weekday weeks n whole within inside =
+    subst (λ (m : ℕ). week * days + weekday < m) (sym (whole ∙ mul_comm weeks days)) (mul-add-lt week days weekday weeks within inside)

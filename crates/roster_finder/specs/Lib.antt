@@ -1,6 +1,7 @@
 pub mod AutomatonSteps
 pub mod ByStep
 pub mod Cycles
+pub mod DayDomains
 pub mod Found
 pub mod Mixtures
 pub mod Moves

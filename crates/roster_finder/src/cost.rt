@@ -16,12 +16,3 @@ pub(crate) fn minus(cost: i64, other: i64) -> i64 {
 pub(crate) fn times(cost: i64, factor: i64) -> i64 {
     cost.saturating_mul(factor)
 }
-
-/// The sum of all.
-pub(crate) fn sum_of(costs: &[i64]) -> i64 {
-    let mut sum = 0;
-    for cost in costs {
-        sum = plus(sum, *cost);
-    }
-    sum
-}

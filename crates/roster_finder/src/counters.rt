@@ -1,10 +1,14 @@
 // Counters that should stay within ranges: of each symbol on each weekday, and of free weekends.
-ghost use Rattle.std.specs.Prelude.{◌≡◌, ◌<◌, IfOk};
+ghost use Rattle.std.specs.Prelude.{◌≡◌, ◌<◌, IfOk, IfSome};
 
-use crate::cost::{minus, plus};
+use crate::cost::{minus, plus, times};
 use crate::demand::{Demand, Range};
+use crate::random::Random;
 use crate::table::Table;
 use std::alloc::{AllocError, Global};
+
+/// Lots are drawn below this.
+const LOTS: i64 = 1 << 30;
 
 /// A count, the range in which it should lie, and what it weighs to be off by one.
 #[derive(Clone, Copy)]
@@ -37,6 +41,11 @@ impl Counter {
         let under = minus(self.range.least, self.count);
         let over = minus(self.count, self.range.greatest);
         under.max(over).max(0)
+    }
+
+    // What that weighs.
+    fn cost(self) -> i64 {
+        times(self.deviation(), self.weight)
     }
 
     // What one more costs: the weight where there are enough, and this with a minus where some are lacking.
@@ -122,6 +131,37 @@ impl Counters {
         self.cells.at(weekday, symbol).price()
     }
 
+    /// Whether there are too few days of a symbol on a weekday.
+    pub fn lacks(&self, symbol: usize, weekday: usize) -> bool
+        requires weekday { weekday < self.now.cells.rows }
+        requires symbol { symbol < self.now.cells.columns }
+    {
+        let counter = self.cells.at(weekday, symbol);
+        counter.count < counter.range.least
+    }
+
+    /// A weekday and a symbol, drawn from those of which there are too few or too many days. None where there are none.
+    /// Costs a look at each counter.
+    pub fn drawn_off(&self, random: &mut Random) -> Option<(usize, usize)>
+        ensures { IfSome result (λ place. (place.0 < self.now.cells.rows) × (place.1 < self.now.cells.columns)) }
+    {
+        let mut drawn: Option<(usize, usize)> = None;
+        let mut most: i64 = -1;
+        for weekday in 0..self.cells.rows {
+            for symbol in 0..self.cells.columns {
+                if self.cells.at(weekday, symbol).deviation() == 0 {
+                    continue;
+                }
+                let lot = random.cost_below(LOTS);
+                if lot > most {
+                    most = lot;
+                    drawn = Some((weekday, symbol));
+                }
+            }
+        }
+        drawn
+    }
+
     /// What one more free weekend costs.
     pub fn weekend_price(&self) -> i64 {
         self.weekends.price()
@@ -132,6 +172,15 @@ impl Counters {
         let mut sum = self.weekends.deviation();
         for counter in self.cells.entries() {
             sum = plus(sum, counter.deviation());
+        }
+        sum
+    }
+
+    /// What all counters weigh that are off.
+    pub fn cost(&self) -> i64 {
+        let mut sum = self.weekends.cost();
+        for counter in self.cells.entries() {
+            sum = plus(sum, counter.cost());
         }
         sum
     }

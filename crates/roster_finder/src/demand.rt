@@ -44,7 +44,9 @@ pub(crate) struct Demand {
 
 impl Demand {
     pub fn of(alloc: Global, problem: &Problem, free: u32) -> Result<Demand, AllocError>
-        ensures { IfOk result (λ d. d.symbols ≡ shift_count problem.now + 1) }
+        ensures symbols { IfOk result (λ d. d.symbols ≡ shift_count problem.now + 1) }
+        ensures days { IfOk result (λ d. d.days ≡ problem.now.days) }
+        ensures weeks { IfOk result (λ d. d.weeks ≡ problem.now.weeks) }
     {
         problem.prove_limits();
         let days = problem.days() as usize;

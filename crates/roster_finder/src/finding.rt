@@ -1,23 +1,29 @@
 // The search for a roster.
-ghost use Rattle.std.specs.Prelude.{◌≡◌, ◌<◌, ◌≤◌, length, IfOk, IfSome, IsTrue};
+ghost use Rattle.std.specs.Prelude.{◌≡◌, ◌*◌, ◌<◌, ◌≤◌, length, All, IfOk, IfSome, IsTrue};
 ghost use Rattle.rwsp_terms.specs.Roster.{IsRoster};
 ghost use Rattle.refutation_terms.specs.FreeWeekends.{free_weekends};
-ghost use Rattle.roster_finder.specs.Found.{IsRosterWith};
-ghost use Rattle.roster_finder.specs.Moves.{IsMoverOf, IsWindowOf};
+ghost use Rattle.roster_finder.specs.Found.{IsRosterHolding, IsRosterWith};
+ghost use Rattle.given_cells.specs.GivenCells.{AreGivenIn, HoldsCells};
+ghost use Rattle.roster_finder.specs.DayDomains.{AreDomainsFor, AreDomainsOf};
+ghost use Rattle.roster_finder.specs.Moves.{IsMoverOf};
 ghost use Rattle.roster_finder.specs.Starters.{IsStarterOf};
 ghost use Rattle.roster_finder.specs.ByStep.{IsByStep};
 ghost use Rattle.roster_finder.specs.declared.finding.TheConstants.{PATIENCE};
 ghost use Rattle.roster_finder.specs.Walks.{HaveOneShape, IsWalkOf};
 
 use crate::counters::Change;
+use crate::day_domains::DayDomains;
 use crate::demand::Demand;
-use crate::draft::{Draft, Window};
+use crate::draft::Draft;
+use crate::given_narrowing::narrow;
 use crate::random::Random;
+use crate::rewriting::drawn_rewriting;
 use crate::setting::Setting;
 use crate::shares::Shares;
 use crate::start::{Lead, Starter};
 use crate::steady_layer::SteadyLayer;
-use crate::window::{LONGEST_WINDOW, Mover};
+use crate::window::Mover;
+use given_cells::{GivenCell, GivenCells};
 use roster_checker::{first_broken, free_weekends};
 use rwsp_model::{Problem, Roster};
 use rwsp_terms::Symbol;
@@ -76,6 +82,7 @@ pub enum Patience {
 #[derive(Drop)]
 struct Search<'a> {
     setting: Setting<'a>,
+    domains: &'a DayDomains,
     shares: Shares,
     random: Random,
     draft: Draft,
@@ -89,31 +96,44 @@ struct Search<'a> {
     ghost nodes: { 0 < setting.layer.now.nodes },
     ghost steps: { 0 < length setting.layer.now.steps.items },
     ghost days: { draft.walk.days ≡ setting.demand.now.days },
+    ghost cells: { draft.walk.cells ≡ setting.demand.now.weeks * setting.demand.now.days },
     ghost draft_walk: { IsWalkOf setting.layer.now draft.walk },
     ghost other_walk: { IsWalkOf setting.layer.now other.walk },
     ghost other_shape: { HaveOneShape other.walk draft.walk },
     ghost starter_room: { IsStarterOf setting.layer.now draft.walk starter },
     ghost mover_room: { IsMoverOf setting.layer.now mover },
     ghost uses: { IsByStep setting shares.uses },
+    ghost domains_fit: { AreDomainsFor draft.walk domains.now },
     ghost few_moves: { since < PATIENCE },
 }
 
 impl<'a> Search<'a> {
-    // A search without a word yet. None where there are no shares.
-    fn new(setting: Setting<'a>) -> Result<Option<Search<'a>>, AllocError> {
+    // A search without a word yet. None where no walk can begin, or there are no shares.
+    fn new(setting: Setting<'a>, domains: &'a DayDomains) -> Result<Option<Search<'a>>, AllocError>
+        requires { AreDomainsOf setting domains.now }
+    {
         if setting.layer.nodes == 0 || setting.layer.step_count() == 0 {
+            return Ok(None);
+        }
+        if !domains.has_beginning() {
             return Ok(None);
         }
         let mut random = Random::new();
         let Some(shares) = Shares::of(setting, &mut random, 0)? else {
             return Ok(None);
         };
-        let search = Search::of(setting, shares, random)?;
+        let search = Search::of(setting, domains, shares, random)?;
         Ok(Some(search))
     }
 
     // The search that has these shares.
-    fn of(setting: Setting<'a>, shares: Shares, random: Random) -> Result<Search<'a>, AllocError>
+    fn of(
+        setting: Setting<'a>,
+        domains: &'a DayDomains,
+        shares: Shares,
+        random: Random,
+    ) -> Result<Search<'a>, AllocError>
+        requires domains { AreDomainsOf setting domains.now }
         requires nodes { 0 < setting.layer.now.nodes }
         requires steps { 0 < length setting.layer.now.steps.items }
         requires uses { IsByStep setting shares.uses }
@@ -124,6 +144,7 @@ impl<'a> Search<'a> {
         let mover = Mover::new(setting)?;
         Ok(Search {
             setting,
+            domains,
             shares,
             random,
             draft,
@@ -169,6 +190,7 @@ impl<'a> Search<'a> {
     fn started(&mut self, noise: u32) -> i64 {
         let lead = Lead {
             shares: &self.shares,
+            domains: self.domains,
             noise,
         };
         let layer = self.setting.layer;
@@ -184,38 +206,38 @@ impl<'a> Search<'a> {
 
     // Rewrites a window, and lets counters weigh more where that hasn't helped for long.
     fn rewrite(&mut self) {
-        let window = self.drawn_window();
-        let layer = self.setting.layer;
+        let Setting { layer, demand, .. } = self.setting;
+        let rewriting = drawn_rewriting(demand, self.domains, &self.draft, &mut self.random);
         self.mover
-            .rewrite(layer, &mut self.draft, &mut self.random, window);
+            .rewrite(layer, &mut self.draft, &mut self.random, rewriting);
         let deviation = self.draft.counters.deviation();
         if deviation < self.least {
             self.least = deviation;
             self.since = 0;
             return;
         }
-        self.since += 1;
-        if self.since == PATIENCE {
-            self.since = 0;
-            self.draft.change_counters(Change::WeighMore);
+        if self.since + 1 < self.patience() {
+            self.since += 1;
+            return;
         }
+        self.since = 0;
+        self.draft.change_counters(Change::WeighMore);
     }
 
-    // A window of a week at most, anywhere.
-    fn drawn_window(&mut self) -> Window
-        ensures { IsWindowOf self.new.draft.walk result }
+    // After so many moves without a new best the counters that are off weigh more: the fewer days are open, the sooner.
+    fn patience(&self) -> usize
+        ensures { result ≤ PATIENCE }
     {
         let cells = self.draft.walk.cells;
-        let longest = self.setting.demand.days.min(LONGEST_WINDOW);
-        let len = self.random.below(longest) + 1;
-        Window {
-            start: self.random.below(cells),
-            len: len.min(cells / 2),
-        }
+        let open = self.domains.open().len().min(cells);
+        (PATIENCE * open / cells).min(PATIENCE)
     }
 
-    // At most this many moves are made.
+    // At most this many moves are made. Where no day is open, one word is all that there is.
     fn most_moves(&self, patience: Patience) -> usize {
+        if self.domains.open().len() == 0 {
+            return 1;
+        }
         let most = match patience {
             Patience::Short => MOST_SHORT_MOVES,
             Patience::Long if self.shares.hang_together => MOST_MOVES,
@@ -275,6 +297,29 @@ pub(crate) fn met_roster(
         Some(_) => Ok(None),
         None => Ok(Some(roster)),
     }
+}
+
+// What was found, where it holds each given cell.
+#[tactic(auto, using(crate::proofs::GivenCells::cells_within))]
+fn holding(problem: &Problem, given: &GivenCells, found: Option<Roster>) -> Option<Roster>
+    requires given { AreGivenIn problem.now given.now }
+    requires found { IfSome found (IsRosterWith problem.now 0) }
+    ensures { IfSome result (IsRosterHolding problem.now given.now) }
+{
+    let roster = found?;
+    if holds(&roster, given.cells()) {
+        Some(roster)
+    } else {
+        None
+    }
+}
+
+// Whether the roster holds each given cell.
+fn holds(roster: &Roster, given: &[GivenCell]) -> bool
+    requires { All (λ c. c.p < length roster.now.cells) given.now }
+    ensures { IsTrue result → HoldsCells given.now roster.now.cells }
+{
+    given.iter().all(|cell| roster.at(cell.p) == cell.x)
 }
 
 // Whether the roster has `free` free weekends at least.
@@ -377,9 +422,53 @@ impl<'a> RosterFinder<'a> {
             layer: &self.layer,
             demand: &demand,
         };
-        let Some(mut search) = Search::new(setting)? else {
+        let domains = DayDomains::all(setting)?;
+        let Some(mut search) = Search::new(setting, &domains)? else {
             return Ok(None);
         };
         search.run(self.problem, free, patience)
+    }
+
+    /// A roster that meets every rule and holds each given cell, or None. None says nothing: another search may find
+    /// one. Costs at most some seconds.
+    pub fn find_given(
+        &self,
+        alloc: Global,
+        given: &GivenCells,
+        patience: Patience,
+    ) -> Result<Option<Roster>, AllocError>
+        requires { AreGivenIn self.now given.now }
+        ensures { IfOk result (λ found. IfSome found (IsRosterHolding self.now given.now)) }
+    {
+        let found = self.search_behind(alloc, given, patience)?;
+        Ok(holding(self.problem, given, found))
+    }
+
+    // What is found behind given cells.
+    fn search_behind(
+        &self,
+        alloc: Global,
+        given: &GivenCells,
+        patience: Patience,
+    ) -> Result<Option<Roster>, AllocError>
+        requires { AreGivenIn self.now given.now }
+        ensures { IfOk result (λ found. IfSome found (IsRosterWith self.now 0)) }
+    {
+        if self.problem.cells() < FEWEST_CELLS {
+            return Ok(None);
+        }
+        let demand = Demand::of(alloc, self.problem, 0)?;
+        let setting = Setting {
+            alloc,
+            layer: &self.layer,
+            demand: &demand,
+        };
+        let mut domains = DayDomains::all(setting)?;
+        domains.give(given.cells());
+        narrow(setting, &mut domains)?;
+        let Some(mut search) = Search::new(setting, &domains)? else {
+            return Ok(None);
+        };
+        search.run(self.problem, 0, patience)
     }
 }

@@ -6,9 +6,12 @@
 mod cost;
 mod counters;
 mod cuts;
+mod day_domains;
 mod demand;
 mod draft;
 mod finding;
+mod given_narrowing;
+mod given_ways;
 mod heavy_word;
 mod laws;
 #[cfg(test)]
@@ -19,6 +22,7 @@ mod numbers;
 mod prices;
 mod quotas;
 mod random;
+mod rewriting;
 mod setting;
 mod shares;
 mod start;

@@ -37,6 +37,31 @@ impl Numbers {
         Ok(Numbers { below, entries })
     }
 
+    /// An empty list.
+    pub fn none(alloc: Global, below: usize) -> Numbers
+        ensures { result.below ≡ below }
+    {
+        Numbers {
+            below,
+            entries: Vec::new(alloc),
+        }
+    }
+
+    /// Adds a number.
+    pub fn push(&mut self, number: usize) -> Result<(), AllocError>
+        requires { number < self.old.below }
+        ensures { self.new.below ≡ self.old.below }
+    {
+        self.entries.push(number)?;
+        Ok(())
+    }
+
+    pub fn len(&self) -> usize
+        ensures { result ≡ length self.now.entries.items }
+    {
+        self.entries.len()
+    }
+
     pub fn entries(&self) -> &[usize]
         ensures { result.now ≡ self.now.entries.items }
     {

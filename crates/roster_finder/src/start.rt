@@ -1,8 +1,10 @@
 // Start words: closed walks that follow the shares.
 ghost use Rattle.std.specs.Prelude.{◌≡◌, ◌+◌, ◌*◌, ◌<◌, ◌≤◌, length, IfOk, IfSome};
 
-use crate::cost::{minus, plus, sum_of, times};
+use crate::cost::{minus, plus, times};
+use crate::day_domains::DayDomains;
 use crate::draft::Draft;
+use crate::given_ways::mark_before;
 use crate::random::Random;
 use crate::setting::Setting;
 use crate::shares::{ONE_USE, Shares};
@@ -19,10 +21,11 @@ const NO_SHARE: i64 = 1_000_000;
 /// So often a first node is drawn at most.
 const DRAWS: usize = 20;
 
-/// What a start word follows: shares, and random numbers below `noise`.
+/// What a start word follows: shares, the symbols that days may have, and random numbers below `noise`.
 #[derive(Clone, Copy)]
 pub(crate) struct Lead<'a> {
     pub shares: &'a Shares,
+    pub domains: &'a DayDomains,
     pub noise: u32,
 }
 
@@ -38,6 +41,7 @@ pub(crate) struct Starter {
 
 impl Starter {
     ghost use Rattle.roster_finder.specs.Starters.{AreSharesOf, IsStarterOf};
+    ghost use Rattle.roster_finder.specs.DayDomains.{AreDomainsFor};
     ghost use Rattle.roster_finder.specs.Walks.{HaveOneShape, IsWalkOf};
 
     pub fn new(setting: Setting<'_>, draft: &Draft) -> Result<Starter, AllocError>
@@ -64,12 +68,13 @@ impl Starter {
         requires walk { IsWalkOf layer.now draft.old.walk }
         requires starter { IsStarterOf layer.now draft.old.walk self.old }
         requires shares { AreSharesOf layer.now draft.old.walk lead.shares.now }
+        requires domains { AreDomainsFor draft.old.walk lead.domains.now }
         ensures walk { HaveOneShape draft.new.walk draft.old.walk }
         ensures starter { IsStarterOf layer.now draft.new.walk self.new }
     {
         for _ in 0..DRAWS {
-            let first = drawn_node(layer, lead.shares, random);
-            self.mark_closing(layer, first);
+            let first = drawn_node(layer, lead, random);
+            self.mark_closing(layer, lead.domains, first);
             if self.closes.at(0, first) {
                 self.write(layer, lead, draft, random, first);
                 draft.count_all();
@@ -81,8 +86,10 @@ impl Starter {
 
     // Marks on each day the nodes from which the first node is reached in the end.
     // Costs a look at each step on each day.
-    fn mark_closing(&mut self, layer: &SteadyLayer, first: usize)
+    fn mark_closing(&mut self, layer: &SteadyLayer, domains: &DayDomains, first: usize)
         requires first { first < layer.now.nodes }
+        requires days { self.old.closes.rows ≡ domains.now.left.rows + 1 }
+        requires symbols { domains.now.left.columns ≡ layer.now.symbols }
         requires nodes { self.old.closes.columns ≡ layer.now.nodes }
         ensures closes { (self.new.closes.rows ≡ self.old.closes.rows)
             × (self.new.closes.columns ≡ self.old.closes.columns) }
@@ -90,10 +97,10 @@ impl Starter {
             × (self.new.taken.columns ≡ self.old.taken.columns) }
     {
         let cells = self.closes.rows - 1;
-        self.closes.fill(false);
+        self.closes.fill_row(cells, false);
         self.closes.set(cells, first, true);
         for day in (0..cells).rev() {
-            mark_day(&mut self.closes, layer, day);
+            mark_before(&mut self.closes, layer, domains, day);
         }
     }
 
@@ -110,6 +117,7 @@ impl Starter {
         requires walk { IsWalkOf layer.now draft.old.walk }
         requires starter { IsStarterOf layer.now draft.old.walk self.old }
         requires shares { AreSharesOf layer.now draft.old.walk lead.shares.now }
+        requires domains { AreDomainsFor draft.old.walk lead.domains.now }
         ensures walk { HaveOneShape draft.new.walk draft.old.walk }
         ensures starter { IsStarterOf layer.now draft.new.walk self.new }
     {
@@ -136,9 +144,10 @@ impl Starter {
         random: &mut Random,
         place: Place,
     ) -> Option<usize>
-        requires day { place.day + 1 < self.now.closes.rows }
+        requires day { (place.day + 1 < self.now.closes.rows) × (place.day < lead.domains.now.left.rows) }
         requires node { place.node < layer.now.nodes }
         requires nodes { self.now.closes.columns ≡ layer.now.nodes }
+        requires symbols { lead.domains.now.left.columns ≡ layer.now.symbols }
         requires weekday { (place.weekday < self.now.taken.rows) × (place.weekday < lead.shares.now.uses.rows) }
         requires steps { (self.now.taken.columns ≡ length layer.now.steps.items)
             × (lead.shares.now.uses.columns ≡ length layer.now.steps.items) }
@@ -147,7 +156,7 @@ impl Starter {
         let mut most = i64::MIN;
         let mut best: Option<usize> = None;
         for symbol in 0..layer.symbols {
-            if let Some(number) = self.closing_step(layer, place, symbol) {
+            if let Some(number) = self.closing_step(layer, lead.domains, place, symbol) {
                 let taken = self.taken.at(place.weekday, number);
                 let share = lead.shares.uses.at(place.weekday, number);
                 let due = plus(due_of(share, taken), random.noise(lead.noise));
@@ -160,16 +169,24 @@ impl Starter {
         best
     }
 
-    // The number of the step by a symbol, if the walk can be closed after it.
-    fn closing_step(&self, layer: &SteadyLayer, place: Place, symbol: usize) -> Option<usize>
-        requires day { place.day + 1 < self.now.closes.rows }
+    // The number of the step by a symbol, if the day may have it and the walk can be closed after it.
+    fn closing_step(
+        &self,
+        layer: &SteadyLayer,
+        domains: &DayDomains,
+        place: Place,
+        symbol: usize,
+    ) -> Option<usize>
+        requires day { (place.day + 1 < self.now.closes.rows) × (place.day < domains.now.left.rows) }
         requires node { place.node < layer.now.nodes }
         requires nodes { self.now.closes.columns ≡ layer.now.nodes }
         requires symbol { symbol < layer.now.symbols }
+        requires symbols { domains.now.left.columns ≡ layer.now.symbols }
         ensures { IfSome result (λ n. n < length layer.now.steps.items) }
     {
         let number = layer.step_number(place.node, symbol)?;
-        if self.closes.at(place.day + 1, layer.step(number).to) {
+        let is_closing = self.closes.at(place.day + 1, layer.step(number).to);
+        if is_closing && domains.may_have(place.day, symbol) {
             Some(number)
         } else {
             None
@@ -185,38 +202,68 @@ struct Place {
     node: usize,
 }
 
-// Marks on a day the nodes from which a step leads to a marked node of the next day.
-fn mark_day(closes: &mut Table<bool>, layer: &SteadyLayer, day: usize)
-    requires day { day + 1 < closes.old.rows }
-    requires nodes { closes.old.columns ≡ layer.now.nodes }
-    ensures rows { closes.new.rows ≡ closes.old.rows }
-    ensures columns { closes.new.columns ≡ closes.old.columns }
-{
-    for number in 0..layer.step_count() {
-        let step = layer.step(number);
-        if closes.at(day + 1, step.to) {
-            closes.set(day, step.from, true);
-        }
-    }
-}
-
-// A node to begin with: that of a step on the first weekday, drawn by the shares.
-fn drawn_node(layer: &SteadyLayer, shares: &Shares, random: &mut Random) -> usize
+// A node to begin with: that of a step on the first weekday, drawn by the shares, or else any where a walk may begin.
+fn drawn_node(layer: &SteadyLayer, lead: Lead<'_>, random: &mut Random) -> usize
     requires nodes { 0 < layer.now.nodes }
-    requires weekdays { 0 < shares.now.uses.rows }
-    requires steps { shares.now.uses.columns ≡ length layer.now.steps.items }
+    requires weekdays { 0 < lead.shares.now.uses.rows }
+    requires steps { lead.shares.now.uses.columns ≡ length layer.now.steps.items }
+    requires begins { length lead.domains.now.begins.items ≡ layer.now.nodes }
     ensures { result < layer.now.nodes }
 {
     // The shares of a weekday are some hundred uses at most, so that their sum is less than 2^31.
-    let mut drawn = random.cost_below(sum_of(shares.uses.row(0)));
+    let mut drawn = random.cost_below(first_shares(layer, lead));
     for number in 0..layer.step_count() {
-        let share = shares.uses.at(0, number);
+        let share = first_share(layer, lead, number);
         if drawn < share {
             return layer.step(number).from;
         }
         drawn = minus(drawn, share);
     }
-    random.below(layer.nodes)
+    let from = random.below(layer.nodes);
+    let later = beginning_within(lead.domains, from, layer.nodes);
+    later
+        .or(beginning_within(lead.domains, 0, from))
+        .unwrap_or(from)
+}
+
+// The share of a step on the first weekday, if a walk may begin with it.
+fn first_share(layer: &SteadyLayer, lead: Lead<'_>, number: usize) -> i64
+    requires weekdays { 0 < lead.shares.now.uses.rows }
+    requires number { number < length layer.now.steps.items }
+    requires steps { lead.shares.now.uses.columns ≡ length layer.now.steps.items }
+    requires begins { length lead.domains.now.begins.items ≡ layer.now.nodes }
+{
+    if lead.domains.may_begin(layer.step(number).from) {
+        lead.shares.uses.at(0, number)
+    } else {
+        0
+    }
+}
+
+// The sum of these shares.
+fn first_shares(layer: &SteadyLayer, lead: Lead<'_>) -> i64
+    requires weekdays { 0 < lead.shares.now.uses.rows }
+    requires steps { lead.shares.now.uses.columns ≡ length layer.now.steps.items }
+    requires begins { length lead.domains.now.begins.items ≡ layer.now.nodes }
+{
+    let mut sum = 0;
+    for number in 0..layer.step_count() {
+        sum = plus(sum, first_share(layer, lead, number));
+    }
+    sum
+}
+
+// The first node within this range at which a walk may begin.
+fn beginning_within(domains: &DayDomains, from: usize, end: usize) -> Option<usize>
+    requires { end ≤ length domains.now.begins.items }
+    ensures { IfSome result (λ n. n < end) }
+{
+    for node in from..end {
+        if domains.may_begin(node) {
+            return Some(node);
+        }
+    }
+    None
 }
 
 // What a step counts by its share and by how often it was taken.

@@ -117,7 +117,7 @@ pub record IsFirst (line rest bytes : List ℕ) : Type 0 where
 no_ends : (bytes : List ℕ) → HasNoFeed bytes → All (λ b. (b == 10) ≡ false) bytes
 no_ends bytes h = All-weaker (λ b. b ≢ 10) (λ b. (b == 10) ≡ false) (λ b ne. ne_eqb b 10 ne) bytes h
 
-left_is : (line rest bytes : List ℕ) (n : ℕ) → IsFirst line rest bytes → weeks_left n bytes ≡ cond (has_some (words_in line)) ((n, words_in line) ∷ weeks_left (n + 1) rest) (weeks_left (n + 1) rest)
+pub left_is : (line rest bytes : List ℕ) (n : ℕ) → IsFirst line rest bytes → weeks_left n bytes ≡ cond (has_some (words_in line)) ((n, words_in line) ∷ weeks_left (n + 1) rest) (weeks_left (n + 1) rest)
 left_is line rest bytes n l = ap (weeks_left n) l.whole ∙ by l.ends
   where
     by : IsNextLine line rest → weeks_left n (line ++ rest) ≡ cond (has_some (words_in line)) ((n, words_in line) ∷ weeks_left (n + 1) rest) (weeks_left (n + 1) rest)
@@ -163,7 +163,7 @@ read P bytes left rest week cells new weeks r e accepted names =
       count = one_more ∙ ap (λ w. weeks + length w) (sym e) ∙ r.count;
     }
 
-none_of : (words : List (List ℕ)) → has_some words ≡ false → words ≡ []
+pub none_of : (words : List (List ℕ)) → has_some words ≡ false → words ≡ []
 none_of [] h = refl
 none_of (word ∷ words) h = absurd (cc)
 
@@ -181,7 +181,7 @@ begins P bytes left cells none all =
       few_lines = omega arith;
     })
 
-shorter : (line rest bytes : List ℕ) → IsFirst line rest bytes → length rest < length bytes
+pub shorter : (line rest bytes : List ℕ) → IsFirst line rest bytes → length rest < length bytes
 shorter [] rest bytes l = absurd (l.some refl)
 shorter (b ∷ line) rest bytes l = let long : length bytes ≡ length ((b ∷ line) ++ rest) = ap (λ t. length t) l.whole in omega (arith, long, length-append (b ∷ line) rest)
 

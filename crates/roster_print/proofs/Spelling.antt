@@ -17,7 +17,7 @@ use Rattle.roster_print.specs.Laws.{TextSpellsOneRoster, RefusalsDecideSpelling,
 use Rattle.roster_print.specs.declared.refusal.RosterRefusal.{RosterRefusal}
 use Rattle.roster_print.specs.declared.refusal.RosterRefusal.TheVariants.{Unknown, Width, Weeks}
 
-some_same : {X : Type 0} (s t : List X) → map Some s ≡ map Some t → s ≡ t
+pub some_same : {X : Type 0} (s t : List X) → map Some s ≡ map Some t → s ≡ t
 some_same [] [] e = refl
 some_same [] (y ∷ t) e = absurd (cc)
 some_same (x ∷ s) [] e = absurd (cc)
@@ -39,7 +39,7 @@ named_are_symbols P names [] e = tt
 named_are_symbols P [] (x ∷ s) e = absurd (cc)
 named_are_symbols P (name ∷ names) (x ∷ s) e = (named_is_symbol P name x (cc), named_are_symbols P names s (cc))
 
-length_joined : {X : Type 0} (d : ℕ) (weeks : List (List X)) → All (λ week. length week ≡ d) weeks → length (flat_map (λ week. week) weeks) ≡ length weeks * d
+pub length_joined : {X : Type 0} (d : ℕ) (weeks : List (List X)) → All (λ week. length week ≡ d) weeks → length (flat_map (λ week. week) weeks) ≡ length weeks * d
 length_joined d [] h = omega arith
 length_joined d (week ∷ weeks) h =
     let here : length week ≡ d = All-head (λ w. length w ≡ d) week weeks h in
@@ -67,20 +67,20 @@ unnumbered n (line ∷ lines) = unnumbered_by n line lines (has_some line) (unnu
 
 -- words that all have a symbol, and their symbols
 
-abbrev AllNamed : {X Y : Type 0} → (X → Option Y) → List X → Type 0
+abbrev pub AllNamed : {X Y : Type 0} → (X → Option Y) → List X → Type 0
 AllNamed {X} {Y} f names = (s : List Y) × (map f names ≡ map Some s)
 
 named_first : {X Y : Type 0} (f : X → Option Y) (name : X) (names : List X) → AllNamed f names → (o : Option Y) → f name ≡ o → is_none o ≡ false → AllNamed f (name ∷ names)
 named_first f name names all None e h = absurd (cc)
 named_first f name names all (Some x) e h = (x ∷ all.0, let one : f name ≡ Some x = e in let rest : map f names ≡ map Some all.0 = all.1 in cc)
 
-all_named : {X Y : Type 0} (f : X → Option Y) (names : List X) → list_any (λ name. is_none (f name)) names ≡ false → AllNamed f names
+pub all_named : {X Y : Type 0} (f : X → Option Y) (names : List X) → list_any (λ name. is_none (f name)) names ≡ false → AllNamed f names
 all_named f [] h = ([], refl)
 all_named f (name ∷ names) h =
     let parts = or_parts (is_none (f name)) (list_any (λ name. is_none (f name)) names) h in
     named_first f name names (all_named f names parts.1) (f name) refl parts.0
 
-none_unknown : {X Y : Type 0} (f : X → Option Y) (names : List X) (s : List Y) → map f names ≡ map Some s → list_any (λ name. is_none (f name)) names ≡ false
+pub none_unknown : {X Y : Type 0} (f : X → Option Y) (names : List X) (s : List Y) → map f names ≡ map Some s → list_any (λ name. is_none (f name)) names ≡ false
 none_unknown f [] s e = refl
 none_unknown f (name ∷ names) [] e = absurd (cc)
 none_unknown f (name ∷ names) (x ∷ s) e =
@@ -107,11 +107,11 @@ week_unrefused P n week h =
 
 -- when no week is refused
 
-both_none : {X : Type 0} (a b : Option X) → option_or a b ≡ None → (a ≡ None) × (b ≡ None)
+pub both_none : {X : Type 0} (a b : Option X) → option_or a b ≡ None → (a ≡ None) × (b ≡ None)
 both_none None b h = (refl, h)
 both_none (Some x) b h = absurd (cc)
 
-none_of_both : {X : Type 0} (a b : Option X) → a ≡ None → b ≡ None → option_or a b ≡ None
+pub none_of_both : {X : Type 0} (a b : Option X) → a ≡ None → b ≡ None → option_or a b ≡ None
 none_of_both a b h k = ap (λ o. option_or o b) h ∙ k
 
 pub record WeeksNamed (P : Instance) (weeks : List (List (List ℕ))) : Type 0 where
@@ -143,12 +143,12 @@ weeks_unrefused P (week ∷ weeks) h d =
     (week_unrefused P week.0 week.1 (parts.0, here))
     (weeks_unrefused P weeks parts.1 (All-tail (λ w. length w ≡ P.days) week.1 (map (λ week. week.1) weeks) d))
 
-count_by_test : (P : Instance) (n : ℕ) (b : Bool) → (n == P.weeks) ≡ b → cond b None (Some (Weeks n)) ≡ None → n ≡ P.weeks
+pub count_by_test : (P : Instance) (n : ℕ) (b : Bool) → (n == P.weeks) ≡ b → cond b None (Some (Weeks n)) ≡ None → n ≡ P.weeks
 count_by_test P n true e h = eqb-true n P.weeks e
 count_by_test P n false e h = absurd (cc)
 
 -- the weeks of a text, by its numbered weeks
-weeks_are : (bytes : List ℕ) → map (λ week. week.1) (numbered_weeks bytes) ≡ weeks_of bytes
+pub weeks_are : (bytes : List ℕ) → map (λ week. week.1) (numbered_weeks bytes) ≡ weeks_of bytes
 weeks_are bytes = unnumbered 1 (map words_of_line (lines_of bytes))
 
 spelled_by : (P : Instance) (bytes : List ℕ) → WeeksNamed P (weeks_of bytes) → length (weeks_of bytes) ≡ P.weeks → (s : List Symbol) × SpellsRoster P bytes s

@@ -7,38 +7,41 @@ use Rattle.refutation_log.specs.declared.found.Found.TheVariants.{Roster, NoRost
 use Rattle.roster_search.specs.declared.aim.Aim.{Aim}
 use Rattle.roster_search.specs.declared.progress.Progress.{Progress}
 use Rattle.roster_search.specs.Founds.{IsForced, AreForced, FewHoldsAtNoSplit, IsFound, HasSpentBudget}
-use Rattle.roster_search.specs.Written.{IsProgress, IsUnderWay, IsEnded}
+use Rattle.roster_search.specs.Written.{IsProgress, IsUnderWay, IsLater, IsEnded}
 use Rattle.roster_search.proofs.Volume.{spent_budgets_small}
 use Rattle.roster_search.proofs.Forced.{Leaves, Spent, NotFew, none_said, rest_said}
 
 -- before the first line
-pub begins_under_way : (P : Instance) (leaves : Leaves) (spent : Spent) (s : Progress) → IsProgress P s → s.lines.items ≡ [] → IsUnderWay P leaves spent s
-begins_under_way P leaves spent s written none = record {
-  written = written;
-  forced = none_said (IsForced P leaves spent) P s.aim.opening s.lines.items none;
-  no_few = none_said (NotFew P s.aim.goal) P s.aim.opening s.lines.items none;
-  few = omega (arith, ap length none);
-}
+pub begins_under_way : (P : Instance) (s : Progress) → IsProgress P s → s.lines.items ≡ [] → IsUnderWay P s
+begins_under_way P s written none = record { written = written; few = omega (arith, ap length none) }
 
-pub found_by : (P : Instance) (leaves : Leaves) (spent : Spent) (s : Progress) (found : Found) → IsUnderWay P leaves spent s → IsEnded P s.aim s.lines.items found → IsFound P s.aim.opening s.aim.goal s.aim.budget leaves spent found
-found_by P leaves spent s (Roster r) u e = absurd e
-found_by P leaves spent s (NoRoster g) u e = (
-  e.0,
-  e.1,
-  record {
-    is_log = e.2;
-    splits = subst (AreForced P leaves spent s.aim.opening) (sym e.3) u.forced;
-    no_few = subst (FewHoldsAtNoSplit P s.aim.goal s.aim.opening) (sym e.3) u.no_few;
-  },
-)
-found_by P leaves spent s (Undecided g) u e = (
-  e.0,
-  record {
-    is_log = e.1;
-    splits = subst (AreForced P leaves spent s.aim.opening) (sym e.2.1) (rest_said (IsForced P leaves spent) P s.aim.opening s.lines.items e.2.0 u.forced);
-    no_few = subst (FewHoldsAtNoSplit P s.aim.goal s.aim.opening) (sym e.2.1) (rest_said (NotFew P s.aim.goal) P s.aim.opening s.lines.items e.2.0 u.no_few);
-  },
-)
+-- a search that began with no line
+abbrev pub IsBegun : Instance → Leaves → Spent → Progress → Progress → Type 0
+IsBegun P leaves spent a s = (a.lines.items ≡ []) × IsLater P leaves spent a s
+
+pub found_by : (P : Instance) (leaves : Leaves) (spent : Spent) (a s : Progress) (found : Found) → IsBegun P leaves spent a s → IsEnded P s.aim s.lines.items found → IsFound P s.aim.opening s.aim.goal s.aim.budget leaves spent found
+found_by P leaves spent a s found begun ended =
+    by_kind found (begun.1.forced (none_said (IsForced P leaves spent) P a.aim.opening a.lines.items begun.0)) (begun.1.no_few (none_said (NotFew P a.aim.goal) P a.aim.opening a.lines.items begun.0)) ended
+  where
+    by_kind : (found : Found) → AreForced P leaves spent s.aim.opening s.lines.items → FewHoldsAtNoSplit P s.aim.goal s.aim.opening s.lines.items → IsEnded P s.aim s.lines.items found → IsFound P s.aim.opening s.aim.goal s.aim.budget leaves spent found
+    by_kind (Roster r) forced no_few e = absurd e
+    by_kind (NoRoster g) forced no_few e = (
+      e.0,
+      e.1,
+      record {
+        is_log = e.2;
+        splits = subst (AreForced P leaves spent s.aim.opening) (sym e.3) forced;
+        no_few = subst (FewHoldsAtNoSplit P s.aim.goal s.aim.opening) (sym e.3) no_few;
+      },
+    )
+    by_kind (Undecided g) forced no_few e = (
+      e.0,
+      record {
+        is_log = e.1;
+        splits = subst (AreForced P leaves spent s.aim.opening) (sym e.2.1) (rest_said (IsForced P leaves spent) P s.aim.opening s.lines.items e.2.0 forced);
+        no_few = subst (FewHoldsAtNoSplit P s.aim.goal s.aim.opening) (sym e.2.1) (rest_said (NotFew P s.aim.goal) P s.aim.opening s.lines.items e.2.0 no_few);
+      },
+    )
 
 -- a search is undecided under small budgets alone
 pub undecided_small : (P : Instance) (aim : Aim) (lines : List Line) (found : Found) → IsEnded P aim lines found → HasSpentBudget found → aim.budget + 1 < 2 * (shift_count P + 1) ^ cells P

@@ -1,5 +1,5 @@
 -- Splits as the propagator says, with more lines and with an equal propagator.
-use Rattle.std.proofs.Common.{◌≡◌, ℕ, ◌+◌, ◌<◌, ◌≤◌, List, [], ◌∷◌, ◌++◌, length, Option, Some, refl, ap, sym, ◌∙◌, subst, arith, length-append, inl, inr}
+use Rattle.std.proofs.Common.{◌≡◌, ℕ, ◌<◌, ◌≤◌, List, [], ◌∷◌, ◌++◌, length, Option, Some, refl, ap, sym, ◌∙◌, subst, arith, length-append, inl, inr}
 use Rattle.std.specs.Prelude.{replicate, slice_get}
 use Rattle.std.proofs.lemmas.List.{length_push}
 use Rattle.rwsp_terms.specs.declared.data.Symbol.{Symbol}
@@ -15,7 +15,7 @@ use Rattle.roster_search.specs.declared.aim.Aim.{Aim}
 use Rattle.roster_search.specs.declared.progress.Progress.{Progress}
 use Rattle.roster_search.specs.Founds.{IsForced, AtEachSplit}
 use Rattle.roster_search.specs.Guides.{IsOpen}
-use Rattle.roster_search.specs.Written.{IsProgress, IsSplitWithLeaf, IsSplitOff, IsUnderWay}
+use Rattle.roster_search.specs.Written.{IsProgress, IsSplitWithLeaf, IsSplitOff, IsUnderWay, IsOneStep, IsNextStep}
 use Rattle.roster_search.proofs.Growing.{EachAt, one_more, split_more, got_in, domains_before}
 use Rattle.roster_search.proofs.Logs.{open_rest}
 use Rattle.roster_search.proofs.Reaching.{still_not_few}
@@ -88,44 +88,60 @@ same_said Q P a b ls more same lines h =
     subst (λ (m : Aim). AtEachSplit (Q m) P m.opening more) (sym same) (subst (AtEachSplit (Q a) P a.opening) (sym lines) h)
 
 -- behind a leaf
-pub leaf_under_way : (P : Instance) (leaves : Leaves) (spent : Spent) (a b : Progress) (line : Line) → IsUnderWay P leaves spent a → IsProgress P b → IsLeaf line → b.aim ≡ a.aim → b.lines.items ≡ a.lines.items ++ line ∷ [] → length a.lines.items < a.aim.budget → IsUnderWay P leaves spent b
-leaf_under_way P leaves spent a b line u w leaf same lines room =
+pub leaf_under_way : (P : Instance) (a b : Progress) (line : Line) → IsProgress P b → b.aim ≡ a.aim → b.lines.items ≡ a.lines.items ++ line ∷ [] → length a.lines.items < a.aim.budget → IsUnderWay P b
+leaf_under_way P a b line w same lines room =
     let few : length b.lines.items ≤ a.aim.budget = omega (arith, ap length lines ∙ length_push a.lines.items line, room) in
-    record {
-      written = w;
-      forced = same_said (λ m. IsForced P leaves spent) P a.aim b.aim (a.lines.items ++ line ∷ []) b.lines.items same lines (leaf_said (IsForced P leaves spent) P a.aim.opening a.lines.items line leaf u.forced);
-      no_few = same_said (λ m. NotFew P m.goal) P a.aim b.aim (a.lines.items ++ line ∷ []) b.lines.items same lines (leaf_said (NotFew P a.aim.goal) P a.aim.opening a.lines.items line leaf u.no_few);
-      few = subst (λ (m : Aim). length b.lines.items ≤ m.budget) (sym same) few;
-    }
+    record { written = w; few = subst (λ (m : Aim). length b.lines.items ≤ m.budget) (sym same) few }
+
+pub leaf_next : (P : Instance) (leaves : Leaves) (spent : Spent) (a b : Progress) (line : Line) → IsLeaf line → b.aim ≡ a.aim → b.lines.items ≡ a.lines.items ++ line ∷ [] → IsNextStep P leaves spent a b
+leaf_next P leaves spent a b line leaf same lines = record {
+  later = record {
+    same_aim = same;
+    forced = λ h. same_said (λ m. IsForced P leaves spent) P a.aim b.aim (a.lines.items ++ line ∷ []) b.lines.items same lines (leaf_said (IsForced P leaves spent) P a.aim.opening a.lines.items line leaf h);
+    no_few = λ h. same_said (λ m. NotFew P m.goal) P a.aim b.aim (a.lines.items ++ line ∷ []) b.lines.items same lines (leaf_said (NotFew P a.aim.goal) P a.aim.opening a.lines.items line leaf h);
+  };
+  added = line ∷ [];
+  one_step = inl (line, leaf, refl);
+  lines = lines;
+}
 
 -- behind a split of open domains
-pub split_under_way : (P : Instance) (leaves : Leaves) (spent : Spent) (a b : Progress) (p : ℕ) (x : Symbol) → 0 < cells P → IsUnderWay P leaves spent a → IsSplitOff P a b p x → length b.lines.items ≤ a.aim.budget → IsStore a.walk.store → AreSame P (has_domain a.walk.store) (domains_at P a.aim.opening a.lines.items (length a.lines.items)) → IsOpen P a.aim.goal (leaves a.walk.store) a.walk.store → ((q : ℕ) (z : Symbol) → spent a.walk.store q z → spent a.walk.store p x) → IsUnderWay P leaves spent b
-split_under_way P leaves spent a b p x some u off few store same unclosed forced =
+pub split_under_way : (P : Instance) (a b : Progress) (p : ℕ) (x : Symbol) → IsSplitOff P a b p x → length b.lines.items ≤ a.aim.budget → IsUnderWay P b
+split_under_way P a b p x off few = record { written = off.written; few = subst (λ (m : Aim). length b.lines.items ≤ m.budget) (sym off.same_aim) few }
+
+pub split_next : (P : Instance) (leaves : Leaves) (spent : Spent) (a b : Progress) (p : ℕ) (x : Symbol) → 0 < cells P → IsProgress P a → IsSplitOff P a b p x → IsStore a.walk.store → AreSame P (has_domain a.walk.store) (domains_at P a.aim.opening a.lines.items (length a.lines.items)) → IsOpen P a.aim.goal (leaves a.walk.store) a.walk.store → ((q : ℕ) (z : Symbol) → spent a.walk.store q z → spent a.walk.store p x) → IsNextStep P leaves spent a b
+split_next P leaves spent a b p x some written off store same unclosed forced =
     let here = domains_at P a.aim.opening a.lines.items (length a.lines.items) in
     let forced_here : IsForced P leaves spent (domains_at P a.aim.opening a.lines.items (length a.lines.items)) p x = record {
       store = a.walk.store;
       is_store = store;
-      belongs = u.written.state.belongs;
+      belongs = written.state.belongs;
       agrees = same;
       not_closed = unclosed.0;
       forced = forced;
     } in
-    let not_few = still_not_few P a.aim.opening a.aim.goal (has_domain a.walk.store) here some u.written.goal_fits same unclosed.1 in
+    let not_few = still_not_few P a.aim.opening a.aim.goal (has_domain a.walk.store) here some written.goal_fits same unclosed.1 in
     record {
-      written = off.written;
-      forced = same_said (λ m. IsForced P leaves spent) P a.aim b.aim (a.lines.items ++ off.added) b.lines.items off.same_aim off.lines
-          (split_said (IsForced P leaves spent) P a.aim.opening a.lines.items off.added p x off.split u.forced forced_here);
-      no_few = same_said (λ m. NotFew P m.goal) P a.aim b.aim (a.lines.items ++ off.added) b.lines.items off.same_aim off.lines
-          (split_said (NotFew P a.aim.goal) P a.aim.opening a.lines.items off.added p x off.split u.no_few not_few);
-      few = subst (λ (m : Aim). length b.lines.items ≤ m.budget) (sym off.same_aim) few;
+      later = record {
+        same_aim = off.same_aim;
+        forced = λ h. same_said (λ m. IsForced P leaves spent) P a.aim b.aim (a.lines.items ++ off.added) b.lines.items off.same_aim off.lines
+            (split_said (IsForced P leaves spent) P a.aim.opening a.lines.items off.added p x off.split h forced_here);
+        no_few = λ h. same_said (λ m. NotFew P m.goal) P a.aim b.aim (a.lines.items ++ off.added) b.lines.items off.same_aim off.lines
+            (split_said (NotFew P a.aim.goal) P a.aim.opening a.lines.items off.added p x off.split h not_few);
+      };
+      added = off.added;
+      one_step = inr (p, x, off.split);
+      lines = off.lines;
     }
 
--- a split is a line more
-pub split_off_longer : (P : Instance) (a b : Progress) (p : ℕ) (x : Symbol) → IsSplitOff P a b p x → length a.lines.items < length b.lines.items
-split_off_longer P a b p x off =
-    let long : length b.lines.items ≡ length a.lines.items + length off.added = ap length off.lines ∙ length-append a.lines.items off.added in
-    let some : 0 < length off.added = elim off.split as (λ (h : IsSplitWithLeaf p x off.added). 0 < length off.added) [
-      | inl e ↦ subst (λ (ls : List Line). 0 < length ls) (sym e) (omega arith)
-      | inr h ↦ subst (λ (ls : List Line). 0 < length ls) (sym h.2) (omega arith)
-    ] in
-    omega (arith, long, some)
+-- a step has a line at least
+some_added : (added : List Line) → IsOneStep added → 0 < length added
+some_added added (inl h) = subst (λ (ls : List Line). 0 < length ls) (sym h.2) (omega arith)
+some_added added (inr h) = elim h.2 as (λ (o : IsSplitWithLeaf h.0 h.1 added). 0 < length added) [
+  | inl e ↦ subst (λ (ls : List Line). 0 < length ls) (sym e) (omega arith)
+  | inr o ↦ subst (λ (ls : List Line). 0 < length ls) (sym o.2) (omega arith)
+]
+
+pub next_is_longer : (P : Instance) (leaves : Leaves) (spent : Spent) (a b : Progress) → IsNextStep P leaves spent a b → length a.lines.items < length b.lines.items
+next_is_longer P leaves spent a b h =
+    omega (arith, ap length h.lines ∙ length-append a.lines.items h.added, some_added h.added h.one_step)

@@ -8,3 +8,5 @@ pub mod OneWord
 pub mod Finding
 pub mod Volume
 pub mod Reasons
+pub mod Behind
+pub mod BehindCells

@@ -25,7 +25,7 @@ use Rattle.roster_search.specs.Written.{IsProgress, IsEnded}
 use Rattle.roster_search.proofs.Growing.{got_in, domains_before}
 use Rattle.rwsp_model.proofs.Numbering.{rule_in_range}
 
-are_rules : (P : Instance) (R : List ℕ) → IsStrictlyIncreasing R → ((k : ℕ) → Contains R k → (r : Rule) × (rule_of P k ≡ Some r)) → AreRules P R
+pub are_rules : (P : Instance) (R : List ℕ) → IsStrictlyIncreasing R → ((k : ℕ) → Contains R k → (r : Rule) × (rule_of P k ≡ Some r)) → AreRules P R
 are_rules P R up h = (
   up,
   λ i d lt. (
@@ -42,7 +42,7 @@ AreOpen rest = (m : ℕ) (line : Line) → slice_get rest m ≡ Some line → li
 abbrev pub log_of : Progress → List Line → Log
 log_of s rest = record { named = s.named; opening = s.aim.opening; goal = s.aim.goal; counts = false; lines = s.lines.items ++ rest }
 
-each_in : (Q : Line → Type 0) (ls rest : List Line) → ((k : ℕ) (line : Line) → slice_get ls k ≡ Some line → Q line) → Q Unfinished → AreOpen rest → (k : ℕ) (line : Line) → slice_get (ls ++ rest) k ≡ Some line → Q line
+pub each_in : (Q : Line → Type 0) (ls rest : List Line) → ((k : ℕ) (line : Line) → slice_get ls k ≡ Some line → Q line) → Q Unfinished → AreOpen rest → (k : ℕ) (line : Line) → slice_get (ls ++ rest) k ≡ Some line → Q line
 each_in Q ls rest each here opened k line e = elim (got_in ls rest k line e) [
   | inl at ↦ each k line at.1
   | inr at ↦ subst Q (sym (opened at.0 line at.2)) here

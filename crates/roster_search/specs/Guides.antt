@@ -6,6 +6,7 @@ use Rattle.rwsp_terms.specs.Instance.{Instance}
 use Rattle.rwsp_terms.specs.Roster.{MeetsAll}
 use Rattle.rwsp_model.specs.Schedule.{Schedule}
 use Rattle.refutation_terms.specs.declared.lines.Line.{Line}
+use Rattle.refutation_terms.specs.Word.{Within}
 use Rattle.refutation_terms.specs.FewLeaf.{FewHolds}
 use Rattle.refutation_terms.specs.Laws.{HasGoal}
 use Rattle.domain_store.specs.Store.{Store, has_domain}
@@ -14,7 +15,7 @@ use Rattle.domain_store.specs.Leaves.{IsHoldingLeaf}
 use Rattle.domain_store.specs.Looks.{IsUnweighed, Closes, IsCut}
 use Rattle.roster_search.specs.declared.order.NextSplit.{NextSplit}
 use Rattle.roster_search.specs.declared.sight.Sight.{Sight}
-use Rattle.roster_search.specs.declared.sight.Sight.TheVariants.{Leaf, Roster, Cut, Quiet}
+use Rattle.roster_search.specs.declared.sight.Sight.TheVariants.{Leaf, Cut, Quiet}
 
 -- a leaf that holds under the domains, or none
 abbrev pub IsLeafGiven : Instance → Option ℕ → Store → Option Line → Type 0
@@ -37,17 +38,20 @@ IsSplitIn S next = (next.p < length S.sets) × (is_idle_in S next.p next.x.numbe
 abbrev pub IsEmpty : Store → ℕ → Type 0
 IsEmpty S p = (x : ℕ) → x ≤ S.shifts → has_domain S p x ≡ false
 
--- a leaf or a roster that a guide gave
+-- such a roster, within the domains
+abbrev pub IsMetRoster : Instance → Option ℕ → Store → Schedule → Type 0
+IsMetRoster P goal S s = IsWantedRoster P goal s × Within P (has_domain S) s.cells
+
+-- a leaf that a guide gave
 abbrev pub IsGiven : Instance → Option ℕ → Store → Sight → Type 0
 IsGiven P goal S (Leaf line) = IsHoldingLeaf P goal (has_domain S) line
-IsGiven P goal S (Roster s) = IsWantedRoster P goal s
 IsGiven P goal S sight = ⊥
 
 -- no leaf of the propagator holds, and with a goal, as many weeks as that can still have a free weekend
 abbrev pub IsOpen : Instance → Option ℕ → (Line → Type 0) → Store → Type 0
 IsOpen P goal leaves S = (Closes P leaves S → ⊥) × (FewHolds P goal (has_domain S) → ⊥)
 
--- a leaf that holds, a roster that meets every rule and the goal, or what is seen of open domains
+-- a leaf that holds, or what is seen of open domains
 abbrev pub IsSight : Instance → Option ℕ → (Line → Type 0) → (ℕ → Symbol → Type 0) → Store → Sight → Type 0
 IsSight P goal leaves spent S (Cut p x line) = IsOpen P goal leaves S × IsCut P spent S p x line
 IsSight P goal leaves spent S Quiet = IsOpen P goal leaves S × ((p : ℕ) (x : Symbol) → spent p x → ⊥)

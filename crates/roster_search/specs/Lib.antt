@@ -2,3 +2,4 @@ pub mod Founds
 pub mod Written
 pub mod Laws
 pub mod Guides
+pub mod Behind

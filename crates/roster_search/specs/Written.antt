@@ -57,31 +57,45 @@ pub record IsSplitOff (P : Instance) (before after : Progress) (p : ℕ) (x : Sy
   pub lines : after.lines.items ≡ before.lines.items ++ added
   pub narrowed : IsNarrowedAt before.walk.store after.walk.store p
 
--- the lines of a search within its budget, whose splits are as the propagator says
-pub record IsUnderWay (P : Instance) (leaves : Store → Line → Type 0) (spent : Store → ℕ → Symbol → Type 0)
-    (s : Progress) : Type 0 where
+-- the lines of a search within its budget
+pub record IsUnderWay (P : Instance) (s : Progress) : Type 0 where
   pub written : IsProgress P s
-  pub forced : AreForced P leaves spent s.aim.opening s.lines.items
-  pub no_few : FewHoldsAtNoSplit P s.aim.goal s.aim.opening s.lines.items
   pub few : length s.lines.items ≤ s.aim.budget
 
 -- a search between two lines: the propagator serves it and tracks the domains behind its lines
 pub record IsSearching {A : Type 0} (P : Instance) (served : A → Instance → Type 0) (tracked : A → Store → Type 0)
-    (lines : A → Store → Line → Type 0) (symbols : A → Store → ℕ → Symbol → Type 0) (propagator : A) (s : Progress)
-    : Type 0 where
+    (lines : A → Store → Line → Type 0) (propagator : A) (s : Progress) : Type 0 where
   pub serves : served propagator P
   pub tracks : tracked propagator s.walk.store
   pub plain : HasPlainLeaves P (lines propagator)
   pub unweighed : AreUnweighed s.aim.goal (lines propagator)
-  pub under_way : IsUnderWay P (lines propagator) (symbols propagator) s
+  pub under_way : IsUnderWay P s
 
 -- a tree is still open, and the budget has room for one more line
 abbrev pub HasRoom : Progress → Type 0
 HasRoom s = (s.walk.whole ≡ false) × (length s.lines.items < s.aim.budget)
 
--- more lines of the same search
-abbrev pub IsLonger : Progress → Progress → Type 0
-IsLonger before after = (after.aim ≡ before.aim) × (length before.lines.items < length after.lines.items)
+-- the same search later: where each split was as the propagator says before, each one is, and at none is the leaf of
+-- few weeks at hand
+pub record IsLater (P : Instance) (leaves : Store → Line → Type 0) (spent : Store → ℕ → Symbol → Type 0)
+    (before after : Progress) : Type 0 where
+  pub same_aim : after.aim ≡ before.aim
+  pub forced : AreForced P leaves spent before.aim.opening before.lines.items
+      → AreForced P leaves spent after.aim.opening after.lines.items
+  pub no_few : FewHoldsAtNoSplit P before.aim.goal before.aim.opening before.lines.items
+      → FewHoldsAtNoSplit P after.aim.goal after.aim.opening after.lines.items
+
+-- what one step writes: a leaf, or a split, maybe with the leaf of its first side
+abbrev pub IsOneStep : List Line → Type 0
+IsOneStep added = ((leaf : Line) × IsLeaf leaf × (added ≡ leaf ∷ [])) ⊎ ((p : ℕ) × (x : Symbol) × IsSplitWithLeaf p x added)
+
+-- the search one step later
+pub record IsNextStep (P : Instance) (leaves : Store → Line → Type 0) (spent : Store → ℕ → Symbol → Type 0)
+    (before after : Progress) : Type 0 where
+  pub later : IsLater P leaves spent before after
+  pub added : List Line
+  pub one_step : IsOneStep added
+  pub lines : after.lines.items ≡ before.lines.items ++ added
 
 -- the log of these lines: one that passes, or one that has spent the budget and leaves the rest unfinished
 abbrev pub IsEnded : Instance → Aim → List Line → Found → Type 0

@@ -7,7 +7,7 @@ ghost use Rattle.refutation_terms.specs.DayLeaf.{DayFits, DayHolds};
 ghost use Rattle.refutation_terms.specs.FewLeaf.{FewHolds};
 ghost use Rattle.refutation_terms.specs.Log.{GoalFits};
 ghost use Rattle.domain_store.specs.Store.{has_domain, BelongsTo, IsDecided};
-ghost use Rattle.roster_search.specs.Guides.{IsWantedRoster};
+ghost use Rattle.roster_search.specs.Guides.{IsMetRoster};
 
 use domain_store::Domains;
 use rwsp_model::{Problem, Roster};
@@ -28,7 +28,7 @@ pub fn met_roster(
     requires days { (j : ℕ) (x : Symbol) (over : Bool) → DayFits problem.now j x
         → DayHolds problem.now (has_domain domains.now) j x over → ⊥ }
     requires few { FewHolds problem.now goal (has_domain domains.now) → ⊥ }
-    ensures { IfOk result (IsWantedRoster problem.now goal) }
+    ensures { IfOk result (IsMetRoster problem.now goal domains.now) }
 {
     problem.prove_limits();
     domains.prove_facts();

@@ -26,8 +26,8 @@ pub trait Guide {
             (P : Instance) (goal : Option ℕ) → serves self.old P goal → IsLeafGiven P goal doms.now line) }
         ensures serves { (P : Instance) (goal : Option ℕ) → serves self.old P goal ↔ serves self.new P goal };
 
-    /// A roster that meets every rule and has as many free weekends as the goal, if it has one. It is asked once, where
-    /// the search begins with these domains and no leaf closes them.
+    /// A roster that meets every rule and has as many free weekends as the goal, if it has one. It is asked once, behind
+    /// the first step of a search, where that leaves something open.
     fn roster(&mut self, alloc: Global, doms: &Domains) -> Result<Option<Roster>, AllocError>
         requires problem { (P : Instance) × (goal : Option ℕ) × serves self.old P goal × BelongsTo P doms.now }
         ensures wanted { IfOk result (λ found.

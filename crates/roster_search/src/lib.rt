@@ -4,6 +4,7 @@
 mod aim;
 mod decided;
 mod ending;
+mod given_roster;
 mod guide;
 mod laws;
 mod need;
@@ -17,4 +18,4 @@ pub use aim::Aim;
 pub use guide::{Guide, NoGuide};
 pub use laws::{spent_budgets_are_small, trees_have_few_leaves};
 pub use order::{NextSplit, chronological};
-pub use searching::search;
+pub use searching::{search, search_given};

@@ -5,8 +5,8 @@ ghost use Rattle.rwsp_terms.specs.Instance.{Instance};
 ghost use Rattle.domain_store.specs.Store.{BelongsTo, IsDecided, has_domain};
 ghost use Rattle.domain_store.specs.Leaves.{IsHoldingLeaf};
 ghost use Rattle.domain_store.specs.Looks.{IsCut, IsSame};
-ghost use Rattle.roster_search.specs.Guides.{IsSplitIn, IsWantedRoster, IsOpen, IsSight};
-ghost use Rattle.roster_search.specs.Written.{IsSearching, HasRoom, IsLonger};
+ghost use Rattle.roster_search.specs.Guides.{IsSplitIn, IsMetRoster, IsOpen, IsSight};
+ghost use Rattle.roster_search.specs.Written.{IsSearching, HasRoom, IsNextStep};
 
 use crate::decided::met_roster;
 use crate::order::chronological;
@@ -21,7 +21,7 @@ use std::alloc::{AllocError, Global};
 
 /// Looks at the domains behind the lines, and writes the leaf that holds there, or a split: of a spent
 /// symbol with the leaf of its first side, or else of the guide's or its own choice. Or it gives the
-/// guide's roster, or that of decided domains, where no leaf holds.
+/// roster of decided domains, where no leaf holds.
 pub fn step<A: Propagator, G: Guide>(
     alloc: Global,
     problem: &Problem,
@@ -30,13 +30,15 @@ pub fn step<A: Propagator, G: Guide>(
     arrival: &mut Arrival,
     progress: &mut Progress,
 ) -> Result<Option<Roster>, AllocError>
-    requires searching { IsSearching problem.now A.serves A.tracks A.leaves A.spent propagator.old progress.old }
+    requires searching { IsSearching problem.now A.serves A.tracks A.leaves propagator.old progress.old }
     requires room { HasRoom progress.old }
     requires guide { G.serves guide.old problem.now progress.old.aim.goal }
     ensures searching { IfOk result (λ found. found ≡ None
-        → IsSearching problem.now A.serves A.tracks A.leaves A.spent propagator.new progress.new) }
-    ensures longer { IfOk result (λ found. found ≡ None → IsLonger progress.old progress.new) }
-    ensures roster { IfOk result (λ found. IfSome found (IsWantedRoster problem.now progress.old.aim.goal)) }
+        → IsSearching problem.now A.serves A.tracks A.leaves propagator.new progress.new) }
+    ensures next { IfOk result (λ found. found ≡ None
+        → IsNextStep problem.now (A.leaves propagator.old) (A.spent propagator.old) progress.old progress.new) }
+    ensures roster { IfOk result (λ found.
+        IfSome found (IsMetRoster problem.now progress.old.aim.goal progress.old.walk.store)) }
     ensures same { IsSame A.serves A.leaves A.spent propagator.old propagator.new }
     ensures guide { (P : Instance) (goal : Option ℕ) → G.serves guide.old P goal ↔ G.serves guide.new P goal }
 {
@@ -54,20 +56,21 @@ fn write_seen<A: Propagator, G: Guide>(
     progress: &mut Progress,
     sight: Sight,
 ) -> Result<Option<Roster>, AllocError>
-    requires searching { IsSearching problem.now A.serves A.tracks A.leaves A.spent propagator.old progress.old }
+    requires searching { IsSearching problem.now A.serves A.tracks A.leaves propagator.old progress.old }
     requires room { HasRoom progress.old }
     requires guide { G.serves guide.old problem.now progress.old.aim.goal }
     requires sight { let S = progress.old.walk.store in
         IsSight problem.now progress.old.aim.goal (A.leaves propagator.old S) (A.spent propagator.old S) S sight }
     ensures searching { IfOk result (λ found. found ≡ None
-        → IsSearching problem.now A.serves A.tracks A.leaves A.spent propagator.new progress.new) }
-    ensures longer { IfOk result (λ found. found ≡ None → IsLonger progress.old progress.new) }
-    ensures roster { IfOk result (λ found. IfSome found (IsWantedRoster problem.now progress.old.aim.goal)) }
+        → IsSearching problem.now A.serves A.tracks A.leaves propagator.new progress.new) }
+    ensures next { IfOk result (λ found. found ≡ None
+        → IsNextStep problem.now (A.leaves propagator.old) (A.spent propagator.old) progress.old progress.new) }
+    ensures roster { IfOk result (λ found.
+        IfSome found (IsMetRoster problem.now progress.old.aim.goal progress.old.walk.store)) }
     ensures same { IsSame A.serves A.leaves A.spent propagator.old propagator.new }
     ensures guide { (P : Instance) (goal : Option ℕ) → G.serves guide.old P goal ↔ G.serves guide.new P goal }
 {
     match sight {
-        Sight::Roster(roster) => Ok(Some(roster)),
         Sight::Leaf(line) => {
             write_leaf(problem, propagator, progress, line)?;
             Ok(None)
@@ -88,16 +91,18 @@ fn write_choice<A: Propagator, G: Guide>(
     guide: &mut G,
     progress: &mut Progress,
 ) -> Result<Option<Roster>, AllocError>
-    requires searching { IsSearching problem.now A.serves A.tracks A.leaves A.spent propagator.old progress.old }
+    requires searching { IsSearching problem.now A.serves A.tracks A.leaves propagator.old progress.old }
     requires room { HasRoom progress.old }
     requires guide { G.serves guide.old problem.now progress.old.aim.goal }
     requires is_open { IsOpen problem.now progress.old.aim.goal (A.leaves propagator.old progress.old.walk.store)
         progress.old.walk.store }
     requires unspent { (p : ℕ) (x : Symbol) → A.spent propagator.old progress.old.walk.store p x → ⊥ }
     ensures searching { IfOk result (λ found. found ≡ None
-        → IsSearching problem.now A.serves A.tracks A.leaves A.spent propagator.new progress.new) }
-    ensures longer { IfOk result (λ found. found ≡ None → IsLonger progress.old progress.new) }
-    ensures roster { IfOk result (λ found. IfSome found (IsWantedRoster problem.now progress.old.aim.goal)) }
+        → IsSearching problem.now A.serves A.tracks A.leaves propagator.new progress.new) }
+    ensures next { IfOk result (λ found. found ≡ None
+        → IsNextStep problem.now (A.leaves propagator.old) (A.spent propagator.old) progress.old progress.new) }
+    ensures roster { IfOk result (λ found.
+        IfSome found (IsMetRoster problem.now progress.old.aim.goal progress.old.walk.store)) }
     ensures same { IsSame A.serves A.leaves A.spent propagator.old propagator.new }
     ensures guide { (P : Instance) (goal : Option ℕ) → G.serves guide.old P goal ↔ G.serves guide.new P goal }
 {
@@ -117,12 +122,13 @@ fn write_leaf<A: Propagator>(
     progress: &mut Progress,
     line: Line,
 ) -> Result<(), AllocError>
-    requires searching { IsSearching problem.now A.serves A.tracks A.leaves A.spent propagator.old progress.old }
+    requires searching { IsSearching problem.now A.serves A.tracks A.leaves propagator.old progress.old }
     requires room { HasRoom progress.old }
     requires leaf { IsHoldingLeaf problem.now progress.old.aim.goal (has_domain progress.old.walk.store) line }
     ensures searching { IfOk result (λ _.
-        IsSearching problem.now A.serves A.tracks A.leaves A.spent propagator.new progress.new) }
-    ensures longer { IfOk result (λ _. IsLonger progress.old progress.new) }
+        IsSearching problem.now A.serves A.tracks A.leaves propagator.new progress.new) }
+    ensures next { IfOk result (λ _.
+        IsNextStep problem.now (A.leaves propagator.old) (A.spent propagator.old) progress.old progress.new) }
     ensures same { IsSame A.serves A.leaves A.spent propagator.old propagator.new }
 {
     problem.prove_limits();
@@ -141,14 +147,15 @@ fn write_cut<A: Propagator>(
     x: Symbol,
     line: Line,
 ) -> Result<(), AllocError>
-    requires searching { IsSearching problem.now A.serves A.tracks A.leaves A.spent propagator.old progress.old }
+    requires searching { IsSearching problem.now A.serves A.tracks A.leaves propagator.old progress.old }
     requires room { HasRoom progress.old }
     requires is_open { IsOpen problem.now progress.old.aim.goal (A.leaves propagator.old progress.old.walk.store)
         progress.old.walk.store }
     requires cut { IsCut problem.now (A.spent propagator.old progress.old.walk.store) progress.old.walk.store p x line }
     ensures searching { IfOk result (λ _.
-        IsSearching problem.now A.serves A.tracks A.leaves A.spent propagator.new progress.new) }
-    ensures longer { IfOk result (λ _. IsLonger progress.old progress.new) }
+        IsSearching problem.now A.serves A.tracks A.leaves propagator.new progress.new) }
+    ensures next { IfOk result (λ _.
+        IsNextStep problem.now (A.leaves propagator.old) (A.spent propagator.old) progress.old progress.new) }
     ensures same { IsSame A.serves A.leaves A.spent propagator.old propagator.new }
 {
     problem.prove_limits();
@@ -165,15 +172,16 @@ fn write_split<A: Propagator>(
     progress: &mut Progress,
     split: NextSplit,
 ) -> Result<(), AllocError>
-    requires searching { IsSearching problem.now A.serves A.tracks A.leaves A.spent propagator.old progress.old }
+    requires searching { IsSearching problem.now A.serves A.tracks A.leaves propagator.old progress.old }
     requires room { HasRoom progress.old }
     requires is_open { IsOpen problem.now progress.old.aim.goal (A.leaves propagator.old progress.old.walk.store)
         progress.old.walk.store }
     requires unspent { (p : ℕ) (x : Symbol) → A.spent propagator.old progress.old.walk.store p x → ⊥ }
     requires split { IsSplitIn progress.old.walk.store split }
     ensures searching { IfOk result (λ _.
-        IsSearching problem.now A.serves A.tracks A.leaves A.spent propagator.new progress.new) }
-    ensures longer { IfOk result (λ _. IsLonger progress.old progress.new) }
+        IsSearching problem.now A.serves A.tracks A.leaves propagator.new progress.new) }
+    ensures next { IfOk result (λ _.
+        IsNextStep problem.now (A.leaves propagator.old) (A.spent propagator.old) progress.old progress.new) }
     ensures same { IsSame A.serves A.leaves A.spent propagator.old propagator.new }
 {
     problem.prove_limits();

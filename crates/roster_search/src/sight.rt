@@ -1,6 +1,5 @@
 // What is seen before a line is written.
 ghost use Rattle.std.specs.Prelude.{◌≡◌, ◌⊎◌, ℕ, ◌↔◌, Option, IsTrue, IfOk};
-ghost use Rattle.std.specs.Option.{IfSome};
 ghost use Rattle.rwsp_terms.specs.Instance.{Instance};
 ghost use Rattle.refutation_terms.specs.declared.lines.Opening.{Opening};
 ghost use Rattle.refutation_terms.specs.FewLeaf.{FewHolds};
@@ -14,16 +13,14 @@ use crate::Guide;
 use crate::progress::Progress;
 use domain_store::{Domains, Look, Propagator, few_holds};
 use refutation_terms::{Leaf, Line};
-use rwsp_model::{Problem, Roster};
+use rwsp_model::Problem;
 use rwsp_terms::Symbol;
 use std::alloc::{AllocError, Global};
 
 /// How a search came to the domains at hand. It says what the guide is asked there, and no promise speaks of it.
 #[derive(Clone, Copy)]
 pub enum Arrival {
-    /// No line was written yet.
-    Start,
-    /// A case begins: behind a split of the search's own choice, or behind a leaf.
+    /// A case begins: at the start, behind a split of the search's own choice, or behind a leaf.
     NewCase,
     /// A spent symbol was taken away.
     Cut,
@@ -33,14 +30,7 @@ impl Arrival {
     fn is_leaf_due(self, is_quiet: bool) -> bool {
         match self {
             Arrival::Cut => is_quiet,
-            _ => true,
-        }
-    }
-
-    fn is_roster_due(self) -> bool {
-        match self {
-            Arrival::Start => true,
-            _ => false,
+            Arrival::NewCase => true,
         }
     }
 }
@@ -50,8 +40,6 @@ impl Arrival {
 pub enum Sight {
     /// The leaf closes the domains.
     Leaf(Line),
-    /// The roster meets every rule.
-    Roster(Roster),
     /// A spent symbol, and the leaf of its side.
     Cut { p: u32, x: Symbol, line: Line },
     /// There is no leaf and no spent symbol.
@@ -85,9 +73,9 @@ pub fn see<A: Propagator, G: Guide>(
     arrival: Arrival,
     progress: &Progress,
 ) -> Result<Sight, AllocError>
-    requires searching { IsSearching problem.now A.serves A.tracks A.leaves A.spent propagator.old progress.now }
+    requires searching { IsSearching problem.now A.serves A.tracks A.leaves propagator.old progress.now }
     requires guide { G.serves guide.old problem.now progress.now.aim.goal }
-    ensures searching { IsSearching problem.now A.serves A.tracks A.leaves A.spent propagator.new progress.now }
+    ensures searching { IsSearching problem.now A.serves A.tracks A.leaves propagator.new progress.now }
     ensures sight { let S = progress.now.walk.store in
         IfOk result (IsSight problem.now progress.now.aim.goal (A.leaves propagator.new S) (A.spent propagator.new S) S) }
     ensures same { IsSame A.serves A.leaves A.spent propagator.old propagator.new }
@@ -100,14 +88,14 @@ pub fn see<A: Propagator, G: Guide>(
     match propagator.look(alloc, doms)? {
         Look::Closed(line) => Ok(Sight::Leaf(line)),
         Look::Cut { p, x, line } => {
-            given_or(alloc, guide, arrival, doms, Sight::Cut { p, x, line })
+            leaf_or(alloc, guide, arrival, doms, Sight::Cut { p, x, line })
         }
-        Look::Quiet => given_or(alloc, guide, arrival, doms, Sight::Quiet),
+        Look::Quiet => leaf_or(alloc, guide, arrival, doms, Sight::Quiet),
     }
 }
 
-// What the guide gives, or else what was seen.
-fn given_or<G: Guide>(
+// The guide's leaf where it is due and there is one, or else what was seen.
+fn leaf_or<G: Guide>(
     alloc: Global,
     guide: &mut G,
     arrival: Arrival,
@@ -119,11 +107,11 @@ fn given_or<G: Guide>(
         (sight ≡ seen) ⊎ ((P : Instance) (goal : Option ℕ) → G.serves guide.old P goal → IsGiven P goal doms.now sight)) }
     ensures serves { (P : Instance) (goal : Option ℕ) → G.serves guide.old P goal ↔ G.serves guide.new P goal }
 {
-    match given(alloc, guide, arrival, seen.is_quiet(), doms) {
+    match leaf_if_due(alloc, guide, arrival, seen.is_quiet(), doms) {
         Ok(None) => Ok(seen),
-        Ok(Some(given)) => {
+        Ok(Some(line)) => {
             drop(seen);
-            Ok(given)
+            Ok(Sight::Leaf(line))
         }
         Err(error) => {
             drop(seen);
@@ -144,31 +132,7 @@ fn is_short_of(problem: &Problem, goal: Option<u32>, doms: &Domains) -> bool
     }
 }
 
-// What the guide gives where the propagator has no leaf.
-fn given<G: Guide>(
-    alloc: Global,
-    guide: &mut G,
-    arrival: Arrival,
-    is_quiet: bool,
-    doms: &Domains,
-) -> Result<Option<Sight>, AllocError>
-    requires problem { (P : Instance) × (goal : Option ℕ) × G.serves guide.old P goal × BelongsTo P doms.now }
-    ensures given { IfOk result (λ given.
-        (P : Instance) (goal : Option ℕ) → G.serves guide.old P goal → IfSome given (IsGiven P goal doms.now)) }
-    ensures serves { (P : Instance) (goal : Option ℕ) → G.serves guide.old P goal ↔ G.serves guide.new P goal }
-{
-    if let Some(line) = leaf_if_due(alloc, guide, arrival, is_quiet, doms)? {
-        return Ok(Some(Sight::Leaf(line)));
-    }
-    if !arrival.is_roster_due() {
-        return Ok(None);
-    }
-    match guide.roster(alloc, doms)? {
-        Some(roster) => Ok(Some(Sight::Roster(roster))),
-        None => Ok(None),
-    }
-}
-
+// The guide's leaf, where it is due.
 fn leaf_if_due<G: Guide>(
     alloc: Global,
     guide: &mut G,

@@ -17,27 +17,29 @@ use Rattle.roster_print.specs.RosterText.{roster_text}
 use Rattle.roster_print.proofs.Printed.{printed_is_short, printed_is_spelled}
 use Rattle.refutation_log.specs.declared.best_found.BestFound.{BestFound}
 use Rattle.refutation_log.specs.declared.best_found.BestFound.TheVariants as Bests
+use Rattle.given_cells.specs.FillText.{fill_text}
 use Rattle.crew_size.specs.Sizes.{IsSize}
 use Rattle.crew_size.specs.Texts.{staff_text}
 use Rattle.crew_size.proofs.Decided.{printed_accepted, accepted_decide}
-use Rattle.command_line.specs.Commands.{HasFilesDays}
 use Rattle.command_line.specs.declared.command.Command.TheVariants.{OnFiles}
 use Rattle.command_line.specs.declared.command.FilesTask.{FilesTask}
-use Rattle.command_line.specs.declared.command.FilesTask.TheVariants.{Check, Verify, CheckFree, CheckStaff}
+use Rattle.command_line.specs.declared.command.FilesTask.TheVariants.{Check, Verify, CheckFree, CheckStaff, CheckFill}
 use Rattle.commands.specs.Files.{IsWithinLimit}
 use Rattle.commands.specs.Best.{IsBestAnswer}
 use Rattle.commands.specs.declared.second_file.SecondKind.TheVariants as Kinds
 use Rattle.commands.specs.declared.verify.Answer.TheVariants as Verifies
 use Rattle.commands.specs.declared.check.Answer.TheVariants as Checks
 use Rattle.commands.specs.declared.check_staff.Answer.TheVariants as StaffChecks
+use Rattle.commands.specs.declared.check_fill.Answer.TheVariants as FillChecks
 use Rattle.commands.proofs.Logs.{text_accepted}
+use Rattle.commands.proofs.Fills.{accepted, text_passes}
 use Rattle.commands.proofs.Reductions.{reduced_goal}
 use Rattle.commands.proofs.Bests.{best_meets, below_goal}
-use Rattle.rwsp_run.specs.Commands.{IsFilesAnswer, second_kind}
-use Rattle.rwsp_run.specs.Laws.{RostersMeet, RefutationsAreAccepted, ReductionsAreAccepted, StaffTextsAreAccepted, BestRostersMeet, BestRostersAreBest, BestProofsAreAccepted, IsProofOf, WorkersMakeNoDifference, AgreeInSearch, JobsAgree, IsAnswerOnFiles}
+use Rattle.rwsp_run.specs.Commands.{IsFilesAnswer, second_kind, SuitsFilesTask}
+use Rattle.rwsp_run.specs.Laws.{RostersMeet, RefutationsAreAccepted, ReductionsAreAccepted, StaffTextsAreAccepted, BestRostersMeet, BestRostersAreBest, BestProofsAreAccepted, FilledRostersMeet, shown_by, FillLogsAreAccepted, IsProofOf, WorkersMakeNoDifference, AgreeInSearch, JobsAgree, IsAnswerOnFiles}
 use Rattle.rwsp_run.specs.declared.jobs.JobAnswer.{JobAnswer}
 use Rattle.rwsp_run.specs.declared.jobs.JobAnswer.TheVariants as Jobs
-use Rattle.rwsp_run.specs.declared.answer.Refusal.TheVariants.{NotWeekly, TooLong}
+use Rattle.rwsp_run.specs.declared.answer.Refusal.TheVariants.{Unfit, TooLong}
 use Rattle.rwsp_run.specs.declared.answer.Answer.{Answer}
 use Rattle.rwsp_run.specs.declared.answer.Answer.TheVariants.{Refused, Job, Explained}
 use Rattle.rwsp_run.proofs.OneAnswer.{one_on}
@@ -52,19 +54,19 @@ decided x (Job y) only (inr h) = absurd (only y h)
 decided x a only (inr h) = absurd h
 
 -- an answer that is right on a text is the only one
-settled : (task : FilesTask) (P : Instance) (text : List ℕ) (x : JobAnswer) (a : Answer) → KeepsLimits P → HasFilesDays task P → IsWithinLimit (second_kind task) text → ((y : JobAnswer) → JobsAgree x y → ⊥) → IsFilesAnswer task P text x → IsAnswerOnFiles task (Bytes text) P a → a ≡ Job x
+settled : (task : FilesTask) (P : Instance) (text : List ℕ) (x : JobAnswer) (a : Answer) → KeepsLimits P → SuitsFilesTask task P → IsWithinLimit (second_kind task) text → ((y : JobAnswer) → JobsAgree x y → ⊥) → IsFilesAnswer task P text x → IsAnswerOnFiles task (Bytes text) P a → a ≡ Job x
 settled task P text x a limits days short only right h =
     decided x a only (one_on (OnFiles h.0 h.1 task) P (Bytes text) (Job x) a limits (λ other. told text) (days, (text, (refl, short), right)) h.2)
 
 -- a roster that meets every rule meets every rule by `verify`
 meets : (P : Instance) (file : List ℕ) (s : List Symbol) (a : Answer) → SpellsProblem file P → MeetsAll P s → IsAnswerOnFiles Verify (Bytes (roster_text P s)) P a → a ≡ Job (Jobs.Verify Verifies.Meets)
 meets P file s a spells right h =
-    settled Verify P (roster_text P s) (Jobs.Verify Verifies.Meets) a (valid_keeps P spells.valid) tt (printed_is_short P s spells.valid right.is_roster) (λ y h. h) (s, printed_is_spelled P s spells.valid right.is_roster, right) h
+    settled Verify P (roster_text P s) (Jobs.Verify Verifies.Meets) a (valid_keeps P spells.valid) refl (printed_is_short P s spells.valid right.is_roster) (λ y h. h) (s, printed_is_spelled P s spells.valid right.is_roster, right) h
 
 -- a log without a goal that passes is accepted by `check`
 checks : (P : Instance) (file : List ℕ) (workers : ℕ) (g : Log) (a : Answer) → SpellsProblem file P → Passes P g → g.goal ≡ None → IsWithinLimit Kinds.Log (log_text P g) → IsAnswerOnFiles (Check workers) (Bytes (log_text P g)) P a → a ≡ Job (Jobs.Check (Checks.Accepted None g.named))
 checks P file workers g a spells passes none short h =
-    settled (Check workers) P (log_text P g) (Jobs.Check (Checks.Accepted None g.named)) a (valid_keeps P spells.valid) tt short (λ y h. h) (text_accepted P g None passes none) h
+    settled (Check workers) P (log_text P g) (Jobs.Check (Checks.Accepted None g.named)) a (valid_keeps P spells.valid) refl short (λ y h. h) (text_accepted P g None passes none) h
 
 -- a log of the kind without a goal has none
 no_goal : (goal : Option ℕ) → kind_by goal ≡ WithoutGoal → goal ≡ None
@@ -89,7 +91,7 @@ staff_accepted file P low high budget counts run staffed a spells sizes answer d
     let says = answer.2.1 in
     let fits : IsSize P high = record { some = omega (arith, sizes); few = sizes.2; few_cells = says.1 } in
     let right = printed_accepted P low high budget run staffed limits sizes.0 sizes.1 fits says.2 decides in
-    settled CheckStaff P (staff_text P run) (Jobs.CheckStaff (StaffChecks.Accepted staffed)) a limits tt short (λ y h. h) (right, accepted_decide P (staff_text P run) staffed right) h
+    settled CheckStaff P (staff_text P run) (Jobs.CheckStaff (StaffChecks.Accepted staffed)) a limits refl short (λ y h. h) (right, accepted_decide P (staff_text P run) staffed right) h
 
 pub best_rosters_meet : BestRostersMeet
 best_rosters_meet file P budget counts found s a spells best is h = meets P file s.cells a spells (best_meets P budget counts found s best.2.1 is) h
@@ -115,8 +117,20 @@ best_proofs_accepted file P budget goal counts found g a spells best proof short
     let passes = proof_passes P budget goal counts found g best.2.1 proof in
     settled CheckFree P (log_text P g) (Jobs.Check (Checks.Accepted (Some goal) g.named)) a (valid_keeps P spells.valid) best.2.0 short (λ y h. h) (text_accepted P g (Some goal) passes.0 passes.1) h
 
+-- what `fill` writes
+
+pub filled_rosters_meet : FilledRostersMeet
+filled_rosters_meet file P budget told s a spells filled h = meets P file s.cells a spells filled.2.1.2.2.1.0 h
+
+-- what an answer of `fill` says of a refutation is that it passes, behind the cells that the second file gives
+pub fill_logs_accepted : FillLogsAreAccepted
+fill_logs_accepted file P budget told f a spells filled short h =
+    let text = fill_text P f in
+    let passes = filled.2.1.2.2.passes in
+    settled CheckFill P text (Jobs.CheckFill (FillChecks.Accepted (shown_by f))) a (valid_keeps P spells.valid) filled.2.0 short (λ y h. h) (accepted P text (shown_by f) (text_passes P f passes)) h
+
 pub same_for_workers : WorkersMakeNoDifference
-same_for_workers m n name second told P (Refused (NotWeekly days)) h = h
+same_for_workers m n name second told P (Refused (Unfit why)) h = h
 same_for_workers m n name second told P (Refused (TooLong kind)) h = h
 same_for_workers m n name second told P (Job (Jobs.Check a)) h = h
 same_for_workers m n name second told P (Job a) h = absurd h.1.2

@@ -38,4 +38,4 @@ pub answer_long : (held now : List ℕ → Told) (file bytes answer : List ℕ) 
 answer_long held now file bytes answer second P why read some same long =
     subst (λ (s : Option (List ℕ)). IsAnswerTo (Explain file s) held (Refused why)) (sym some)
     (subst (λ (r : Refusal). IsAnswerTo (Explain file (Some answer)) held (Refused r)) (sym long.0)
-    (P, held_problem (held file) bytes P read.holds read.short read.spells, (tt, (refl, subst (λ (t : Told). WhereTold t (IsTooLong Log)) (same answer) long.1))))
+    (P, held_problem (held file) bytes P read.holds read.short read.spells, (refl, (refl, subst (λ (t : Told). WhereTold t (IsTooLong Log)) (same answer) long.1))))

@@ -24,10 +24,11 @@ use Rattle.commands.specs.declared.trial.Answer.{Answer as TrialAnswer}
 use Rattle.commands.proofs.ProblemFiles.{one_refusal, not_refused}
 use Rattle.commands.proofs.Explained.{one_wording, not_worded, said_once}
 use Rattle.rwsp_run.specs.Answers.{IsAnswer, IsAnswerOn, IsAnswerTo, IsAsked, IsJobAnswer, IsTooLongFor, IsExplanation, IsRefusalExplained}
-use Rattle.rwsp_run.specs.Commands.{IsFilesAnswer, second_kind}
+use Rattle.rwsp_run.specs.Commands.{IsFilesAnswer, second_kind, unfit_for, Suits}
 use Rattle.rwsp_run.specs.Laws.{AnswersAreOne, ProblemsAreAnswered, AreTold, AgreeInSearch, JobsAgree}
 use Rattle.rwsp_run.specs.declared.jobs.JobAnswer.{JobAnswer}
-use Rattle.rwsp_run.specs.declared.answer.Refusal.TheVariants.{Usage, Horizon, Problem, NotWeekly, TooLong}
+use Rattle.rwsp_run.specs.declared.answer.Refusal.TheVariants.{Usage, Horizon, Problem, Unfit, TooLong}
+use Rattle.rwsp_run.specs.declared.answer.Unfit.{Unfit as Misfit}
 use Rattle.rwsp_run.specs.declared.answer.Answer.{Answer}
 use Rattle.rwsp_run.specs.declared.answer.Answer.TheVariants.{Refused, Trial, Job, Explained}
 use Rattle.rwsp_run.proofs.OneJob.{one_on_problem, one_on_files}
@@ -89,26 +90,33 @@ one_explanation (OnFiles file second task) P told v w limits there h k = absurd 
 one_explanation (OnProblem file task) P told v w limits there h k = absurd h
 one_explanation (Commands.Trial number weeks) P told v w limits there h k = absurd h
 
+-- an instance isn't one for a command for one reason, or it is one
+same_misfit : (command : Command) (P : Instance) (why other : Misfit) → unfit_for command P ≡ Some why → unfit_for command P ≡ Some other → why ≡ other
+same_misfit command P why other h k = let both : Some why ≡ Some other = sym h ∙ k in cc
+
+fit_or_not : (command : Command) (P : Instance) (why : Misfit) → unfit_for command P ≡ Some why → Suits command P → ⊥
+fit_or_not command P why h k = let both : Some why ≡ None = sym h ∙ k in absurd (cc)
+
 -- two answers to a command for an instance, over what the second file tells
 pub one_on : (command : Command) (P : Instance) (told : Told) (a b : Answer) → KeepsLimits P → IsSecondTold command told → IsAnswerOn command told P a → IsAnswerOn command told P b → (a ≡ b) ⊎ AgreeInSearch a b
-one_on command P told (Refused (NotWeekly m)) (Refused (NotWeekly n)) limits there h k = inl (ap (λ (days : ℕ). Refused (NotWeekly days)) (h.1 ∙ sym k.1))
-one_on command P told (Refused (NotWeekly m)) (Refused (TooLong kind)) limits there h k = absurd (h.0 k.0)
-one_on command P told (Refused (NotWeekly m)) (Job b) limits there h k = absurd (h.0 k.0)
-one_on command P told (Refused (NotWeekly m)) (Explained w) limits there h k = absurd (h.0 k.0)
-one_on command P told (Refused (TooLong kind)) (Refused (NotWeekly n)) limits there h k = absurd (k.0 h.0)
+one_on command P told (Refused (Unfit why)) (Refused (Unfit other)) limits there h k = inl (ap (λ (w : Misfit). Refused (Unfit w)) (same_misfit command P why other h k))
+one_on command P told (Refused (Unfit why)) (Refused (TooLong kind)) limits there h k = absurd (fit_or_not command P why h k.0)
+one_on command P told (Refused (Unfit why)) (Job b) limits there h k = absurd (fit_or_not command P why h k.0)
+one_on command P told (Refused (Unfit why)) (Explained w) limits there h k = absurd (fit_or_not command P why h k.0)
+one_on command P told (Refused (TooLong kind)) (Refused (Unfit other)) limits there h k = absurd (fit_or_not command P other k h.0)
 one_on command P told (Refused (TooLong kind)) (Refused (TooLong other)) limits there h k = inl (same_kind command told kind other h.1 k.1)
 one_on command P told (Refused (TooLong kind)) (Job b) limits there h k = absurd (done_or_long command P told kind b there k.1 h.1)
 one_on command P told (Refused (TooLong kind)) (Explained w) limits there h k = absurd (said_or_long command P told kind w there k.1 h.1)
-one_on command P told (Job a) (Refused (NotWeekly n)) limits there h k = absurd (k.0 h.0)
+one_on command P told (Job a) (Refused (Unfit other)) limits there h k = absurd (fit_or_not command P other k h.0)
 one_on command P told (Job a) (Refused (TooLong kind)) limits there h k = absurd (done_or_long command P told kind a there h.1 k.1)
 one_on command P told (Job a) (Job b) limits there h k = as_answers a b (one_job command P told a b limits there h.1 k.1)
 one_on command P told (Job a) (Explained w) limits there h k = absurd (said_or_done command P told w a k.1 h.1)
-one_on command P told (Explained v) (Refused (NotWeekly n)) limits there h k = absurd (k.0 h.0)
+one_on command P told (Explained v) (Refused (Unfit other)) limits there h k = absurd (fit_or_not command P other k h.0)
 one_on command P told (Explained v) (Refused (TooLong kind)) limits there h k = absurd (said_or_long command P told kind v there h.1 k.1)
 one_on command P told (Explained v) (Job b) limits there h k = absurd (said_or_done command P told v b h.1 k.1)
 one_on command P told (Explained v) (Explained w) limits there h k = inl (ap (λ (words : Explanation). Explained words) (one_explanation command P told v w limits there h.1 k.1))
 one_on command P told (Explained v) b limits there h k = absurd k
-one_on command P told (Refused (NotWeekly m)) b limits there h k = absurd k
+one_on command P told (Refused (Unfit why)) b limits there h k = absurd k
 one_on command P told (Refused (TooLong kind)) b limits there h k = absurd k
 one_on command P told (Job a) b limits there h k = absurd k
 one_on command P told a b limits there h k = absurd h
@@ -131,18 +139,18 @@ pub data FileEnd (command : Command) (held : List ℕ → Told) (a : Answer) : T
 
 explained_end : (file : List ℕ) (second : Option (List ℕ)) (held : List ℕ → Told) (words : Explanation) → IsAnswerTo (Explain file second) held (Explained words) → FileEnd (Explain file second) held (Explained words)
 explained_end file second held words (inl h) = worded words tt h refl
-explained_end file second held words (inr h) = spelled h.0 h.1 (tt, h.2)
+explained_end file second held words (inr h) = spelled h.0 h.1 (refl, h.2)
 
 pub file_end : (command : Command) (held : List ℕ → Told) (a : Answer) → ReadsProblem command → IsAnswerTo command held a → FileEnd command held a
 file_end (Commands.Trial number weeks) held a reads h = absurd reads
 file_end (OnProblem file task) held (Refused (Problem why)) reads h = refused why tt h refl
-file_end (OnProblem file task) held (Refused (NotWeekly days)) reads h = spelled h.0 h.1 h.2
+file_end (OnProblem file task) held (Refused (Unfit why)) reads h = spelled h.0 h.1 h.2
 file_end (OnProblem file task) held (Refused (TooLong kind)) reads h = spelled h.0 h.1 h.2
 file_end (OnProblem file task) held (Job a) reads h = spelled h.0 h.1 h.2
 file_end (OnProblem file task) held (Explained words) reads h = spelled h.0 h.1 h.2
 file_end (OnProblem file task) held a reads h = absurd h.2
 file_end (OnFiles file second task) held (Refused (Problem why)) reads h = refused why tt h refl
-file_end (OnFiles file second task) held (Refused (NotWeekly days)) reads h = spelled h.0 h.1 h.2
+file_end (OnFiles file second task) held (Refused (Unfit why)) reads h = spelled h.0 h.1 h.2
 file_end (OnFiles file second task) held (Refused (TooLong kind)) reads h = spelled h.0 h.1 h.2
 file_end (OnFiles file second task) held (Job a) reads h = spelled h.0 h.1 h.2
 file_end (OnFiles file second task) held (Explained words) reads h = spelled h.0 h.1 h.2
@@ -151,7 +159,7 @@ file_end (Explain file second) held (Refused (Problem ProblemRefusals.TooLong)) 
 file_end (Explain file second) held (Refused (Problem (ProblemRefusals.Refused why))) reads h =
     let no : ProblemRefusals.Refused why ≡ ProblemRefusals.TooLong = h.0 in
     absurd (cc)
-file_end (Explain file second) held (Refused (NotWeekly days)) reads h = spelled h.0 h.1 h.2
+file_end (Explain file second) held (Refused (Unfit why)) reads h = spelled h.0 h.1 h.2
 file_end (Explain file second) held (Refused (TooLong kind)) reads h = spelled h.0 h.1 h.2
 file_end (Explain file second) held (Job a) reads h = spelled h.0 h.1 h.2
 file_end (Explain file second) held (Explained words) reads h = explained_end file second held words h
@@ -213,7 +221,7 @@ words_end : (held : List ℕ → Told) (words : CommandWords) (a : Answer) → I
 words_end held words (Refused Usage) h = unknown h refl
 words_end held words (Refused Horizon) h = late h.0 h.1 h.2 refl
 words_end held words (Refused (Problem why)) h = command_end h.0 held words (Refused (Problem why)) h.1 h.2 h.3
-words_end held words (Refused (NotWeekly days)) h = command_end h.0 held words (Refused (NotWeekly days)) h.1 h.2 h.3
+words_end held words (Refused (Unfit why)) h = command_end h.0 held words (Refused (Unfit why)) h.1 h.2 h.3
 words_end held words (Refused (TooLong kind)) h = command_end h.0 held words (Refused (TooLong kind)) h.1 h.2 h.3
 words_end held words (Trial trial) h = command_end h.0 held words (Trial trial) h.1 h.2 h.3
 words_end held words (Job a) h = command_end h.0 held words (Job a) h.1 h.2 h.3

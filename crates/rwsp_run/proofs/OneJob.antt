@@ -17,6 +17,7 @@ use Rattle.commands.proofs.Mends.{mends_agree}
 use Rattle.commands.proofs.Rests.{one_rest}
 use Rattle.commands.proofs.Pages.{one_page}
 use Rattle.commands.proofs.RosterAnswers.{one_taken}
+use Rattle.commands.proofs.Fills.{fills_agree, one_checked_fill}
 use Rattle.rwsp_run.specs.Commands.{IsProblemAnswer, IsFilesAnswer}
 use Rattle.rwsp_run.specs.Laws.{JobsAgree}
 use Rattle.rwsp_run.specs.declared.jobs.JobAnswer.{JobAnswer}
@@ -75,3 +76,9 @@ one_on_files (FilesTasks.On start date) P bytes a b limits h k = absurd h
 one_on_files FilesTasks.Roster P bytes (Jobs.Roster x) (Jobs.Roster y) limits h k = inl (ap Jobs.Roster (one_taken P bytes x y h k))
 one_on_files FilesTasks.Roster P bytes (Jobs.Roster x) b limits h k = absurd k
 one_on_files FilesTasks.Roster P bytes a b limits h k = absurd h
+one_on_files (FilesTasks.Fill budget) P bytes (Jobs.Fill x) (Jobs.Fill y) limits h k = inr (fills_agree P bytes budget x y h k)
+one_on_files (FilesTasks.Fill budget) P bytes (Jobs.Fill x) b limits h k = absurd k
+one_on_files (FilesTasks.Fill budget) P bytes a b limits h k = absurd h
+one_on_files FilesTasks.CheckFill P bytes (Jobs.CheckFill x) (Jobs.CheckFill y) limits h k = inl (ap Jobs.CheckFill (one_checked_fill P bytes x y limits h k))
+one_on_files FilesTasks.CheckFill P bytes (Jobs.CheckFill x) b limits h k = absurd k
+one_on_files FilesTasks.CheckFill P bytes a b limits h k = absurd h

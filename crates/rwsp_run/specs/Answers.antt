@@ -3,7 +3,7 @@ use Rattle.std.specs.Prelude.{◌≡◌, ◌⊎◌, ℕ, List, Some, None}
 use Rattle.rwsp_io.specs.Told.{Told, Rose}
 use Rattle.rwsp_terms.specs.Instance.{Instance}
 use Rattle.rwsp_file.specs.Spelling.{SpellsProblem}
-use Rattle.command_line.specs.Commands.{CommandWords, IsForm, HasNoForm, ReadsProblem, IsWithinHorizon, HasDaysFor, HasFilesDays, file_of, second_of}
+use Rattle.command_line.specs.Commands.{CommandWords, IsForm, HasNoForm, ReadsProblem, IsWithinHorizon, file_of, second_of}
 use Rattle.command_line.specs.declared.command.Command.{Command}
 use Rattle.command_line.specs.declared.command.Command.TheVariants as Commands
 use Rattle.command_line.specs.declared.command.Command.TheVariants.{OnProblem, OnFiles, Explain}
@@ -15,9 +15,9 @@ use Rattle.commands.specs.declared.problem_file.ProblemRefusal.TheVariants as Pr
 use Rattle.commands.specs.declared.second_file.SecondKind.{SecondKind}
 use Rattle.commands.specs.declared.second_file.SecondKind.TheVariants.{Log}
 use Rattle.commands.specs.declared.explain.Answer.{Answer as Explanation}
-use Rattle.rwsp_run.specs.Commands.{IsProblemAnswer, IsFilesAnswer, second_kind}
+use Rattle.rwsp_run.specs.Commands.{IsProblemAnswer, IsFilesAnswer, second_kind, unfit_for, Suits, SuitsFilesTask}
 use Rattle.rwsp_run.specs.declared.jobs.JobAnswer.{JobAnswer}
-use Rattle.rwsp_run.specs.declared.answer.Refusal.TheVariants.{Usage, Horizon, Problem, NotWeekly, TooLong}
+use Rattle.rwsp_run.specs.declared.answer.Refusal.TheVariants.{Usage, Horizon, Problem, Unfit, TooLong}
 use Rattle.rwsp_run.specs.declared.answer.Answer.{Answer}
 use Rattle.rwsp_run.specs.declared.answer.Answer.TheVariants.{Refused, Trial, Job, Explained}
 
@@ -43,12 +43,12 @@ IsExplanation (Explain file (Some answer)) told P words =
 IsExplanation command told P words = ⊥
 
 -- what the answer to a command says of the problem that the first file spells, and of what the second file tells: the
--- problem has other days than the command asks for, or the second file is too long, or the job was done
+-- problem isn't one for the command, or the second file is too long, or the job was done
 abbrev pub IsAnswerOn : Command → Told → Instance → Answer → Type 0
-IsAnswerOn command told P (Refused (NotWeekly days)) = (HasDaysFor command P → ⊥) × (days ≡ P.days)
-IsAnswerOn command told P (Refused (TooLong kind)) = HasDaysFor command P × IsTooLongFor command told kind
-IsAnswerOn command told P (Job answer) = HasDaysFor command P × IsJobAnswer command told P answer
-IsAnswerOn command told P (Explained words) = HasDaysFor command P × IsExplanation command told P words
+IsAnswerOn command told P (Refused (Unfit why)) = unfit_for command P ≡ Some why
+IsAnswerOn command told P (Refused (TooLong kind)) = Suits command P × IsTooLongFor command told kind
+IsAnswerOn command told P (Job answer) = Suits command P × IsJobAnswer command told P answer
+IsAnswerOn command told P (Explained words) = Suits command P × IsExplanation command told P words
 IsAnswerOn command told P answer = ⊥
 
 -- the words ask for a command that reads a problem's file
@@ -90,7 +90,7 @@ IsAnswer held words answer =
 -- the second file could not be read, and the first spells a problem for the task
 abbrev pub IsSecondFault : (List ℕ → Told) → (before now : List ℕ → ℕ) → Command → Type 0
 IsSecondFault held before now (OnFiles file second task) =
-    Rose (before second) (now second) × ((P : Instance) × IsProblemOf (held file) P × HasFilesDays task P)
+    Rose (before second) (now second) × ((P : Instance) × IsProblemOf (held file) P × SuitsFilesTask task P)
 IsSecondFault held before now (Explain file (Some answer)) =
     Rose (before answer) (now answer) × ((P : Instance) × IsProblemOf (held file) P)
 IsSecondFault held before now command = ⊥

@@ -1,8 +1,12 @@
 -- What each command reads, answers, prints and ends with: a line each, from the definitions of the command.
-use Rattle.std.specs.Prelude.{ℕ, List}
-use Rattle.rwsp_terms.specs.Instance.{Instance}
+use Rattle.std.specs.Prelude.{◌≡◌, ℕ, List, Option, Some, None, is_none, ◌==◌, if◌then◌else◌}
+use Rattle.rwsp_terms.specs.declared.limits.TheConstants.{DAYS_OF_WEEK}
+use Rattle.rwsp_terms.specs.Instance.{Instance, symbol_of}
 use Rattle.rwsp_file.specs.Text.{problem_text}
 use Rattle.refutation_terms.specs.declared.lines.LogKind.TheVariants.{WithoutGoal, WithGoal}
+use Rattle.given_cells.specs.CellsText.{open_word}
+use Rattle.command_line.specs.declared.command.Command.{Command}
+use Rattle.command_line.specs.declared.command.Command.TheVariants.{OnProblem, OnFiles}
 use Rattle.command_line.specs.declared.command.ProblemTask.{ProblemTask}
 use Rattle.command_line.specs.declared.command.ProblemTask.TheVariants as ProblemTasks
 use Rattle.command_line.specs.declared.command.FilesTask.{FilesTask}
@@ -23,8 +27,12 @@ use Rattle.commands.specs.Page.{IsPageAnswer, page_answer_text, page_status, IsP
 use Rattle.commands.specs.Ics.{IsIcsAnswer, ics_text, ics_status, IsIcsAnswerOf}
 use Rattle.commands.specs.On.{IsOnAnswer, on_text, on_status, IsOnAnswerOf}
 use Rattle.commands.specs.Roster.{IsRosterAnswer, roster_answer_text, roster_status}
+use Rattle.commands.specs.Fill.{IsFillAnswer, fill_answer_text, fill_status, IsFillAnswerOf}
+use Rattle.commands.specs.CheckFill.{IsCheckedFill, check_fill_text, check_fill_status, IsCheckedFillOf}
 use Rattle.commands.specs.declared.second_file.SecondKind.{SecondKind}
 use Rattle.commands.specs.declared.second_file.SecondKind.TheVariants as Kinds
+use Rattle.rwsp_run.specs.declared.answer.Unfit.{Unfit}
+use Rattle.rwsp_run.specs.declared.answer.Unfit.TheVariants.{NotWeekly, OpenWordTaken}
 use Rattle.rwsp_run.specs.declared.jobs.JobAnswer.{JobAnswer}
 use Rattle.rwsp_run.specs.declared.jobs.JobAnswer.TheVariants as Jobs
 
@@ -35,7 +43,44 @@ second_kind (FilesTasks.Crew date days employee) = Kinds.Roster
 second_kind FilesTasks.Page = Kinds.Roster
 second_kind (FilesTasks.Ics date days employee) = Kinds.Roster
 second_kind (FilesTasks.On start date) = Kinds.Roster
+second_kind (FilesTasks.Fill budget) = Kinds.Roster
 second_kind task = Kinds.Log
+
+-- why an instance isn't one for tasks on weeks of seven days
+abbrev pub unfit_by_days : Instance → Option Unfit
+unfit_by_days P = if P.days == DAYS_OF_WEEK then None else Some (NotWeekly P.days)
+
+-- why it isn't one for tasks on given cells, in whose text the word `?` leaves a cell open
+abbrev pub unfit_by_names : Instance → Option Unfit
+unfit_by_names P = if is_none (symbol_of P open_word) then None else Some OpenWordTaken
+
+-- why it isn't one for a task, if it isn't
+abbrev pub unfit_for_problem_task : ProblemTask → Instance → Option Unfit
+unfit_for_problem_task (ProblemTasks.Best budget counts) P = unfit_by_days P
+unfit_for_problem_task task P = None
+
+abbrev pub unfit_for_files_task : FilesTask → Instance → Option Unfit
+unfit_for_files_task FilesTasks.CheckFree P = unfit_by_days P
+unfit_for_files_task (FilesTasks.Fill budget) P = unfit_by_names P
+unfit_for_files_task FilesTasks.CheckFill P = unfit_by_names P
+unfit_for_files_task task P = None
+
+-- why it isn't one for a command, if it isn't
+abbrev pub unfit_for : Command → Instance → Option Unfit
+unfit_for (OnProblem file task) P = unfit_for_problem_task task P
+unfit_for (OnFiles file second task) P = unfit_for_files_task task P
+unfit_for command P = None
+
+-- the instance is one for the task
+abbrev pub SuitsProblemTask : ProblemTask → Instance → Type 0
+SuitsProblemTask task P = unfit_for_problem_task task P ≡ None
+
+abbrev pub SuitsFilesTask : FilesTask → Instance → Type 0
+SuitsFilesTask task P = unfit_for_files_task task P ≡ None
+
+-- and for the command
+abbrev pub Suits : Command → Instance → Type 0
+Suits command P = unfit_for command P ≡ None
 
 -- what the answer to a task says of the problem
 abbrev pub IsProblemAnswer : ProblemTask → Instance → JobAnswer → Type 0
@@ -59,6 +104,8 @@ IsFilesAnswer FilesTasks.Page P bytes (Jobs.Page a) = IsPageAnswer P bytes a
 IsFilesAnswer (FilesTasks.Ics date days employee) P bytes (Jobs.Ics a) = IsIcsAnswer P bytes date days employee a
 IsFilesAnswer (FilesTasks.On start date) P bytes (Jobs.On a) = IsOnAnswer P bytes start date a
 IsFilesAnswer FilesTasks.Roster P bytes (Jobs.Roster a) = IsRosterAnswer P bytes a
+IsFilesAnswer (FilesTasks.Fill budget) P bytes (Jobs.Fill a) = IsFillAnswer P bytes budget a
+IsFilesAnswer FilesTasks.CheckFill P bytes (Jobs.CheckFill a) = IsCheckedFill P bytes a
 IsFilesAnswer task P bytes answer = ⊥
 
 -- the text of an answer to a command on a problem
@@ -78,6 +125,8 @@ job_text P (Jobs.Page a) = page_answer_text P a
 job_text P (Jobs.Ics a) = ics_text P a
 job_text P (Jobs.On a) = on_text P a
 job_text P (Jobs.Roster a) = roster_answer_text a
+job_text P (Jobs.Fill a) = fill_answer_text P a
+job_text P (Jobs.CheckFill a) = check_fill_text P a
 
 -- what the answer names is the problem's
 abbrev pub IsPrintable : Instance → JobAnswer → Type 0
@@ -96,6 +145,8 @@ IsPrintable P (Jobs.Page a) = IsPageAnswerOf P a
 IsPrintable P (Jobs.Ics a) = IsIcsAnswerOf P a
 IsPrintable P (Jobs.On a) = IsOnAnswerOf P a
 IsPrintable P (Jobs.Roster a) = Unit {0}
+IsPrintable P (Jobs.Fill a) = IsFillAnswerOf P a
+IsPrintable P (Jobs.CheckFill a) = IsCheckedFillOf P a
 
 -- the status where the text was written
 abbrev pub job_status : JobAnswer → ℕ
@@ -114,3 +165,5 @@ job_status (Jobs.Page a) = page_status a
 job_status (Jobs.Ics a) = ics_status a
 job_status (Jobs.On a) = on_status a
 job_status (Jobs.Roster a) = roster_status a
+job_status (Jobs.Fill a) = fill_status a
+job_status (Jobs.CheckFill a) = check_fill_status a

@@ -16,6 +16,10 @@ use Rattle.roster_print.specs.RosterText.{roster_text}
 use Rattle.refutation_log.specs.declared.found.Found.TheVariants as Founds
 use Rattle.refutation_log.specs.declared.best_found.BestFound.{BestFound}
 use Rattle.refutation_log.specs.declared.best_found.BestFound.TheVariants as Bests
+use Rattle.given_cells.specs.FillLog.{FillLog}
+use Rattle.given_cells.specs.FillText.{fill_text}
+use Rattle.given_cells.specs.declared.filled.Filled.TheVariants as Filleds
+use Rattle.fill_checker.specs.declared.verdict.PassedFill.{PassedFill}
 use Rattle.crew_size.specs.Texts.{Staff as StaffRun, staff_text}
 use Rattle.crew_size.specs.Laws.{decision_of}
 use Rattle.crew_size.specs.declared.verdict.Staffed.{Staffed}
@@ -25,12 +29,13 @@ use Rattle.command_line.specs.declared.command.Command.TheVariants.{OnProblem, O
 use Rattle.command_line.specs.declared.command.ProblemTask.{ProblemTask}
 use Rattle.command_line.specs.declared.command.ProblemTask.TheVariants.{Plan, Best, Staff}
 use Rattle.command_line.specs.declared.command.FilesTask.{FilesTask}
-use Rattle.command_line.specs.declared.command.FilesTask.TheVariants.{Check, Verify, Reduce, CheckFree, CheckStaff}
+use Rattle.command_line.specs.declared.command.FilesTask.TheVariants.{Check, Verify, Reduce, CheckFree, CheckStaff, Fill, CheckFill}
 use Rattle.commands.specs.Files.{IsWithinLimit}
 use Rattle.commands.specs.ProblemFile.{IsShortFile}
 use Rattle.commands.specs.Plan.{PlansAgree}
 use Rattle.commands.specs.Best.{BestsAgree, best_roster}
 use Rattle.commands.specs.Staff.{StaffsAgree}
+use Rattle.commands.specs.Fill.{FillsAgree}
 use Rattle.ways_out.specs.Agreement.{WaysAgree}
 use Rattle.commands.specs.declared.second_file.SecondKind.TheVariants as Kinds
 use Rattle.commands.specs.declared.explain.Answer.TheVariants as Explanations
@@ -39,6 +44,8 @@ use Rattle.commands.specs.declared.verify.Answer.TheVariants as Verifies
 use Rattle.commands.specs.declared.check.Answer.TheVariants as Checks
 use Rattle.commands.specs.declared.check_staff.Answer.TheVariants as StaffChecks
 use Rattle.commands.specs.declared.reduce.Answer.TheVariants as Reductions
+use Rattle.commands.specs.declared.fill.Answer.TheVariants as Fills
+use Rattle.commands.specs.declared.check_fill.Answer.TheVariants as FillChecks
 use Rattle.rwsp_run.specs.Answers.{IsAnswer, IsAnswerOn, IsAnswerTo, IsAsked}
 use Rattle.rwsp_run.specs.Texts.{IsTextOf}
 use Rattle.rwsp_run.specs.Commands.{job_text}
@@ -64,6 +71,7 @@ JobsAgree (Jobs.Plan a) (Jobs.Plan b) = PlansAgree a b
 JobsAgree (Jobs.Best a) (Jobs.Best b) = BestsAgree a b
 JobsAgree (Jobs.Staff a) (Jobs.Staff b) = StaffsAgree a b
 JobsAgree (Jobs.Mend a) (Jobs.Mend b) = WaysAgree a b
+JobsAgree (Jobs.Fill a) (Jobs.Fill b) = FillsAgree a b
 JobsAgree a b = ⊥
 
 -- the same of whole answers; and trials are of one problem
@@ -180,6 +188,29 @@ BestProofsAreAccepted =
     → IsProofOf found goal g → IsWithinLimit Kinds.Log (log_text P g)
     → IsAnswerOnFiles CheckFree (Bytes (log_text P g)) P a
     → a ≡ Job (Jobs.Check (Checks.Accepted (Some goal) g.named))
+
+-- the text of a roster that `fill` writes for what a file spells meets every rule by `verify`
+abbrev pub FilledRostersMeet : Type 0
+FilledRostersMeet =
+    (file : List ℕ) (P : Instance) (budget : ℕ) (told : Told) (s : Roster) (a : Answer)
+    → SpellsProblem file P
+    → IsAnswerOnFiles (Fill budget) told P (Job (Jobs.Fill (Fills.Found (Filleds.Roster s))))
+    → IsAnswerOnFiles Verify (Bytes (roster_text P s.cells)) P a
+    → a ≡ Job (Jobs.Verify Verifies.Meets)
+
+-- what an accepted fill log shows: its rules and its given cells
+abbrev pub shown_by : FillLog → PassedFill
+shown_by f = record { named = f.log.named; given = f.given }
+
+-- the text of a refutation that `fill` writes is accepted by `check-fill` over the same file, with the rules and the
+-- cells that it names
+abbrev pub FillLogsAreAccepted : Type 0
+FillLogsAreAccepted =
+    (file : List ℕ) (P : Instance) (budget : ℕ) (told : Told) (f : FillLog) (a : Answer)
+    → SpellsProblem file P
+    → IsAnswerOnFiles (Fill budget) told P (Job (Jobs.Fill (Fills.Found (Filleds.NoRoster f))))
+    → IsWithinLimit Kinds.Log (fill_text P f) → IsAnswerOnFiles CheckFill (Bytes (fill_text P f)) P a
+    → a ≡ Job (Jobs.CheckFill (FillChecks.Accepted (shown_by f)))
 
 -- the number of workers makes no difference to what is said of an answer
 abbrev pub WorkersMakeNoDifference : Type 0

@@ -13,16 +13,23 @@ use Rattle.commands.specs.Explain.{explain_text}
 use Rattle.rwsp_run.specs.Commands.{job_text, IsPrintable}
 use Rattle.rwsp_run.specs.Answers.{IsAsked}
 use Rattle.rwsp_run.specs.declared.answer.Refusal.{Refusal}
-use Rattle.rwsp_run.specs.declared.answer.Refusal.TheVariants.{Usage, Horizon, Problem, NotWeekly, TooLong}
+use Rattle.rwsp_run.specs.declared.answer.Refusal.TheVariants.{Usage, Horizon, Problem, Unfit as UnfitFor, TooLong}
+use Rattle.rwsp_run.specs.declared.answer.Unfit.{Unfit}
+use Rattle.rwsp_run.specs.declared.answer.Unfit.TheVariants.{NotWeekly, OpenWordTaken}
 use Rattle.rwsp_run.specs.declared.answer.Answer.{Answer}
 use Rattle.rwsp_run.specs.declared.answer.Answer.TheVariants.{Refused, Trial, Job, Explained}
+
+-- the line of a problem that isn't one for the command
+abbrev pub unfit_line : Unfit → List ℕ
+unfit_line (NotWeekly days) = not_weekly_line days
+unfit_line OpenWordTaken = line (codes "fill refused: name ?")
 
 -- the line of a refusal, which is the same for every problem
 abbrev pub refusal_line : Refusal → List ℕ
 refusal_line Usage = line usage_text
 refusal_line Horizon = line (codes "horizon refused")
 refusal_line (Problem why) = problem_refusal_line why
-refusal_line (NotWeekly days) = not_weekly_line days
+refusal_line (UnfitFor why) = unfit_line why
 refusal_line (TooLong kind) = too_long_line kind
 
 -- the text is the answer's, for the problem that a file spells, or for that of a trial

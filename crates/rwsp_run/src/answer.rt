@@ -5,6 +5,15 @@ ghost use Rattle.rwsp_run.specs.Status.{status_of_stop};
 use crate::jobs::JobAnswer;
 use commands::{ProblemRefusal, SecondKind, Stop, explain, trial};
 
+/// Why a problem isn't one for a command.
+#[derive(Clone, Copy)]
+pub enum Unfit {
+    /// Its week has this number of days, and the command is for weeks of seven.
+    NotWeekly(u32),
+    /// A shift has the name `?`, by which the command leaves a cell open.
+    OpenWordTaken,
+}
+
 /// Why a command's job isn't begun.
 #[derive(Clone, Copy)]
 pub enum Refusal {
@@ -14,8 +23,8 @@ pub enum Refusal {
     Horizon,
     /// The first file is no problem.
     Problem(ProblemRefusal),
-    /// The problem's week has this number of days, and the command is for weeks of seven.
-    NotWeekly(u32),
+    /// The problem isn't one for the command.
+    Unfit(Unfit),
     /// The second file is longer than its kind may be.
     TooLong(SecondKind),
 }

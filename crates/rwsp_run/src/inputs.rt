@@ -1,16 +1,15 @@
 // What a task works on, read.
 ghost use Rattle.std.specs.Prelude.{◌≡◌, IfOk, IfErr, IsErrOf};
 ghost use Rattle.rwsp_io.specs.Told.{Rose, Missing};
-ghost use Rattle.command_line.specs.Commands.{HasProblemDays, HasFilesDays};
 ghost use Rattle.command_line.specs.declared.command.Command.TheVariants.{OnProblem, OnFiles};
 ghost use Rattle.commands.specs.Files.{IsSecond};
 ghost use Rattle.commands.specs.ProblemFile.{IsProblemOf};
-ghost use Rattle.rwsp_run.specs.Commands.{second_kind};
+ghost use Rattle.rwsp_run.specs.Commands.{second_kind, SuitsProblemTask, SuitsFilesTask};
 ghost use Rattle.rwsp_run.specs.Answers.{IsAnswerTo, IsFileFault};
 ghost use Rattle.rwsp_run.specs.declared.answer.Answer.TheVariants.{Refused};
 
 use crate::answer::Refusal;
-use crate::jobs::{has_files_days, has_problem_days, second_kind};
+use crate::jobs::{second_kind, unfit_for_files_task, unfit_for_problem_task};
 use command_line::{FileName, FilesTask, ProblemTask};
 use commands::{Stop, problem_in, second_in};
 use rwsp_io::Shelf;
@@ -32,7 +31,7 @@ pub fn problem_for<S: Shelf>(
     task: &ProblemTask,
 ) -> Result<Result<Problem, Refusal>, Stop>
     ensures problem { IfOk result (λ read. IfOk read (IsProblemOf (S.held shelf.old file.now))) }
-    ensures days { IfOk result (λ read. IfOk read (HasProblemDays task.now)) }
+    ensures fit { IfOk result (λ read. IfOk read (SuitsProblemTask task.now)) }
     ensures refusal { IfOk result (λ read. IfErr read (λ why.
         IsAnswerTo (OnProblem file.now task.now) (S.held shelf.old) (Refused why))) }
     ensures missing { S.held shelf.old file.now ≡ Missing → IsErrOf result Stop.ReadFault }
@@ -43,10 +42,9 @@ pub fn problem_for<S: Shelf>(
         Ok(problem) => problem,
         Err(why) => return Ok(Err(Refusal::Problem(why))),
     };
-    if has_problem_days(task, &problem) {
-        Ok(Ok(problem))
-    } else {
-        Ok(Err(Refusal::NotWeekly(problem.days())))
+    match unfit_for_problem_task(task, &problem) {
+        None => Ok(Ok(problem)),
+        Some(why) => Ok(Err(Refusal::Unfit(why))),
     }
 }
 
@@ -61,7 +59,7 @@ pub fn files_for<S: Shelf>(
 ) -> Result<Result<Files, Refusal>, Stop>
     ensures problem { IfOk result (λ read. IfOk read (λ files.
         IsProblemOf (S.held shelf.old file.now) files.problem)) }
-    ensures days { IfOk result (λ read. IfOk read (λ files. HasFilesDays task.now files.problem)) }
+    ensures fit { IfOk result (λ read. IfOk read (λ files. SuitsFilesTask task.now files.problem)) }
     ensures second { IfOk result (λ read. IfOk read (λ files.
         IsSecond (second_kind task.now) (S.held shelf.old second.now) files.bytes.items)) }
     ensures refusal { IfOk result (λ read. IfErr read (λ why.
@@ -75,8 +73,8 @@ pub fn files_for<S: Shelf>(
         Ok(problem) => problem,
         Err(why) => return Ok(Err(Refusal::Problem(why))),
     };
-    if !has_files_days(task, &problem) {
-        return Ok(Err(Refusal::NotWeekly(problem.days())));
+    if let Some(why) = unfit_for_files_task(task, &problem) {
+        return Ok(Err(Refusal::Unfit(why)));
     }
     let kind = second_kind(task);
     match second_in(alloc, shelf, second.as_str(), kind)? {

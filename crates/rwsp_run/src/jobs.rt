@@ -1,17 +1,19 @@
 // What each task needs, does, prints and ends with: a line each, for the module of the command.
-ghost use Rattle.std.specs.Prelude.{◌≡◌, ◌↔◌, IfOk, IsTrue};
-ghost use Rattle.command_line.specs.Commands.{IsProblemTaskInRange, IsFilesTaskInRange, EndsInTime, HasProblemDays, HasFilesDays};
+ghost use Rattle.std.specs.Prelude.{◌≡◌, IfOk};
+ghost use Rattle.command_line.specs.Commands.{IsProblemTaskInRange, IsFilesTaskInRange, EndsInTime};
 ghost use Rattle.commands.specs.Files.{IsWithinLimit};
-ghost use Rattle.rwsp_run.specs.Commands.{IsProblemAnswer, IsFilesAnswer, IsPrintable, job_text, second_kind};
+ghost use Rattle.rwsp_run.specs.Commands.{IsProblemAnswer, IsFilesAnswer, IsPrintable, job_text, second_kind, SuitsProblemTask, SuitsFilesTask, unfit_by_days, unfit_by_names, unfit_for_problem_task, unfit_for_files_task};
 
+use crate::answer::Unfit;
 use clean_words::Gate;
 use command_line::{FilesTask, ProblemTask};
 use commands::plan::Effort;
 use commands::staff::Sizes;
 use commands::{
-    SecondKind, best, check, check_free, check_staff, crew, ics, mend, on, page, plan, reduce,
-    rest, roster, staff, verify,
+    SecondKind, best, check, check_fill, check_free, check_staff, crew, fill, ics, mend, on, page,
+    plan, reduce, rest, roster, staff, verify,
 };
+use given_cells::is_open_word_taken;
 use made_problems::LeastRest;
 use refutation_log::{BestFound, Found};
 use rwsp_file::print_problem;
@@ -41,6 +43,8 @@ pub enum JobAnswer {
     Ics(ics::Answer),
     On(on::Answer),
     Roster(roster::Answer),
+    Fill(fill::Answer),
+    CheckFill(check_fill::Answer),
 }
 
 /// The kind of the task's second file.
@@ -52,28 +56,53 @@ pub fn second_kind(task: &FilesTask) -> SecondKind
         | FilesTask::Crew { .. }
         | FilesTask::Page
         | FilesTask::Ics { .. }
-        | FilesTask::On { .. } => SecondKind::Roster,
+        | FilesTask::On { .. }
+        | FilesTask::Fill { .. } => SecondKind::Roster,
         _ => SecondKind::Log,
     }
 }
 
-/// Whether the week of the problem has as many days as the task on it asks for.
-pub fn has_problem_days(task: &ProblemTask, problem: &Problem) -> bool
-    ensures { IsTrue result ↔ HasProblemDays task.now problem.now }
+/// Why the problem isn't one for the task on it; None where it is.
+pub fn unfit_for_problem_task(task: &ProblemTask, problem: &Problem) -> Option<Unfit>
+    ensures { result ≡ unfit_for_problem_task task.now problem.now }
 {
     match task {
-        ProblemTask::Best { .. } => problem.days() == DAYS_OF_WEEK,
-        _ => true,
+        ProblemTask::Best { .. } => unfit_by_days(problem),
+        _ => None,
     }
 }
 
-/// Whether the week of the problem has as many days as the task on two files asks for.
-pub fn has_files_days(task: &FilesTask, problem: &Problem) -> bool
-    ensures { IsTrue result ↔ HasFilesDays task.now problem.now }
+/// Why the problem isn't one for the task on two files; None where it is.
+pub fn unfit_for_files_task(task: &FilesTask, problem: &Problem) -> Option<Unfit>
+    ensures { result ≡ unfit_for_files_task task.now problem.now }
 {
     match task {
-        FilesTask::CheckFree => problem.days() == DAYS_OF_WEEK,
-        _ => true,
+        FilesTask::CheckFree => unfit_by_days(problem),
+        FilesTask::Fill { .. } | FilesTask::CheckFill => unfit_by_names(problem),
+        _ => None,
+    }
+}
+
+// Why it isn't one for a task that is for weeks of seven days.
+fn unfit_by_days(problem: &Problem) -> Option<Unfit>
+    ensures { result ≡ unfit_by_days problem.now }
+{
+    let days = problem.days();
+    if days == DAYS_OF_WEEK {
+        None
+    } else {
+        Some(Unfit::NotWeekly(days))
+    }
+}
+
+// Why it isn't one for a task that leaves cells open by the word `?`.
+fn unfit_by_names(problem: &Problem) -> Option<Unfit>
+    ensures { result ≡ unfit_by_names problem.now }
+{
+    if is_open_word_taken(problem) {
+        Some(Unfit::OpenWordTaken)
+    } else {
+        None
     }
 }
 
@@ -86,7 +115,7 @@ pub fn answer_on_problem<R: Threads + Sync, G: Gate>(
     gate: &G,
 ) -> Result<JobAnswer, AllocError>
     requires range { IsProblemTaskInRange task }
-    requires days { HasProblemDays task problem.now }
+    requires fit { SuitsProblemTask task problem.now }
     ensures answer { IfOk result (IsProblemAnswer task problem.now) }
     ensures printable { IfOk result (IsPrintable problem.now) }
 {
@@ -132,7 +161,7 @@ pub fn answer_on_files<R: Threads + Sync, G: Gate>(
 ) -> Result<JobAnswer, AllocError>
     requires range { IsFilesTaskInRange task }
     requires horizon { EndsInTime task }
-    requires days { HasFilesDays task problem.now }
+    requires fit { SuitsFilesTask task problem.now }
     requires short { IsWithinLimit (second_kind task) bytes.items }
     ensures answer { IfOk result (IsFilesAnswer task problem.now bytes.items) }
     ensures printable { IfOk result (IsPrintable problem.now) }
@@ -186,6 +215,14 @@ pub fn answer_on_files<R: Threads + Sync, G: Gate>(
             let answer = roster::job(alloc, problem, &bytes)?;
             Ok(JobAnswer::Roster(answer))
         }
+        FilesTask::Fill { budget } => {
+            let answer = fill::job(alloc, problem, &bytes, budget)?;
+            Ok(JobAnswer::Fill(answer))
+        }
+        FilesTask::CheckFill => {
+            let answer = check_fill::job(alloc, problem, &bytes)?;
+            Ok(JobAnswer::CheckFill(answer))
+        }
     }
 }
 
@@ -210,6 +247,8 @@ pub fn text_of(alloc: Global, problem: &Problem, answer: &JobAnswer) -> Result<V
         JobAnswer::Ics(answer) => ics::text(alloc, problem, answer),
         JobAnswer::On(answer) => on::text(alloc, problem, answer),
         JobAnswer::Roster(answer) => roster::text(alloc, answer),
+        JobAnswer::Fill(answer) => fill::text(alloc, problem, answer),
+        JobAnswer::CheckFill(answer) => check_fill::text(alloc, problem, answer),
     }
 }
 
@@ -236,6 +275,8 @@ impl JobAnswer {
             JobAnswer::Ics(answer) => ics::status(answer),
             JobAnswer::On(answer) => on::status(answer),
             JobAnswer::Roster(answer) => roster::status(answer),
+            JobAnswer::Fill(answer) => fill::status(answer),
+            JobAnswer::CheckFill(answer) => check_fill::status(answer),
         }
     }
 }

@@ -1,5 +1,5 @@
 // Laws of the definitions. Each function's contract is the law.
-ghost use Rattle.rwsp_run.specs.Laws.{AnswersAreOne, TextsAreOne, ProblemsAreAnswered, RefutationsAreAccepted, RostersMeet, ReductionsAreAccepted, StaffTextsAreAccepted, BestRostersAreBest, BestRostersMeet, BestProofsAreAccepted, WorkersMakeNoDifference, RefusalsAreTheReaders};
+ghost use Rattle.rwsp_run.specs.Laws.{AnswersAreOne, TextsAreOne, ProblemsAreAnswered, RefutationsAreAccepted, RostersMeet, ReductionsAreAccepted, StaffTextsAreAccepted, BestRostersAreBest, BestRostersMeet, BestProofsAreAccepted, FilledRostersMeet, FillLogsAreAccepted, WorkersMakeNoDifference, RefusalsAreTheReaders};
 
 /// What is said of each answer fits no other answer, except those that a search is free to choose. So an answer
 /// comes exactly where what is said of it is true: no other can come but want of memory, and a fault that the counts
@@ -58,6 +58,16 @@ pub fn best_rosters_meet()
 /// What `best` writes as a proof is accepted by `check-free` over the same file.
 pub fn best_proofs_are_accepted()
     ensures { BestProofsAreAccepted }
+{}
+
+/// What `fill` writes as a roster meets every rule by `verify` over the same file.
+pub fn filled_rosters_meet()
+    ensures { FilledRostersMeet }
+{}
+
+/// What `fill` writes as a refutation is accepted by `check-fill` over the same file.
+pub fn fill_logs_are_accepted()
+    ensures { FillLogsAreAccepted }
 {}
 
 /// The answer of `check` is the same for every number of workers.

@@ -10,12 +10,12 @@ mod laws;
 mod reply;
 mod top_call;
 
-pub use answer::{Answer, Outcome, Refusal};
+pub use answer::{Answer, Outcome, Refusal, Unfit};
 pub use jobs::JobAnswer;
 pub use laws::{
     answers_are_one, best_proofs_are_accepted, best_rosters_are_best, best_rosters_meet,
-    problems_are_answered, reductions_are_accepted, refusals_are_the_readers,
-    refutations_are_accepted, rosters_meet, staff_texts_are_accepted, texts_are_one,
-    workers_make_no_difference,
+    fill_logs_are_accepted, filled_rosters_meet, problems_are_answered, reductions_are_accepted,
+    refusals_are_the_readers, refutations_are_accepted, rosters_meet, staff_texts_are_accepted,
+    texts_are_one, workers_make_no_difference,
 };
 pub use top_call::run;

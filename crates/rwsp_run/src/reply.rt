@@ -3,12 +3,12 @@ ghost use Rattle.std.specs.Prelude.{◌≡◌, ◌≤◌, IfOk};
 ghost use Rattle.std.specs.String.{string_bytes};
 ghost use Rattle.commands.specs.Trial.{IsTrial, IsTrialText};
 ghost use Rattle.commands.specs.Explain.{explain_text};
-ghost use Rattle.rwsp_run.specs.Texts.{refusal_line};
+ghost use Rattle.rwsp_run.specs.Texts.{refusal_line, unfit_line};
 ghost use Rattle.rwsp_run.specs.Commands.{job_text, IsPrintable};
 ghost use Rattle.rwsp_run.specs.declared.answer.Answer.TheVariants as Answers;
 ghost use Rattle.commands.specs.declared.trial.Answer.{Answer as TrialAnswer};
 
-use crate::answer::{Answer, Refusal};
+use crate::answer::{Answer, Refusal, Unfit};
 use crate::jobs::{JobAnswer, text_of};
 use clean_words::Gate;
 use command_line::usage;
@@ -32,8 +32,18 @@ fn refusal_line(alloc: Global, why: Refusal) -> Result<String, AllocError>
         Refusal::Usage => format!(in alloc; "{}\n", usage()),
         Refusal::Horizon => String::from_str(alloc, "horizon refused\n"),
         Refusal::Problem(why) => problem_refusal_line(alloc, why),
-        Refusal::NotWeekly(days) => not_weekly_line(alloc, days),
+        Refusal::Unfit(why) => unfit_line(alloc, why),
         Refusal::TooLong(kind) => too_long_line(alloc, kind),
+    }
+}
+
+// The line of a problem that isn't one for the command.
+fn unfit_line(alloc: Global, why: Unfit) -> Result<String, AllocError>
+    ensures { IfOk result (λ t. string_bytes t ≡ unfit_line why) }
+{
+    match why {
+        Unfit::NotWeekly(days) => not_weekly_line(alloc, days),
+        Unfit::OpenWordTaken => String::from_str(alloc, "fill refused: name ?\n"),
     }
 }
 

@@ -2,9 +2,9 @@
 ghost use Rattle.std.specs.Prelude.{◌≡◌, ℕ, List, IfOk, IsErrOf};
 ghost use Rattle.std.specs.Io.KnownBytes.{Appends, Keeps};
 ghost use Rattle.rwsp_io.specs.Told.{Rose, Missing};
-ghost use Rattle.command_line.specs.Commands.{IsInRange, IsProblemTaskInRange, IsFilesTaskInRange, HasProblemDays, HasFilesDays, EndsInTime, IsWithinHorizon, ReadsProblem, file_of};
+ghost use Rattle.command_line.specs.Commands.{IsInRange, IsProblemTaskInRange, IsFilesTaskInRange, EndsInTime, IsWithinHorizon, ReadsProblem, file_of};
 ghost use Rattle.commands.specs.Files.{IsWithinLimit};
-ghost use Rattle.rwsp_run.specs.Commands.{IsProblemAnswer, IsFilesAnswer, IsPrintable, job_text, second_kind};
+ghost use Rattle.rwsp_run.specs.Commands.{IsProblemAnswer, IsFilesAnswer, IsPrintable, job_text, second_kind, SuitsProblemTask, SuitsFilesTask};
 ghost use Rattle.rwsp_run.specs.Answers.{IsAnswer, IsAnswerTo, IsAsked, IsFileFault, IsReadFault};
 ghost use Rattle.rwsp_run.specs.Texts.{IsTextOf, IsTextFor, AppendsPrefix};
 ghost use Rattle.rwsp_run.specs.declared.jobs.JobAnswer.{JobAnswer as AnswerOfJob};
@@ -135,7 +135,7 @@ fn reply_on_problem<R: Threads + Sync, G: Gate>(
     gate: &G,
 ) -> Result<Reply, AllocError>
     requires range { IsProblemTaskInRange task }
-    requires days { HasProblemDays task problem }
+    requires fit { SuitsProblemTask task problem }
     ensures { IfOk result (λ r. (a : AnswerOfJob) × (r.answer ≡ Answers.Job a)
         × IsProblemAnswer task problem a × IsPrintable problem a × (r.text.items ≡ job_text problem a)) }
 {
@@ -153,7 +153,7 @@ fn reply_on_files<R: Threads + Sync, G: Gate>(
 ) -> Result<Reply, AllocError>
     requires range { IsFilesTaskInRange task }
     requires horizon { EndsInTime task }
-    requires days { HasFilesDays task files.problem }
+    requires fit { SuitsFilesTask task files.problem }
     requires short { IsWithinLimit (second_kind task) files.bytes.items }
     ensures { IfOk result (λ r. (a : AnswerOfJob) × (r.answer ≡ Answers.Job a)
         × IsFilesAnswer task files.problem files.bytes.items a × IsPrintable files.problem a

@@ -19,6 +19,8 @@ mod propagators_tests;
 #[cfg(test)]
 mod refutation_checker_tests;
 #[cfg(test)]
+mod roster_filler_tests;
+#[cfg(test)]
 mod roster_finder_tests;
 #[cfg(test)]
 mod roster_planner_tests;

@@ -1,3 +1,7 @@
+ghost use Rattle.std.specs.Prelude.{◌≤◌, length};
+ghost use Rattle.rwsp_terms.specs.declared.limits.TheConstants.{LONGEST_FILE};
+
+use given_cells::read_cells;
 use roster_finder::{Patience, RosterFinder};
 use rwsp_model::{Problem, Roster};
 use rwsp_terms::Symbol;
@@ -58,5 +62,31 @@ fn weekends_are_free_where_the_demand_lets_them(rt: HostRuntime) -> Result<(), F
         let found = finder.find(rt.alloc(), free, Patience::Long)?;
         assert!(rt; found.is_some() == is_found, "{free}");
     }
+    Ok(())
+}
+
+// A roster that holds the cells that a text gives, if the text gives some and one is found.
+fn filled(alloc: Global, problem: &Problem, text: &[u8]) -> Result<Option<Roster>, AllocError>
+    requires { length text.now ≤ LONGEST_FILE }
+{
+    let Ok(given) = read_cells(alloc, problem, text) else {
+        return Ok(None);
+    };
+    RosterFinder::new(alloc, problem)?.find_given(alloc, &given, Patience::Long)
+}
+
+// D is asked for in two or three of four weeks on each day: on the first day in all that are given, and in three.
+const FOUR_MONDAYS: &[u8] = b"D ? ? ? ? ? ?\nD ? ? ? ? ? ?\nD ? ? ? ? ? ?\nD ? ? ? ? ? ?\n";
+
+const THREE_MONDAYS: &[u8] = b"D ? ? ? ? ? ?\nD ? ? ? ? ? ?\nD ? ? ? ? ? ?\n? ? ? ? ? ? ?\n";
+
+#[test]
+fn given_cells_are_held_where_a_roster_has_them(rt: HostRuntime) -> Result<(), Fail> {
+    let problem = problem_of(rt.alloc(), MOST_OF_FOUR_WEEKS)?;
+    let roster = filled(rt.alloc(), &problem, THREE_MONDAYS)?.ok_or("no roster")?;
+    for (p, x) in roster.cells().iter().enumerate() {
+        assert!(rt; p % 7 != 0 || (*x == D) == (p < 21), "{p}");
+    }
+    assert!(rt; filled(rt.alloc(), &problem, FOUR_MONDAYS)?.is_none());
     Ok(())
 }

@@ -12,3 +12,6 @@ pub mod Shares
 pub mod Agreeing
 pub mod AllOutcomes
 pub mod Reduced
+mod StillChanges
+mod OneSymbolEach
+mod Single

@@ -1,5 +1,5 @@
 -- How far a search for the nearest number of steps has come.
-use Rattle.std.proofs.Common.{◌≡◌, ℕ, ◌+◌, ◌<◌, ◌≤◌, Bool, true, false, refl, arith}
+use Rattle.std.proofs.Common.{◌≡◌, ℕ, ◌+◌, ◌<◌, ◌≤◌, Bool, true, false, refl, subst, inl, arith}
 use Rattle.std.specs.Prelude.{◌==◌}
 use Rattle.std.proofs.lemmas.Bool.{eqb-true, eqb-false}
 use Rattle.rwsp_terms.specs.Instance.{Instance}
@@ -7,7 +7,7 @@ use Rattle.roster_planner.specs.declared.effort.Effort.{Effort}
 use Rattle.ways_out.specs.declared.change.Change.{Change}
 use Rattle.ways_out.specs.declared.nearest.Reached.{Reached}
 use Rattle.ways_out.specs.Loosened.{loosened, most_steps, IsChange, IsStep}
-use Rattle.ways_out.specs.Helping.{HasRoster, HasNone, IsLeftOpen, IsUnfound, IsNearestIf, HelpsWith, HelpsNever}
+use Rattle.ways_out.specs.Helping.{HasRoster, HasNone, IsLeftOpen, IsUnfound, IsNearestIf, HelpsWith, HelpsNever, IsOpen}
 use Rattle.ways_out.specs.Reached.{HasReached}
 use Rattle.ways_out.proofs.Helping.{none_nearer}
 
@@ -59,3 +59,19 @@ helps_never P change most known all none = λ n step. let few = step.1 in none_n
 
 pub no_steps : (P : Instance) (change : Change) (most : ℕ) → most ≡ most_steps P change → most ≡ 0 → HelpsNever P change
 no_steps P change most all zero = λ n step. let some = step.0 in let few = step.1 in absurd (omega (arith, some, few, all, zero))
+
+-- one step more than the last that gave none
+pub helps_next : (P : Instance) (effort : Effort) (change : Change) (shut n : ℕ) → IsChange P change → n ≡ shut + 1 → n ≤ most_steps P change → HasNone (loosened P change shut) → HasRoster (loosened P change n) → HelpsWith P effort change n true
+helps_next P effort change shut n known is few none roster = record {
+  step = (omega (arith, is), few);
+  roster = roster;
+  nearest = λ m step less. none_nearer P change m shut known (omega (arith, is, less)) none;
+}
+
+-- all steps were left open, and some gave none
+pub open_further : (P : Instance) (effort : Effort) (change : Change) (most shut : ℕ) → IsChange P change → 0 < most → most ≡ most_steps P change → IsLeftOpen (loosened P change most) effort → 1 ≤ shut → HasNone (loosened P change shut) → IsOpen P effort change
+open_further P effort change most shut known some all left le none = record {
+  step = (omega (arith, some, all), omega arith);
+  utmost = subst (λ (n : ℕ). IsLeftOpen (loosened P change n) effort) all left;
+  first = inl (none_nearer P change 1 shut known le none);
+}

@@ -216,7 +216,7 @@ shorter_demand P x j f g (Shift y) = le_same (bounds P (Shift y)).least
 shorter_demand P x j f g Off = le_same P.off.least
 shorter_demand P x j f g Work = le_same P.work.least
 
-easier_demand : (P : Instance) (x j : ℕ) (f g : Bounds → Bounds) (Spared : Rule → Type 0) → 0 < j → ((Spared (Day j) → ⊥) → (b : Bounds) → ((f b).greatest ≤ (g b).greatest) × ((g b).least ≤ (f b).least)) → IsEasierBut (with_demand P x j f) (with_demand P x j g) Spared
+pub easier_demand : (P : Instance) (x j : ℕ) (f g : Bounds → Bounds) (Spared : Rule → Type 0) → 0 < j → ((Spared (Day j) → ⊥) → (b : Bounds) → ((f b).greatest ≤ (g b).greatest) × ((g b).least ≤ (f b).least)) → IsEasierBut (with_demand P x j f) (with_demand P x j g) Spared
 easier_demand P x j f g Spared low eases = record {
   days = refl;
   weeks = refl;

@@ -8,3 +8,4 @@ pub mod Agreement
 pub mod Verdicts
 pub mod Reached
 pub mod Shares
+pub mod Together

@@ -42,6 +42,17 @@ loosened P (HigherDemand j x) n = with_demand P x.number j (raised n)
 loosened P (DroppedPair k) n = record P { pairs = remove P.pairs k }
 loosened P (DroppedTriple k) n = record P { triples = remove P.triples k }
 
+-- one number
+abbrev pub exactly : ℕ → Bounds
+exactly n = record { least = n; greatest = n }
+
+-- the instance with the demand of a change at one number, so many steps from what it was. A change of anything else is
+-- as above
+abbrev pub exact : Instance → Change → ℕ → Instance
+exact P (LowerDemand j x) n = with_demand P x.number j (λ _. exactly ((shift_demand P x.number j).least - n))
+exact P (HigherDemand j x) n = with_demand P x.number j (λ _. exactly ((shift_demand P x.number j).greatest + n))
+exact P change n = loosened P change n
+
 -- a change of something that the instance has
 abbrev pub IsChange : Instance → Change → Type 0
 IsChange P (LongerBlocks c) = IsClass P c

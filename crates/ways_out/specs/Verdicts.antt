@@ -1,12 +1,14 @@
 -- What a plan says of an instance with steps of a change.
-use Rattle.std.specs.Prelude.{ℕ, ◌<◌, ◌≤◌}
+use Rattle.std.specs.Prelude.{◌≡◌, ℕ, ◌<◌, ◌≤◌}
 use Rattle.rwsp_terms.specs.Instance.{Instance}
 use Rattle.roster_planner.specs.declared.effort.Effort.{Effort}
 use Rattle.ways_out.specs.declared.change.Change.{Change}
 use Rattle.ways_out.specs.declared.plans.Verdict.{Verdict}
 use Rattle.ways_out.specs.declared.plans.Verdict.TheVariants.{Enough, Refuted, Open}
-use Rattle.ways_out.specs.Loosened.{loosened}
-use Rattle.ways_out.specs.Helping.{HasRoster, HasNone, IsLeftOpen}
+use Rattle.ways_out.specs.Loosened.{exact, loosened}
+use Rattle.ways_out.specs.declared.numbers.Numbers.{Numbers}
+use Rattle.ways_out.specs.declared.numbers.Numbers.TheVariants.{Decided, Shut}
+use Rattle.ways_out.specs.Helping.{HasRoster, HasNone, IsLeftOpen, IsOutcome}
 
 -- with these steps there is a roster, for which so many are enough, more than a number that is given; or there is none,
 -- or the plan has spent its budget
@@ -14,3 +16,14 @@ abbrev pub IsVerdict : Instance → Effort → Change → (low steps : ℕ) → 
 IsVerdict P effort change low steps (Enough n) = (low < n) × (n ≤ steps) × HasRoster (loosened P change n)
 IsVerdict P effort change low steps Refuted = HasNone (loosened P change steps)
 IsVerdict P effort change low steps Open = IsLeftOpen (loosened P change steps) effort
+
+-- with these steps there is a roster; or with the demand at their last number there is none; or neither was found
+abbrev pub IsNumberVerdict : Instance → Change → ℕ → Verdict → Type 0
+IsNumberVerdict P change steps (Enough n) = (n ≡ steps) × HasRoster (loosened P change n)
+IsNumberVerdict P change steps Refuted = HasNone (exact P change steps)
+IsNumberVerdict P change steps Open = Unit {0}
+
+-- the outcome of the change, or with so many steps there is no roster
+abbrev pub SaysOfNumbers : Instance → Effort → Change → Numbers → Type 0
+SaysOfNumbers P effort change (Decided outcome) = IsOutcome P effort change outcome
+SaysOfNumbers P effort change (Shut n) = HasNone (loosened P change n)

@@ -10,8 +10,8 @@ use roster_checker::first_broken;
 use rwsp_model::{Problem, Roster};
 use std::alloc::{AllocError, Global};
 
-// Whether the roster meets every rule of the problem with so many steps of a change.
-fn is_enough(
+/// Whether the roster meets every rule of the problem with so many steps of a change.
+pub fn is_enough(
     alloc: Global,
     problem: &Problem,
     change: Change,

@@ -8,10 +8,13 @@ mod laws;
 mod listed;
 mod loosening;
 mod nearest;
+mod numbers;
 mod parts;
 mod plans;
 mod print;
+mod shown;
 mod side_by_side;
+mod together;
 mod ways;
 
 pub use answer::WaysOut;

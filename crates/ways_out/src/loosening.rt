@@ -4,7 +4,7 @@ ghost use Rattle.rwsp_terms.specs.declared.limits.TheConstants.{GREATEST_BOUND, 
 ghost use Rattle.rwsp_terms.specs.Instance.{IsShift, IsDay, IsClass};
 ghost use Rattle.rwsp_model.specs.Parts.{instance_of};
 ghost use Rattle.rwsp_model.specs.Validity.{AreSmall, IsSmallRange};
-ghost use Rattle.ways_out.specs.Loosened.{loosened, most_steps, with_bounds, with_demand, IsChange, IsStep};
+ghost use Rattle.ways_out.specs.Loosened.{exact, loosened, most_steps, with_bounds, with_demand, IsChange, IsStep};
 
 use crate::change::Change;
 use crate::parts::{demand_of, demand_ranges, parts_of};
@@ -164,5 +164,52 @@ pub fn loosen(
         }
         Change::DroppedPair(place) => without_pair(alloc, problem, place),
         Change::DroppedTriple(place) => without_triple(alloc, problem, place),
+    }
+}
+
+/// The problem with the demand of a change at one number, so many steps from what it was. A change of anything else is
+/// made as by `loosen`.
+pub fn at_number(
+    alloc: Global,
+    problem: &Problem,
+    change: Change,
+    steps: u32,
+) -> Result<Problem, AllocError>
+    requires change { IsChange problem.now change }
+    requires step { IsStep problem.now change steps }
+    ensures { IfOk result (λ P. P ≡ exact problem.now change steps) }
+{
+    problem.prove_limits();
+    match change {
+        Change::LowerDemand { day, shift } => {
+            let number = demand_of(problem, shift, day).least - steps;
+            with_demand(
+                alloc,
+                problem,
+                shift,
+                day,
+                Bounds {
+                    least: number,
+                    greatest: number,
+                },
+            )
+        }
+        Change::HigherDemand { day, shift } => {
+            let number = demand_of(problem, shift, day).greatest + steps;
+            with_demand(
+                alloc,
+                problem,
+                shift,
+                day,
+                Bounds {
+                    least: number,
+                    greatest: number,
+                },
+            )
+        }
+        Change::LongerBlocks(_)
+        | Change::ShorterBlocks(_)
+        | Change::DroppedPair(_)
+        | Change::DroppedTriple(_) => loosen(alloc, problem, change, steps),
     }
 }

@@ -1,12 +1,13 @@
 // The nearest number of steps of a change that gives a problem a roster.
-ghost use Rattle.std.specs.Prelude.{◌≡◌, ◌<◌, ◌≤◌, IfOk};
+ghost use Rattle.std.specs.Prelude.{◌≡◌, ◌<◌, ◌≤◌, IfOk, IfSome};
 ghost use Rattle.rwsp_terms.specs.declared.limits.TheConstants.{GREATEST_BUDGET};
 ghost use Rattle.ways_out.specs.Loosened.{loosened, most_steps, IsChange, IsStep};
-ghost use Rattle.ways_out.specs.Helping.{HasRoster, IsLeftOpen, IsOutcome, IsUnfound};
+ghost use Rattle.ways_out.specs.Helping.{HasNone, HasRoster, IsLeftOpen, IsOutcome, IsUnfound};
 ghost use Rattle.ways_out.specs.Reached.{HasReached};
 
 use crate::change::{Change, Outcome};
 use crate::loosening::most_steps;
+use crate::numbers::{outcome_by_few_lines, outcome_by_numbers};
 use crate::plans::{Asked, Verdict, judge};
 use clean_words::Gate;
 use std::alloc::{AllocError, Global};
@@ -93,9 +94,9 @@ fn nearest_of<R: Threads + Sync, G: Gate>(
     narrow(rt, alloc, asked, change, reached, found)
 }
 
-// The outcome where the plan with all steps is left open: a bound of many days is that of no short rule, and what is
-// nearer may be easier to decide. So one step is planned.
-fn outcome_by_first<R: Threads + Sync, G: Gate>(
+/// The outcome where the plan with all steps is left open: a bound of many days is that of no short rule, and what is
+/// nearer may be easier to decide. So one step is planned.
+pub fn outcome_by_first<R: Threads + Sync, G: Gate>(
     rt: &R,
     alloc: Global,
     asked: &Asked<'_, G>,
@@ -120,9 +121,55 @@ fn outcome_by_first<R: Threads + Sync, G: Gate>(
     }
 }
 
+// The outcome where the plan with all steps is left open.
+fn outcome_of_open<R: Threads + Sync, G: Gate>(
+    rt: &R,
+    alloc: Global,
+    asked: &Asked<'_, G>,
+    change: Change,
+    most: u32,
+) -> Result<Outcome, AllocError>
+    requires change { IsChange asked.now.problem.now change }
+    requires budget { (1 ≤ asked.now.effort.budget) × (asked.now.effort.budget ≤ GREATEST_BUDGET) }
+    requires most { (0 < most) × (most ≡ most_steps asked.now.problem.now change) }
+    requires open { IsLeftOpen (loosened asked.now.problem.now change most) asked.now.effort }
+    requires none { HasNone asked.now.problem.now }
+    ensures { IfOk result (IsOutcome asked.now.problem.now asked.now.effort change) }
+{
+    match change {
+        Change::LowerDemand { .. } | Change::HigherDemand { .. } => {
+            outcome_by_numbers(rt, alloc, asked, change, most)
+        }
+        _ => outcome_by_first(rt, alloc, asked, change, most),
+    }
+}
+
+// The outcome of a change of a demand that short logs decide.
+fn soon_decided<R: Threads + Sync, G: Gate>(
+    rt: &R,
+    alloc: Global,
+    asked: &Asked<'_, G>,
+    change: Change,
+    most: u32,
+) -> Result<Option<Outcome>, AllocError>
+    requires change { IsChange asked.now.problem.now change }
+    requires budget { (1 ≤ asked.now.effort.budget) × (asked.now.effort.budget ≤ GREATEST_BUDGET) }
+    requires most { most ≡ most_steps asked.now.problem.now change }
+    requires none { HasNone asked.now.problem.now }
+    ensures { IfOk result (λ found. IfSome found (IsOutcome asked.now.problem.now asked.now.effort change)) }
+{
+    match change {
+        Change::LowerDemand { .. } | Change::HigherDemand { .. } => {
+            outcome_by_few_lines(rt, alloc, asked, change, most)
+        }
+        _ => Ok(None),
+    }
+}
+
 /// The outcome of a change. All steps are planned first: where they give no roster, none do, and one plan says so. Then
 /// one step is planned, and where there is a roster, the nearest number of steps is looked for by halves between. The
-/// plans grow with the logarithm of the steps that the first roster needs.
+/// plans grow with the logarithm of the steps that the first roster needs; where all steps are left open, each number
+/// of a demand is planned.
 pub fn outcome_of<R: Threads + Sync, G: Gate>(
     rt: &R,
     alloc: Global,
@@ -131,15 +178,19 @@ pub fn outcome_of<R: Threads + Sync, G: Gate>(
 ) -> Result<Outcome, AllocError>
     requires change { IsChange asked.now.problem.now change }
     requires budget { (1 ≤ asked.now.effort.budget) × (asked.now.effort.budget ≤ GREATEST_BUDGET) }
+    requires none { HasNone asked.now.problem.now }
     ensures { IfOk result (IsOutcome asked.now.problem.now asked.now.effort change) }
 {
     let most = most_steps(asked.problem, change);
     if most == 0 {
         return Ok(Outcome::Shut);
     }
+    if let Some(outcome) = soon_decided(rt, alloc, asked, change, most)? {
+        return Ok(outcome);
+    }
     match judge(rt, alloc, asked, change, 0, most)? {
         Verdict::Enough(steps) => nearest_of(rt, alloc, asked, change, steps),
         Verdict::Refuted => Ok(Outcome::Shut),
-        Verdict::Open => outcome_by_first(rt, alloc, asked, change, most),
+        Verdict::Open => outcome_of_open(rt, alloc, asked, change, most),
     }
 }

@@ -16,6 +16,9 @@ use rwsp_model::Problem;
 use std::alloc::{AllocError, Global};
 use std::thread::Threads;
 
+/// A log with fewer lines than this is short.
+pub const FEW_LINES: u32 = 64;
+
 /// What all plans of changes have in common: the problem that is changed, the effort of each plan, and the gate before
 /// its workers.
 #[derive(Drop)]
@@ -23,6 +26,8 @@ pub struct Asked<'a, G> {
     pub problem: &'a Problem,
     pub effort: Effort,
     pub gate: &'a G,
+    /// Whether the problem's own log is short. If so, single numbers are likely to be refuted by short logs too.
+    pub is_short: bool,
 }
 
 /// What a plan says of a problem with so many steps of a change.

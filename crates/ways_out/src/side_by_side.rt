@@ -3,13 +3,15 @@ ghost use Rattle.std.specs.Prelude.{◌<◌, ◌≤◌, length, All, IfOk, IfSom
 ghost use Rattle.std.specs.List.{AllZip};
 ghost use Rattle.rwsp_terms.specs.declared.limits.TheConstants.{GREATEST_BUDGET, MOST_WORKERS};
 ghost use Rattle.ways_out.specs.Loosened.{IsChange};
-ghost use Rattle.ways_out.specs.Helping.{Refutes, IsOutcome};
+ghost use Rattle.ways_out.specs.Helping.{HasNone, Refutes, IsOutcome};
 ghost use Rattle.ways_out.specs.Shares.{IsOutcomeAt, IsShare, AreShares};
 
 use crate::change::{Change, Outcome};
 use crate::listed::changed_rule;
 use crate::nearest::outcome_of;
 use crate::plans::Asked;
+use crate::shown::is_shown;
+use crate::together::Shown;
 use clean_words::Gate;
 use rwsp_model::number_of;
 use rwsp_terms::RuleList;
@@ -25,11 +27,30 @@ pub struct Placed {
     pub outcome: Outcome,
 }
 
-/// A problem without a roster, and the rules that show it.
+/// A problem without a roster, the rules that show it, and the groups of changes that were refuted together.
 #[derive(Drop)]
 pub struct Refuted<'a, G> {
     pub asked: Asked<'a, G>,
     pub named: &'a RuleList,
+    pub shown: &'a [Shown],
+}
+
+// The outcome of a change that a log of a group refutes, or which is planned.
+fn outcome_by_group<R: Threads + Sync, G: Gate>(
+    rt: &R,
+    alloc: Global,
+    refuted: &Refuted<'_, G>,
+    change: Change,
+) -> Result<Outcome, AllocError>
+    requires change { IsChange refuted.now.asked.problem.now change }
+    requires none { HasNone refuted.now.asked.problem.now }
+    requires budget { (1 ≤ refuted.now.asked.effort.budget) × (refuted.now.asked.effort.budget ≤ GREATEST_BUDGET) }
+    ensures { IfOk result (IsOutcome refuted.now.asked.problem.now refuted.now.asked.effort change) }
+{
+    if is_shown(alloc, refuted.asked.problem, refuted.shown, change)? {
+        return Ok(Outcome::Shut);
+    }
+    outcome_of(rt, alloc, &refuted.asked, change)
 }
 
 // The outcome of a change. One of a rule that isn't named needs no plan: with the others as they are there is no
@@ -47,7 +68,7 @@ fn outcome_by_rule<R: Threads + Sync, G: Gate>(
 {
     let number = number_of(refuted.asked.problem, changed_rule(change));
     if refuted.named.holds(number) {
-        outcome_of(rt, alloc, &refuted.asked, change)
+        outcome_by_group(rt, alloc, refuted, change)
     } else {
         Ok(Outcome::Shut)
     }

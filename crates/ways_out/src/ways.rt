@@ -6,8 +6,9 @@ ghost use Rattle.ways_out.specs.Answers.{AreWaysOut, AreWaysOf};
 
 use crate::answer::WaysOut;
 use crate::listed::changes_in;
-use crate::plans::{Asked, plan_within};
+use crate::plans::{Asked, FEW_LINES, plan_within};
 use crate::side_by_side::{Refuted, outcomes_of};
+use crate::together::shown_together;
 use clean_words::Gate;
 use refutation_log::{Found, Log};
 use roster_planner::Effort;
@@ -47,9 +48,11 @@ fn outcomes_by_log<R: Threads + Sync, G: Gate>(
     ensures own { IfOk result (AreWaysOf asked.entry.problem.now) }
 {
     let changes = changes_in(alloc, asked.problem)?;
+    let shown = shown_together(rt, alloc, &asked, log, &changes)?;
     let refuted = Refuted {
         asked,
         named: log.named(),
+        shown: &shown,
     };
     let outcomes = outcomes_of(rt, alloc, &refuted, &changes, workers)?;
     Ok(WaysOut::Changes(outcomes))
@@ -83,6 +86,7 @@ pub fn ways_out<R: Threads + Sync, G: Gate>(
         problem,
         effort,
         gate,
+        is_short: log.lines().len() < FEW_LINES as usize,
     };
     let ways = outcomes_by_log(rt, alloc, asked, &log, workers);
     drop(log);

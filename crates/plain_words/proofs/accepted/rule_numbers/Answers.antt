@@ -1,4 +1,4 @@
-use Rattle.std.proofs.Common.{◌<◌, ◌≤◌, ◌+◌, arith, ap, ◌∙◌, subst, sym}
+use Rattle.std.proofs.Common.{◌<◌, ◌≤◌, arith, ap, ◌∙◌, subst, sym}
 use Rattle.std.specs.Prelude.{All}
 use Rattle.std.proofs.lemmas.List.Elements.{All-push}
 use Rattle.rwsp_text.specs.Fields.{rules_at, rules_front}

@@ -1,4 +1,4 @@
-use Rattle.std.proofs.Common.{◌≡◌, ◌+◌, ◌*◌, ◌++◌, ap, ◌∙◌}
+use Rattle.std.proofs.Common.{◌++◌, ap, ◌∙◌}
 use Rattle.std.specs.Prelude.{codes}
 use Rattle.rwsp_terms.specs.Instance.{cells}
 use Rattle.rwsp_terms.specs.declared.data.Class.TheVariants.{Off, Work}

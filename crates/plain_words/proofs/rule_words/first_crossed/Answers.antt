@@ -1,4 +1,4 @@
-use Rattle.std.proofs.Common.{◌≡◌, ◌+◌, ◌<◌, ℕ, ap, sym, ◌∙◌, arith, below_more, true, false}
+use Rattle.std.proofs.Common.{◌≡◌, ◌+◌, ◌<◌, ap, sym, ◌∙◌, arith, below_more}
 use Rattle.std.specs.Prelude.{Some}
 use Rattle.rwsp_terms.specs.Instance.{shift_count}
 use Rattle.plain_words.specs.RuleWords.{is_crossed}

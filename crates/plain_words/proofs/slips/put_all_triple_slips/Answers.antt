@@ -1,4 +1,4 @@
-use Rattle.std.proofs.Common.{◌+◌, arith}
+use Rattle.std.proofs.Common.{arith}
 use Rattle.plain_words.specs.Sentences.{triple_slips_at}
 use Rattle.plain_words.specs.SentenceText.{sentence_line}
 use Rattle.plain_words.proofs.Pieces.{list_more}

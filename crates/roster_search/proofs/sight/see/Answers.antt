@@ -8,7 +8,7 @@ use Rattle.rwsp_terms.specs.Instance.{Instance}
 use Rattle.refutation_terms.specs.declared.lines.Line.{Line}
 use Rattle.domain_store.specs.Store.{Store}
 use Rattle.roster_search.specs.declared.sight.Sight.{Sight}
-use Rattle.roster_search.specs.declared.sight.Sight.TheVariants.{Leaf, Roster, Cut, Quiet}
+use Rattle.roster_search.specs.declared.sight.Sight.TheVariants.{Leaf, Cut, Quiet}
 use Rattle.roster_search.specs.declared.progress.Progress.{Progress}
 use Rattle.roster_search.specs.Guides.{IsGiven, IsSight}
 use Rattle.roster_search.specs.Written.{IsSearching}
@@ -26,7 +26,6 @@ tells_not A test same failed a = let clash : true ≡ false = sym (same.1 a) ∙
 
 given_is_seen : (P : Instance) (goal : Option ℕ) (leaves : Line → Type 0) (spent : ℕ → Symbol → Type 0) (S : Store) (sight : Sight) → IsGiven P goal S sight → IsSight P goal leaves spent S sight
 given_is_seen P goal leaves spent S (Leaf line) given = given
-given_is_seen P goal leaves spent S (Roster s) given = given
 given_is_seen P goal leaves spent S (Cut p x line) given = absurd given
 given_is_seen P goal leaves spent S Quiet given = absurd given
 
@@ -45,7 +44,7 @@ seen_now P goal served lines symbols v w guided S seen r same by h given =
 
 -- the propagator serves and tracks what it did
 searching_still : {A : Type 0} (P : Instance) (served : A → Instance → Type 0) (tracked : A → Store → Type 0) (lines : A → Leaves) (symbols : A → Spent) (v w : A) (s : Progress)
-    → IsSearching P served tracked lines symbols v s → IsSame served lines symbols v w → ((S : Store) → tracked v S ↔ tracked w S) → IsSearching P served tracked lines symbols w s
+    → IsSearching P served tracked lines v s → IsSame served lines symbols v w → ((S : Store) → tracked v S ↔ tracked w S) → IsSearching P served tracked lines w s
 searching_still P served tracked lines symbols v w s h same tracks =
     searching_on P served tracked lines symbols v w s s h.serves h.plain h.unweighed same refl ((tracks s.walk.store).0 h.tracks) h.under_way
 
@@ -69,7 +68,7 @@ returns-in-Cut-clause-sight g c =
     let w = c.look.new.self in
     let look = rw c.in-Cut.is at (c.in_ok-line.ensures.look P c.requires.searching.serves) in
     let not_few = tells_not _ c.is_short_of.result c.is_short_of.ensures c.if-is_short_of.false in
-    let IsSeen : Store → Type 0 = λ T. IfOk c.given_or.result (IsSight P o (A.leaves w T) (A.spent w T) T) in
+    let IsSeen : Store → Type 0 = λ T. IfOk c.leaf_or.result (IsSight P o (A.leaves w T) (A.spent w T) T) in
     subst IsSeen c.domains-doms.ensures.value
-    (seen_now P o A.serves A.leaves A.spent c.args.propagator.now w (g.G.Guide.serves c.args.guide.now) c.domains-doms.result.now (Cut c.in-Cut.p c.in-Cut.x c.in-Cut.line) c.given_or.result
-    c.look.ensures.same c.requires.guide ((look.0, not_few), look.1) c.given_or.ensures.sight)
+    (seen_now P o A.serves A.leaves A.spent c.args.propagator.now w (g.G.Guide.serves c.args.guide.now) c.domains-doms.result.now (Cut c.in-Cut.p c.in-Cut.x c.in-Cut.line) c.leaf_or.result
+    c.look.ensures.same c.requires.guide ((look.0, not_few), look.1) c.leaf_or.ensures.sight)

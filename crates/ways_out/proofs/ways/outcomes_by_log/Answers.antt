@@ -19,11 +19,11 @@ returns-clause-says g c =
     let P = c.args.asked.problem.now in
     let log = c.args.log.now in (
       none_meets P log.named (log_refutes P log c.requires.passes c.requires.no_goal),
-      subst (λ (cs : List Change). AllZip (IsOutcome P c.args.asked.effort) cs c.in_ok-outcomes.outcomes.items) (c.deref.ensures.value ∙ c.in_ok-changes.ensures.value) c.in_ok-outcomes.ensures,
+      subst (λ (cs : List Change). AllZip (IsOutcome P c.args.asked.effort) cs c.in_ok-outcomes.outcomes.items) (c.deref-3.ensures.value ∙ c.in_ok-changes.ensures.value) c.in_ok-outcomes.ensures,
     )
 
 pub returns-clause-own : goal.returns-clause-own
 returns-clause-own g c =
     let P = c.args.asked.problem.now in
     zip_weaker (IsOutcome P c.args.asked.effort) (HasSteps P) (changes P) c.in_ok-outcomes.outcomes.items (outcome_steps P c.args.asked.effort)
-    (subst (λ (cs : List Change). AllZip (IsOutcome P c.args.asked.effort) cs c.in_ok-outcomes.outcomes.items) (c.deref.ensures.value ∙ c.in_ok-changes.ensures.value) c.in_ok-outcomes.ensures)
+    (subst (λ (cs : List Change). AllZip (IsOutcome P c.args.asked.effort) cs c.in_ok-outcomes.outcomes.items) (c.deref-3.ensures.value ∙ c.in_ok-changes.ensures.value) c.in_ok-outcomes.ensures)

@@ -2,7 +2,7 @@ use Rattle.std.proofs.Common.{subst}
 use Rattle.domain_store.specs.Store.{has_domain}
 use Rattle.refutation_checker.specs.LineVerdicts.{PlainCause}
 use Rattle.refutation_checker.specs.LineTexts.{Judging}
-use Rattle.refutation_checker.proofs.Judging.{plain_is_cause}
+use Rattle.refutation_checker.proofs.LineJudging.{plain_is_cause}
 use Rattle.refutation_checker.proofs.judge.Judge.line_refusal.Goals as goal
 
 pub returns-in-Some-clause-cause : goal.returns-in-Some-clause-cause

@@ -8,7 +8,7 @@ use Rattle.refutation_terms.specs.Log.{GoalFits}
 use Rattle.domain_store.specs.Store.{Store, IsStore, HasDomains, has_domain}
 use Rattle.refutation_checker.specs.LineVerdicts.{IsSoundLine}
 use Rattle.refutation_checker.specs.LineTexts.{Judging}
-use Rattle.refutation_checker.proofs.Judging.{same_cause, same_sound, may_step}
+use Rattle.refutation_checker.proofs.LineJudging.{same_cause, same_sound, may_step}
 use Rattle.refutation_checker.proofs.judge.Judge.pass.Goals as goal
 use Rattle.domain_store.proofs.Idle.{positions_of}
 use Rattle.rwsp_model.proofs.Limits.{some_cells}

@@ -3,7 +3,7 @@ use Rattle.std.proofs.lemmas.Bool.{false≢true}
 use Rattle.refutation_terms.specs.Verdict.{Spells}
 use Rattle.refutation_terms.proofs.LineTables.{spelled_lines_fit}
 use Rattle.refutation_checker.specs.LineTexts.{Judging}
-use Rattle.refutation_checker.proofs.Judging.{read_next, refused_next}
+use Rattle.refutation_checker.proofs.LineJudging.{read_next, refused_next}
 use Rattle.refutation_checker.proofs.judge.Judge.read.Goals as goal
 
 pub pass-requires-clause-line : goal.pass-requires-clause-line

@@ -1,0 +1,74 @@
+// Whether a fill log passes.
+ghost use Rattle.std.specs.Prelude.{◌≡◌, ◌++◌, IfOk, OnOk};
+ghost use Rattle.given_cells.specs.GivenCells.{AreGivenIn};
+ghost use Rattle.commands.specs.Files.{IsWithinLimit};
+ghost use Rattle.commands.specs.CheckFill.{IsCheckedFill, IsCheckedFillOf, accepted_text, check_fill_text, check_fill_status};
+ghost use Rattle.commands.specs.declared.second_file.SecondKind.TheVariants as Kinds;
+
+use crate::log_refusal::log_refusal_line;
+use crate::put::put_numbers;
+use fill_checker::{PassedFill, check_fill};
+use given_cells::put_cells_line;
+use refutation_log::LogRefusal;
+use rwsp_model::{Fail, Problem};
+use std::alloc::{AllocError, Global};
+
+/// Whether a fill log passes.
+#[derive(Drop)]
+pub enum Answer {
+    /// It does: no roster that meets these rules holds these cells.
+    Accepted(PassedFill),
+    /// It doesn't: its first line with a cause, and the lowest cause there.
+    Refused(LogRefusal),
+}
+
+/// The answer to the bytes of a fill log.
+pub fn job(alloc: Global, problem: &Problem, bytes: &[u8]) -> Result<Answer, AllocError>
+    requires { IsWithinLimit Kinds.Log bytes.now }
+    ensures says { IfOk result (IsCheckedFill problem.now bytes.now) }
+    ensures own { IfOk result (IsCheckedFillOf problem.now) }
+{
+    match check_fill(alloc, problem, bytes) {
+        Ok(passed) => Ok(Answer::Accepted(passed)),
+        Err(Fail::Refused(why)) => Ok(Answer::Refused(why)),
+        Err(Fail::Memory) => Err(AllocError),
+    }
+}
+
+/// The line of the answer.
+pub fn text(alloc: Global, problem: &Problem, answer: &Answer) -> Result<Vec<u8>, AllocError>
+    requires { IsCheckedFillOf problem.now answer.now }
+    ensures { IfOk result (λ v. v.items ≡ check_fill_text problem.now answer.now) }
+{
+    match answer {
+        Answer::Accepted(passed) => accepted_line(alloc, problem, passed),
+        Answer::Refused(why) => log_refusal_line(alloc, problem, why),
+    }
+}
+
+// The line that names the rules and the cells of an accepted fill log.
+fn accepted_line(
+    alloc: Global,
+    problem: &Problem,
+    passed: &PassedFill,
+) -> Result<Vec<u8>, AllocError>
+    requires { AreGivenIn problem.now passed.now.given }
+    ensures { IfOk result (λ v. v.items ≡ accepted_text problem.now passed.now) }
+{
+    let mut out = Vec::new(alloc);
+    out.extend_from_slice(b"accepted: rules".as_slice())?;
+    put_numbers(&mut out, passed.named.numbers())?;
+    out.push(b' ')?;
+    put_cells_line(&mut out, problem, &passed.given)?;
+    Ok(out)
+}
+
+/// The status of the answer.
+pub fn status(answer: &Answer) -> u8
+    ensures { result ≡ check_fill_status answer.now }
+{
+    match answer {
+        Answer::Accepted(_) => 0,
+        Answer::Refused(_) => 5,
+    }
+}

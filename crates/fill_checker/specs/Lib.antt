@@ -1,0 +1,3 @@
+pub mod FillVerdicts
+pub mod Laws
+pub mod Passed

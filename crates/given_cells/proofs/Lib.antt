@@ -1,0 +1,13 @@
+pub mod Rising
+pub mod CellsRead
+pub mod CellsSpelled
+pub mod FillPrinted
+pub mod CellWords
+pub mod FillLines
+pub mod FillTexts
+pub mod GivenDomains
+pub mod CellSplits
+pub mod LeftCells
+pub mod GivenLaws
+pub mod FillFronts
+pub mod FillUnique

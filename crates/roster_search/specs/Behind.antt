@@ -1,0 +1,41 @@
+-- What a search behind given cells has written, and what it finds.
+use Rattle.std.specs.Prelude.{◌≡◌, ◌⊎◌, ℕ, ◌-◌, ◌<◌, ◌≤◌, List, [], ◌++◌, length, Option}
+use Rattle.rwsp_terms.specs.Instance.{Instance}
+use Rattle.rwsp_model.specs.Schedule.{Schedule}
+use Rattle.refutation_terms.specs.declared.lines.Line.{Line}
+use Rattle.refutation_terms.specs.declared.lines.Opening.TheVariants.{Full}
+use Rattle.refutation_terms.specs.Tree.{after_trees}
+use Rattle.refutation_terms.specs.Log.{size}
+use Rattle.domain_store.specs.States.{open_trees}
+use Rattle.given_cells.specs.declared.cells.GivenCell.{GivenCell}
+use Rattle.given_cells.specs.declared.filled.Filled.{Filled}
+use Rattle.given_cells.specs.declared.filled.Filled.TheVariants.{Roster, NoRoster, Undecided}
+use Rattle.given_cells.specs.GivenCells.{AreGivenIn, HoldsCells, IsFilled}
+use Rattle.given_cells.specs.FillLog.{given_splits, FillPasses, IsFillSpent}
+use Rattle.roster_search.specs.declared.progress.Progress.{Progress}
+use Rattle.roster_search.specs.Guides.{IsWantedRoster}
+
+-- the splits on the given cells, and behind them the lines of one tree, beside which as many trees are open as cells
+-- are given. Without a turn, where any are given
+pub record IsBehind (P : Instance) (given : List GivenCell) (s : Progress) : Type 0 where
+  pub are_given : AreGivenIn P given
+  pub no_turn : (s.aim.opening ≡ Full) ⊎ (given ≡ [])
+  pub own : List Line
+  pub lines : s.lines.items ≡ given_splits given ++ own
+  pub many : length given ≤ open_trees s.walk
+  pub trees : (rest : List Line) → after_trees 1 (own ++ rest) ≡ after_trees (open_trees s.walk - length given) rest
+
+-- the tree behind the first n splits isn't whole, and the budget has room for one more line
+abbrev pub HasRoomBehind : ℕ → Progress → Type 0
+HasRoomBehind n s = (n < open_trees s.walk) × (length s.lines.items < s.aim.budget)
+
+-- a roster as is wanted that holds the given cells
+abbrev pub IsWantedBehind : Instance → Option ℕ → List GivenCell → Schedule → Type 0
+IsWantedBehind P goal given s = IsWantedRoster P goal s × HoldsCells given s.cells
+
+-- a roster that meets every rule and holds the given cells; or a fill log of all these cells that passes, of at most the
+-- budget's size; or one that has spent the budget
+abbrev pub IsFoundBehind : Instance → List GivenCell → ℕ → Filled → Type 0
+IsFoundBehind P given budget (Roster s) = (s.days ≡ P.days) × IsFilled P given s.cells
+IsFoundBehind P given budget (NoRoster f) = FillPasses P f × (size f.log ≤ budget) × (f.given ≡ given)
+IsFoundBehind P given budget (Undecided f) = IsFillSpent P f budget × (f.given ≡ given)
