@@ -12,19 +12,19 @@ use Rattle.refutation_terms.specs.declared.lines.LogRefusal.TheVariants as Refus
 use Rattle.refutation_terms.specs.Tree.{lines_leave}
 use Rattle.refutation_terms.proofs.Tests.{left_of}
 use Rattle.refutation_log.specs.RefusalText.{HasSymbols}
-use Rattle.given_cells.specs.declared.cells.GivenCell.{GivenCell}
-use Rattle.given_cells.specs.declared.filled.Filled.{Filled}
-use Rattle.given_cells.specs.declared.filled.Filled.TheVariants.{Roster, NoRoster, Undecided}
-use Rattle.given_cells.specs.GivenCells.{HoldsCells, IsFilled}
-use Rattle.given_cells.specs.FillLog.{FillLog, cells_leave, given_domains_at, given_opening, IsFillOf, FillPasses}
-use Rattle.given_cells.specs.FillReading.{FillFits}
-use Rattle.given_cells.specs.FillText.{fill_text, CauseBehindFill, FillFront, Start, Versioned, BeforeCells, Reading, FillCause, IsFillRefused}
-use Rattle.given_cells.specs.Filled.{NamesOnlyGiven, IsFilledWith}
-use Rattle.given_cells.proofs.GivenLaws.{fills_leave_none}
-use Rattle.given_cells.proofs.CellsSpelled.{one_list, refused_gives_none}
-use Rattle.fill_checker.specs.Passed.{IsPassedFill}
-use Rattle.fill_checker.specs.declared.verdict.PassedFill.{PassedFill}
-use Rattle.given_cells.proofs.FillUnique.{fill_verdict_unique}
+use Rattle.refutation_log.specs.declared.cells.GivenCell.{GivenCell}
+use Rattle.refutation_log.specs.declared.filled.Filled.{Filled}
+use Rattle.refutation_log.specs.declared.filled.Filled.TheVariants.{Roster, NoRoster, Undecided}
+use Rattle.refutation_log.specs.GivenCells.{HoldsCells, IsFilled}
+use Rattle.refutation_log.specs.FillLog.{FillLog, cells_leave, given_domains_at, given_opening, IsFillOf, FillPasses}
+use Rattle.refutation_log.specs.FillReading.{FillFits}
+use Rattle.refutation_log.specs.FillText.{fill_text, CauseBehindFill, FillFront, Start, Versioned, BeforeCells, Reading, FillCause, IsFillRefused}
+use Rattle.refutation_log.specs.Filled.{NamesOnlyGiven, IsFilledWith}
+use Rattle.refutation_log.proofs.GivenLaws.{fills_leave_none}
+use Rattle.refutation_log.proofs.CellsSpelled.{one_list, refused_gives_none}
+use Rattle.refutation_checker.specs.PassedFill.{IsPassedFill}
+use Rattle.refutation_checker.specs.declared.fill_verdict.PassedFill.{PassedFill}
+use Rattle.refutation_log.proofs.FillUnique.{fill_verdict_unique}
 use Rattle.commands.specs.Fill.{IsFillAnswer, IsFilledOf, FindsAgree, FillsAgree}
 use Rattle.commands.specs.CheckFill.{IsCheckedFill}
 use Rattle.commands.specs.declared.fill.Answer.{Answer as Fill}

@@ -3,11 +3,11 @@ use Rattle.std.specs.Prelude.{ℕ, List, ◌∷◌, ◌++◌, codes}
 use Rattle.rwsp_terms.specs.Instance.{Instance}
 use Rattle.rwsp_terms.specs.Rules.{Meets}
 use Rattle.rwsp_terms.specs.declared.data.Symbol.{Symbol}
-use Rattle.given_cells.specs.declared.cells.GivenCell.{GivenCell}
-use Rattle.given_cells.specs.GivenCells.{AreGivenIn, HoldsCells}
-use Rattle.given_cells.specs.FillText.{IsFillRefused, cells_text}
-use Rattle.fill_checker.specs.Passed.{IsPassedFill}
-use Rattle.fill_checker.specs.declared.verdict.PassedFill.{PassedFill}
+use Rattle.refutation_log.specs.declared.cells.GivenCell.{GivenCell}
+use Rattle.refutation_log.specs.GivenCells.{AreGivenIn, HoldsCells}
+use Rattle.refutation_log.specs.FillText.{IsFillRefused, cells_text}
+use Rattle.refutation_checker.specs.PassedFill.{IsPassedFill}
+use Rattle.refutation_checker.specs.declared.fill_verdict.PassedFill.{PassedFill}
 use Rattle.refutation_log.specs.RefusalText.{log_refusal_text, HasSymbols}
 use Rattle.commands.specs.Lines.{line}
 use Rattle.commands.specs.Check.{rules_text}

@@ -3,13 +3,13 @@ use Rattle.std.specs.Prelude.{◌≡◌, ℕ, List, Some}
 use Rattle.rwsp_terms.specs.Instance.{Instance}
 use Rattle.rwsp_terms.specs.Roster.{IsRoster}
 use Rattle.roster_print.specs.RosterText.{roster_text}
-use Rattle.given_cells.specs.declared.cells.GivenCell.{GivenCell}
-use Rattle.given_cells.specs.FillReading.{FillFits}
-use Rattle.given_cells.specs.FillText.{fill_text}
-use Rattle.given_cells.specs.Filled.{IsFilledWith}
-use Rattle.given_cells.specs.CellsText.{SpellsGiven, refusal_of_cells}
-use Rattle.given_cells.specs.declared.filled.Filled.{Filled}
-use Rattle.given_cells.specs.declared.filled.Filled.TheVariants.{Roster, NoRoster, Undecided}
+use Rattle.refutation_log.specs.declared.cells.GivenCell.{GivenCell}
+use Rattle.refutation_log.specs.FillReading.{FillFits}
+use Rattle.refutation_log.specs.FillText.{fill_text}
+use Rattle.refutation_log.specs.Filled.{IsFilledWith}
+use Rattle.refutation_log.specs.CellsText.{SpellsGiven, refusal_of_cells}
+use Rattle.refutation_log.specs.declared.filled.Filled.{Filled}
+use Rattle.refutation_log.specs.declared.filled.Filled.TheVariants.{Roster, NoRoster, Undecided}
 use Rattle.commands.specs.Verify.{fault_line}
 use Rattle.commands.specs.declared.verify.RosterFault.TheVariants as Faults
 use Rattle.commands.specs.declared.fill.Answer.{Answer}

@@ -1,15 +1,14 @@
 // Whether a fill log passes.
 ghost use Rattle.std.specs.Prelude.{◌≡◌, ◌++◌, IfOk, OnOk};
-ghost use Rattle.given_cells.specs.GivenCells.{AreGivenIn};
+ghost use Rattle.refutation_log.specs.GivenCells.{AreGivenIn};
 ghost use Rattle.commands.specs.Files.{IsWithinLimit};
 ghost use Rattle.commands.specs.CheckFill.{IsCheckedFill, IsCheckedFillOf, accepted_text, check_fill_text, check_fill_status};
 ghost use Rattle.commands.specs.declared.second_file.SecondKind.TheVariants as Kinds;
 
 use crate::log_refusal::log_refusal_line;
 use crate::put::put_numbers;
-use fill_checker::{PassedFill, check_fill};
-use given_cells::put_cells_line;
-use refutation_log::LogRefusal;
+use refutation_checker::{PassedFill, check_fill};
+use refutation_log::{LogRefusal, put_cells_line};
 use rwsp_model::{Fail, Problem};
 use std::alloc::{AllocError, Global};
 

@@ -6,7 +6,7 @@ ghost use Rattle.commands.specs.Fill.{IsFillAnswer, IsFillAnswerOf, IsFilledOf, 
 ghost use Rattle.commands.specs.declared.second_file.SecondKind.TheVariants as Kinds;
 
 use crate::verify::{RosterFault, fault_line};
-use given_cells::{Filled, print_fill, read_cells};
+use refutation_log::{Filled, print_fill, read_cells};
 use roster_filler::fill;
 use roster_print::{RosterRefusal, print_roster};
 use rwsp_model::{Fail, Problem};

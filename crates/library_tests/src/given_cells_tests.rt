@@ -1,8 +1,8 @@
 // Given cells and fill logs, read and printed.
-use given_cells::{
-    FillLog, GivenCell, is_open_word_taken, print_fill, read_cells, read_fill_header,
+use refutation_log::{
+    FillLog, GivenCell, LogRefusal, Opening, is_open_word_taken, print_fill, read_cells,
+    read_fill_header,
 };
-use refutation_log::{LogRefusal, Opening};
 use roster_print::RosterRefusal;
 use rwsp_model::{Fail as Failure, Problem};
 use std::alloc::Global;

@@ -7,7 +7,7 @@ mod answer_words_tests;
 #[cfg(test)]
 mod crew_calendar_tests;
 #[cfg(test)]
-mod fill_checker_tests;
+mod fill_check_tests;
 #[cfg(test)]
 mod given_cells_tests;
 #[cfg(test)]

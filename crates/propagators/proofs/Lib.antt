@@ -15,3 +15,4 @@ mod Turning
 mod Starting
 mod CutSymbols
 mod Awaiting
+pub mod Fitting

@@ -10,3 +10,5 @@ pub mod Known
 pub mod Marks
 pub mod KeptCycle
 pub mod CycleCuts
+pub mod NearLeaves
+pub mod Fields

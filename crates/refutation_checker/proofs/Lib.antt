@@ -15,3 +15,9 @@ pub mod Unread
 pub mod Starts
 pub mod Feeds
 pub mod Cutting
+pub mod FillBehind
+pub mod FillPassing
+pub mod OneFillLine
+pub mod FillBodies
+pub mod FillVerdicts
+pub mod SomeFillVerdict

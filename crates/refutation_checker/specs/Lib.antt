@@ -10,3 +10,6 @@ pub mod Laws
 pub mod UnreadSplits
 pub mod Starts
 pub mod Chunks
+pub mod FillVerdicts
+pub mod FillLaws
+pub mod PassedFill

@@ -13,3 +13,16 @@ pub mod OneText
 pub mod OneCause
 pub mod NotRefused
 pub mod OneLine
+pub mod Rising
+pub mod CellsRead
+pub mod CellsSpelled
+pub mod FillPrinted
+pub mod CellWords
+pub mod FillLines
+pub mod FillTexts
+pub mod GivenDomains
+pub mod CellSplits
+pub mod LeftCells
+pub mod GivenLaws
+pub mod FillFronts
+pub mod FillUnique

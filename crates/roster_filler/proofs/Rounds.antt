@@ -7,13 +7,13 @@ use Rattle.std.proofs.lemmas.Option.{slice_get-get_or}
 use Rattle.std.specs.List.Sorted.{IsStrictlyIncreasing}
 use Rattle.std.proofs.lemmas.List.Kept.{IsStrictlyIncreasing-filter}
 use Rattle.std.proofs.lemmas.List.Elements.{All-filter}
-use Rattle.given_cells.specs.GivenCells.{AreGivenIn}
+use Rattle.refutation_log.specs.GivenCells.{AreGivenIn}
 use Rattle.rwsp_terms.specs.Instance.{Instance, cells, IsSymbol}
 use Rattle.refutation_terms.specs.Log.{Log, size}
 use Rattle.refutation_terms.specs.Strip.{strip, without_rule}
-use Rattle.given_cells.specs.declared.cells.GivenCell.{GivenCell}
-use Rattle.given_cells.specs.FillLog.{FillLog, FillPasses, without_cell, strip_fill, NeedsEachCell, NeedsEachRule}
-use Rattle.given_cells.specs.FillReading.{FillFits}
+use Rattle.refutation_log.specs.declared.cells.GivenCell.{GivenCell}
+use Rattle.refutation_log.specs.FillLog.{FillLog, FillPasses, without_cell, strip_fill, NeedsEachCell, NeedsEachRule}
+use Rattle.refutation_log.specs.FillReading.{FillFits}
 use Rattle.roster_filler.specs.Leaving.{fill_with, AreCellsLeft, IsCellLeft, AreSomeLeft, AreRulesLeft, IsRuleLeft, AreSomeRulesLeft}
 use Rattle.roster_filler.proofs.Kept.{was_there, at_most, shorter, same_work}
 

@@ -2,8 +2,8 @@
 use Rattle.std.specs.Prelude.{◌≡◌, ℕ, ◌<◌, List, length, Contains, Bool, MatchBool, ◌||◌, nat_lt, nat_le}
 use Rattle.rwsp_terms.specs.Instance.{Instance}
 use Rattle.refutation_terms.specs.Log.{Log, size}
-use Rattle.given_cells.specs.declared.cells.GivenCell.{GivenCell}
-use Rattle.given_cells.specs.FillLog.{FillLog, FillPasses, without_cell, strip_fill, NeedsEachCell, NeedsEachRule}
+use Rattle.refutation_log.specs.declared.cells.GivenCell.{GivenCell}
+use Rattle.refutation_log.specs.FillLog.{FillLog, FillPasses, without_cell, strip_fill, NeedsEachCell, NeedsEachRule}
 
 -- the fill log of these cells and this log
 abbrev pub fill_with : List GivenCell → Log → FillLog

@@ -1,14 +1,12 @@
 // Given cells that a fill log can do without.
 ghost use Rattle.std.specs.Prelude.{◌≡◌, ◌↔◌, IfOk, OnOk, IsTrue};
-ghost use Rattle.given_cells.specs.FillLog.{FillPasses};
-ghost use Rattle.given_cells.specs.FillReading.{FillFits};
-ghost use Rattle.fill_checker.specs.FillVerdicts.{filling};
+ghost use Rattle.refutation_log.specs.FillLog.{FillPasses};
+ghost use Rattle.refutation_log.specs.FillReading.{FillFits};
+ghost use Rattle.refutation_checker.specs.FillVerdicts.{filling};
 ghost use Rattle.roster_filler.specs.Leaving.{fill_with, AreCellsLeft, IsCellLeft, AreSomeLeft};
 
-use fill_checker::{FillParts, fill_judge, passes_behind};
-use given_cells::GivenCells;
-use refutation_checker::Judge;
-use refutation_log::Log;
+use refutation_checker::{FillParts, Judge, fill_judge, passes_behind};
+use refutation_log::{GivenCells, Log};
 use rwsp_model::Problem;
 use std::alloc::{AllocError, Global};
 

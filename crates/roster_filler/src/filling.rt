@@ -2,15 +2,15 @@
 ghost use Rattle.std.specs.Prelude.{◌≡◌, ◌≤◌, IfOk};
 ghost use Rattle.rwsp_terms.specs.declared.limits.TheConstants.{GREATEST_BUDGET};
 ghost use Rattle.domain_store.specs.Cycles.{AreShortRules};
-ghost use Rattle.given_cells.specs.GivenCells.{AreGivenIn};
-ghost use Rattle.given_cells.specs.Filled.{IsFilledWith};
+ghost use Rattle.refutation_log.specs.GivenCells.{AreGivenIn};
+ghost use Rattle.refutation_log.specs.Filled.{IsFilledWith};
 ghost use Rattle.roster_search.specs.Behind.{IsFoundBehind};
 
 use crate::guide::FillGuide;
 use crate::reasons::reasons_behind;
 use crate::reducing::reduce_fill;
 use clean_words::{Automaton, Told};
-use given_cells::{Filled, GivenCells};
+use refutation_log::{Filled, GivenCells};
 use roster_finder::RosterFinder;
 use roster_search::search_given;
 use rwsp_model::Problem;

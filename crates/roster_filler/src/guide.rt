@@ -1,12 +1,12 @@
 // What a filler gives its search from outside.
 ghost use Rattle.std.specs.Prelude.{◌≡◌, None};
 ghost use Rattle.domain_store.specs.Cycles.{AreShortRules};
-ghost use Rattle.given_cells.specs.GivenCells.{AreGivenIn};
+ghost use Rattle.refutation_log.specs.GivenCells.{AreGivenIn};
 
 use clean_words::Automaton;
 use domain_store::Domains;
-use given_cells::GivenCells;
-use nearest_weights::NearestWeights;
+use propagators::NearestWeights;
+use refutation_log::GivenCells;
 use refutation_terms::Line;
 use roster_finder::{Patience, RosterFinder};
 use roster_search::{Guide, NextSplit, chronological};

@@ -3,12 +3,12 @@ ghost use Rattle.std.specs.Prelude.{IfOk};
 ghost use Rattle.domain_store.specs.Store.{BelongsTo};
 ghost use Rattle.domain_store.specs.Cycles.{AreShortRules};
 ghost use Rattle.domain_store.specs.Looks.{HasPlainLeaves};
-ghost use Rattle.given_cells.specs.GivenCells.{AreGivenIn};
+ghost use Rattle.refutation_log.specs.GivenCells.{AreGivenIn};
 
 use clean_words::Automaton;
 use domain_store::{Domains, Pair, Propagator};
-use given_cells::{GivenCells, walk_behind};
 use propagators::{CycleProp, DayProp, WindowProp};
+use refutation_log::{GivenCells, walk_behind};
 use rwsp_model::Problem;
 use std::alloc::{AllocError, Global};
 

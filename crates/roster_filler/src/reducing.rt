@@ -1,13 +1,12 @@
 // Fill logs without the cells and rules that they can do without.
 ghost use Rattle.std.specs.Prelude.{IfOk, OnOk};
-ghost use Rattle.given_cells.specs.FillLog.{FillPasses};
+ghost use Rattle.refutation_log.specs.FillLog.{FillPasses};
 ghost use Rattle.roster_filler.specs.Leaving.{fill_with, IsReduced};
 
 use crate::cells::leave_cells;
 use crate::rules::leave_rules;
 use crate::thinning::thin_cells;
-use given_cells::{FillLog, GivenCells};
-use refutation_log::Log;
+use refutation_log::{FillLog, GivenCells, Log};
 use rwsp_model::Problem;
 use std::alloc::{AllocError, Global};
 

@@ -1,13 +1,12 @@
 // Rules that a fill log can do without.
 ghost use Rattle.std.specs.Prelude.{◌↔◌, ◌<◌, ◌≤◌, length, IfOk, OnOk, IsTrue};
 ghost use Rattle.rwsp_terms.specs.Rules.{rules};
-ghost use Rattle.given_cells.specs.FillLog.{FillPasses};
-ghost use Rattle.given_cells.specs.FillReading.{FillFits};
+ghost use Rattle.refutation_log.specs.FillLog.{FillPasses};
+ghost use Rattle.refutation_log.specs.FillReading.{FillFits};
 ghost use Rattle.roster_filler.specs.Leaving.{fill_with, AreRulesLeft, IsRuleLeft, AreSomeRulesLeft};
 
-use fill_checker::{FillParts, fill_judge, passes_behind};
-use given_cells::GivenCells;
-use refutation_log::Log;
+use refutation_checker::{FillParts, fill_judge, passes_behind};
+use refutation_log::{GivenCells, Log};
 use rule_reducer::strip;
 use rwsp_model::{Problem, rule_at};
 use std::alloc::{AllocError, Global};

@@ -1,16 +1,14 @@
 // Given cells that are left out many at once.
 ghost use Rattle.std.specs.Prelude.{◌≡◌, ◌≤◌, ◌||◌, nat_lt, nat_le, filter, IfOk, OnOk};
 ghost use Rattle.rwsp_terms.specs.Instance.{Instance, cells};
-ghost use Rattle.given_cells.specs.GivenCells.{AreGivenIn};
-ghost use Rattle.given_cells.specs.FillLog.{FillPasses};
-ghost use Rattle.fill_checker.specs.FillVerdicts.{filling};
+ghost use Rattle.refutation_log.specs.GivenCells.{AreGivenIn};
+ghost use Rattle.refutation_log.specs.FillLog.{FillPasses};
+ghost use Rattle.refutation_checker.specs.FillVerdicts.{filling};
 ghost use Rattle.roster_filler.specs.Leaving.{fill_with, is_outside, AreCellsLeft};
 
 use crate::cells::still_passes;
-use fill_checker::fill_judge;
-use given_cells::GivenCells;
-use refutation_checker::Judge;
-use refutation_log::Log;
+use refutation_checker::{Judge, fill_judge};
+use refutation_log::{GivenCells, Log};
 use rwsp_model::Problem;
 use std::alloc::{AllocError, Global};
 

@@ -8,7 +8,7 @@ ghost use Rattle.roster_search.specs.Guides.{IsWantedRoster};
 
 use clean_words::Automaton;
 use domain_store::Domains;
-use nearest_weights::NearestWeights;
+use propagators::NearestWeights;
 use refutation_terms::{Line, Opening};
 use roster_finder::{Patience, RosterFinder};
 use roster_search::{Aim, Guide, NextSplit, chronological};

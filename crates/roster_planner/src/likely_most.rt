@@ -8,7 +8,7 @@ ghost use Rattle.domain_store.specs.Leaves.{IsHoldingLeaf};
 
 use clean_words::Automaton;
 use domain_store::Domains;
-use nearest_weights::NearestWeights;
+use propagators::NearestWeights;
 use rwsp_model::Problem;
 use std::alloc::{AllocError, Global};
 

@@ -10,8 +10,8 @@ use Rattle.refutation_terms.proofs.Trees.{tree_is_read}
 use Rattle.domain_store.specs.Splits.{HasRead, second_sides_to_come}
 use Rattle.domain_store.specs.States.{State, IsStateOf, open_trees}
 use Rattle.domain_store.proofs.Stack.{read_whole, read_part}
-use Rattle.given_cells.specs.declared.cells.GivenCell.{GivenCell}
-use Rattle.given_cells.specs.FillLog.{given_splits}
+use Rattle.refutation_log.specs.declared.cells.GivenCell.{GivenCell}
+use Rattle.refutation_log.specs.FillLog.{given_splits}
 use Rattle.roster_search.specs.declared.progress.Progress.{Progress}
 use Rattle.roster_search.specs.Behind.{IsBehind, HasRoomBehind}
 use Rattle.roster_search.specs.Written.{IsProgress, IsSplitWithLeaf, IsOneStep, IsNextStep}

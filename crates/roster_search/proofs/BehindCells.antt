@@ -25,12 +25,12 @@ use Rattle.refutation_terms.proofs.TreeDomains.{got_right}
 use Rattle.refutation_terms.proofs.Tests.{left_of, right_of}
 use Rattle.domain_store.specs.Store.{has_domain}
 use Rattle.domain_store.specs.States.{IsStateOf, open_trees}
-use Rattle.given_cells.specs.declared.cells.GivenCell.{GivenCell}
-use Rattle.given_cells.specs.GivenCells.{AreGivenIn, HoldsCells}
-use Rattle.given_cells.specs.FillLog.{FillLog, IsFillOf, FillPasses, IsFillSpent, HoldsGivenAt, given_splits, cells_leave, given_domains_at}
-use Rattle.given_cells.specs.declared.filled.Filled.TheVariants.{NoRoster, Undecided}
-use Rattle.given_cells.proofs.GivenDomains.{given_is_behind, lines_are_behind}
-use Rattle.given_cells.proofs.CellSplits.{splits_hold}
+use Rattle.refutation_log.specs.declared.cells.GivenCell.{GivenCell}
+use Rattle.refutation_log.specs.GivenCells.{AreGivenIn, HoldsCells}
+use Rattle.refutation_log.specs.FillLog.{FillLog, IsFillOf, FillPasses, IsFillSpent, HoldsGivenAt, given_splits, cells_leave, given_domains_at}
+use Rattle.refutation_log.specs.declared.filled.Filled.TheVariants.{NoRoster, Undecided}
+use Rattle.refutation_log.proofs.GivenDomains.{given_is_behind, lines_are_behind}
+use Rattle.refutation_log.proofs.CellSplits.{splits_hold}
 use Rattle.roster_search.specs.declared.aim.Aim.{Aim}
 use Rattle.roster_search.specs.declared.progress.Progress.{Progress}
 use Rattle.roster_search.specs.Behind.{IsBehind, HasRoomBehind, IsFoundBehind}

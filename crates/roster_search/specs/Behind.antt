@@ -7,11 +7,11 @@ use Rattle.refutation_terms.specs.declared.lines.Opening.TheVariants.{Full}
 use Rattle.refutation_terms.specs.Tree.{after_trees}
 use Rattle.refutation_terms.specs.Log.{size}
 use Rattle.domain_store.specs.States.{open_trees}
-use Rattle.given_cells.specs.declared.cells.GivenCell.{GivenCell}
-use Rattle.given_cells.specs.declared.filled.Filled.{Filled}
-use Rattle.given_cells.specs.declared.filled.Filled.TheVariants.{Roster, NoRoster, Undecided}
-use Rattle.given_cells.specs.GivenCells.{AreGivenIn, HoldsCells, IsFilled}
-use Rattle.given_cells.specs.FillLog.{given_splits, FillPasses, IsFillSpent}
+use Rattle.refutation_log.specs.declared.cells.GivenCell.{GivenCell}
+use Rattle.refutation_log.specs.declared.filled.Filled.{Filled}
+use Rattle.refutation_log.specs.declared.filled.Filled.TheVariants.{Roster, NoRoster, Undecided}
+use Rattle.refutation_log.specs.GivenCells.{AreGivenIn, HoldsCells, IsFilled}
+use Rattle.refutation_log.specs.FillLog.{given_splits, FillPasses, IsFillSpent}
 use Rattle.roster_search.specs.declared.progress.Progress.{Progress}
 use Rattle.roster_search.specs.Guides.{IsWantedRoster}
 

@@ -9,8 +9,7 @@ ghost use Rattle.roster_search.specs.Written.{IsProgress, IsEnded};
 
 use crate::Aim;
 use crate::progress::Progress;
-use given_cells::{FillLog, Filled, GivenCells};
-use refutation_log::{Found, Log, copy_line};
+use refutation_log::{FillLog, Filled, Found, GivenCells, Log, copy_line};
 use refutation_terms::{Line, Opening};
 use rwsp_model::Problem;
 use rwsp_terms::limits::{GREATEST_BUDGET, MOST_LINES};

@@ -3,12 +3,12 @@ ghost use Rattle.std.specs.Prelude.{◌≡◌, ◌↔◌, ℕ, Option, Some, IsT
 ghost use Rattle.std.specs.Option.{IfSome};
 ghost use Rattle.rwsp_terms.specs.Instance.{Instance};
 ghost use Rattle.domain_store.specs.Store.{BelongsTo};
-ghost use Rattle.given_cells.specs.GivenCells.{HoldsCells};
+ghost use Rattle.refutation_log.specs.GivenCells.{HoldsCells};
 ghost use Rattle.roster_search.specs.Behind.{IsWantedBehind};
 
 use crate::Guide;
 use domain_store::Domains;
-use given_cells::GivenCell;
+use refutation_log::GivenCell;
 use rwsp_model::Roster;
 use rwsp_terms::Symbol;
 use std::alloc::{AllocError, Global};

@@ -17,7 +17,7 @@ use Rattle.roster_print.specs.RosterText.{roster_text}
 use Rattle.roster_print.proofs.Printed.{printed_is_short, printed_is_spelled}
 use Rattle.refutation_log.specs.declared.best_found.BestFound.{BestFound}
 use Rattle.refutation_log.specs.declared.best_found.BestFound.TheVariants as Bests
-use Rattle.given_cells.specs.FillText.{fill_text}
+use Rattle.refutation_log.specs.FillText.{fill_text}
 use Rattle.crew_size.specs.Sizes.{IsSize}
 use Rattle.crew_size.specs.Texts.{staff_text}
 use Rattle.crew_size.proofs.Decided.{printed_accepted, accepted_decide}

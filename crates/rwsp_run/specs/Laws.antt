@@ -16,10 +16,10 @@ use Rattle.roster_print.specs.RosterText.{roster_text}
 use Rattle.refutation_log.specs.declared.found.Found.TheVariants as Founds
 use Rattle.refutation_log.specs.declared.best_found.BestFound.{BestFound}
 use Rattle.refutation_log.specs.declared.best_found.BestFound.TheVariants as Bests
-use Rattle.given_cells.specs.FillLog.{FillLog}
-use Rattle.given_cells.specs.FillText.{fill_text}
-use Rattle.given_cells.specs.declared.filled.Filled.TheVariants as Filleds
-use Rattle.fill_checker.specs.declared.verdict.PassedFill.{PassedFill}
+use Rattle.refutation_log.specs.FillLog.{FillLog}
+use Rattle.refutation_log.specs.FillText.{fill_text}
+use Rattle.refutation_log.specs.declared.filled.Filled.TheVariants as Filleds
+use Rattle.refutation_checker.specs.declared.fill_verdict.PassedFill.{PassedFill}
 use Rattle.crew_size.specs.Texts.{Staff as StaffRun, staff_text}
 use Rattle.crew_size.specs.Laws.{decision_of}
 use Rattle.crew_size.specs.declared.verdict.Staffed.{Staffed}

@@ -13,9 +13,8 @@ use commands::{
     SecondKind, best, check, check_fill, check_free, check_staff, crew, fill, ics, mend, on, page,
     plan, reduce, rest, roster, staff, verify,
 };
-use given_cells::is_open_word_taken;
 use made_problems::LeastRest;
-use refutation_log::{BestFound, Found};
+use refutation_log::{BestFound, Found, is_open_word_taken};
 use rwsp_file::print_problem;
 use rwsp_model::Problem;
 use rwsp_terms::limits::DAYS_OF_WEEK;

@@ -3,7 +3,7 @@ ghost use Rattle.domain_store.specs.Store.{BelongsTo};
 
 use clean_words::{Automaton, Told};
 use domain_store::Domains;
-use nearest_weights::NearestWeights;
+use propagators::NearestWeights;
 use refutation_terms::{Leaf, Line, WordClaim};
 use rwsp_model::Problem;
 use rwsp_terms::{Symbol, Weight};

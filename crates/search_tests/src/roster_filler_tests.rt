@@ -2,7 +2,7 @@
 ghost use Rattle.std.specs.Prelude.{◌≤◌, length, IfOk};
 ghost use Rattle.rwsp_terms.specs.declared.limits.TheConstants.{LONGEST_FILE};
 
-use given_cells::{Filled, read_cells};
+use refutation_log::{Filled, read_cells};
 use roster_filler::fill;
 use rwsp_model::Problem;
 use std::alloc::{AllocError, Global};

@@ -1,7 +1,7 @@
 ghost use Rattle.std.specs.Prelude.{◌≤◌, length};
 ghost use Rattle.rwsp_terms.specs.declared.limits.TheConstants.{LONGEST_FILE};
 
-use given_cells::read_cells;
+use refutation_log::read_cells;
 use roster_finder::{Patience, RosterFinder};
 use rwsp_model::{Problem, Roster};
 use rwsp_terms::Symbol;

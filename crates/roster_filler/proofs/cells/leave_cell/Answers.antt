@@ -1,6 +1,6 @@
 -- A cell that is left out, or needed, or not there.
 use Rattle.std.proofs.Common.{◌∙◌, sym, arith}
-use Rattle.given_cells.specs.FillReading.{FillFits}
+use Rattle.refutation_log.specs.FillReading.{FillFits}
 use Rattle.roster_filler.specs.Leaving.{fill_with}
 use Rattle.roster_filler.proofs.Rounds.{cell_left, cell_absent, passed_fits}
 use Rattle.roster_filler.proofs.cells.leave_cell.Goals as goal

@@ -1,6 +1,6 @@
 -- Cell after cell.
 use Rattle.std.proofs.Common.{◌≡◌, ◌∙◌, List, ap, subst, arith, length, get_or}
-use Rattle.given_cells.specs.declared.cells.GivenCell.{GivenCell}
+use Rattle.refutation_log.specs.declared.cells.GivenCell.{GivenCell}
 use Rattle.roster_filler.specs.Leaving.{IsCellLeft}
 use Rattle.roster_filler.proofs.Rounds.{tried_one, tried_all}
 use Rattle.roster_filler.proofs.cells.leave_each.Goals as goal

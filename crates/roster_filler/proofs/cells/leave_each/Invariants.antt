@@ -1,5 +1,5 @@
 use Rattle.std.proofs.Common.{◌≡◌}
-use Rattle.fill_checker.specs.FillVerdicts.{filling}
+use Rattle.refutation_checker.specs.FillVerdicts.{filling}
 use Rattle.roster_filler.proofs.Rounds.{Tried}
 use Rattle.roster_filler.proofs.cells.leave_each.Given as goal
 

@@ -1,6 +1,6 @@
 use Rattle.std.proofs.Common.{◌≡◌, ◌+◌, false, length, cond}
 use Rattle.refutation_terms.specs.Log.{size}
-use Rattle.given_cells.specs.FillLog.{FillPasses, NeedsEachCell, NeedsEachRule}
+use Rattle.refutation_log.specs.FillLog.{FillPasses, NeedsEachCell, NeedsEachRule}
 use Rattle.roster_filler.specs.Leaving.{fill_with, AreAmong}
 use Rattle.roster_filler.proofs.reducing.reduce_parts.Given as goal
 

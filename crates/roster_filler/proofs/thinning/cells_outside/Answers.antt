@@ -2,7 +2,7 @@
 use Rattle.std.proofs.Common.{◌∙◌, ap, sym, subst}
 use Rattle.std.specs.Prelude.{filter}
 use Rattle.std.proofs.lemmas.List.{take_all}
-use Rattle.given_cells.specs.GivenCells.{AreGivenIn}
+use Rattle.refutation_log.specs.GivenCells.{AreGivenIn}
 use Rattle.roster_filler.specs.Leaving.{is_outside}
 use Rattle.roster_filler.proofs.Rounds.{part_given}
 use Rattle.roster_filler.proofs.thinning.cells_outside.Goals as goal

@@ -1,5 +1,5 @@
 -- Without the part, or as before.
-use Rattle.given_cells.specs.FillReading.{FillFits}
+use Rattle.refutation_log.specs.FillReading.{FillFits}
 use Rattle.roster_filler.specs.Leaving.{fill_with, is_outside}
 use Rattle.roster_filler.proofs.Rounds.{part_left, passed_fits}
 use Rattle.roster_filler.proofs.thinning.leave_part.Goals as goal

@@ -1,7 +1,7 @@
 -- The fill log of the lines, whole or with a rest.
 use Rattle.std.proofs.Common.{◌≡◌, ◌∙◌, ◌-◌, ℕ, List, ap, subst, arith, length}
 use Rattle.std.specs.List.Sorted.{IsStrictlyIncreasing}
-use Rattle.given_cells.specs.declared.cells.GivenCell.{GivenCell}
+use Rattle.refutation_log.specs.declared.cells.GivenCell.{GivenCell}
 use Rattle.domain_store.specs.States.{open_trees}
 use Rattle.roster_search.proofs.BehindCells.{own_tree, end_whole, end_spent, few_given}
 use Rattle.roster_search.proofs.ending.end_behind.Goals as goal

@@ -1,5 +1,5 @@
 use Rattle.std.proofs.Common.{take}
-use Rattle.given_cells.specs.GivenCells.{HoldsCells}
+use Rattle.refutation_log.specs.GivenCells.{HoldsCells}
 use Rattle.roster_search.proofs.given_roster.holds_cells.Given as goal
 
 abbrev pub invariant-loop-cell : goal.invariant-loop-cell

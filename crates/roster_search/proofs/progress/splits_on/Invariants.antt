@@ -1,5 +1,5 @@
 use Rattle.std.proofs.Common.{◌≡◌, take}
-use Rattle.given_cells.specs.FillLog.{given_splits}
+use Rattle.refutation_log.specs.FillLog.{given_splits}
 use Rattle.roster_search.proofs.progress.splits_on.Given as goal
 
 abbrev pub invariant-loop-cell : goal.invariant-loop-cell

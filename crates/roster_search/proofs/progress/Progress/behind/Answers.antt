@@ -1,6 +1,6 @@
 -- Before the first line behind the splits.
 use Rattle.std.proofs.Common.{◌∙◌, ap, refl, arith}
-use Rattle.given_cells.specs.FillLog.{given_splits}
+use Rattle.refutation_log.specs.FillLog.{given_splits}
 use Rattle.roster_search.proofs.BehindCells.{begins_written, begins_behind_cells, few_given}
 use Rattle.roster_search.proofs.progress.Progress.behind.Goals as goal
 

@@ -1,3 +1,0 @@
-pub mod FillVerdicts
-pub mod Laws
-pub mod Passed

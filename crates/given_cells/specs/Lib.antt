@@ -1,9 +1,0 @@
-pub mod GivenCells
-pub mod CellsText
-pub mod CellsReading
-pub mod FillLog
-pub mod FillText
-pub mod FillReading
-pub mod TextLaws
-pub mod Filled
-pub mod Laws

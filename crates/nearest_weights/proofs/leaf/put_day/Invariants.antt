@@ -1,5 +1,0 @@
-use Rattle.refutation_terms.specs.Ranges.{AreWeightsOf}
-use Rattle.nearest_weights.proofs.leaf.put_day.Given as goal
-
-abbrev pub invariant-loop-number : goal.invariant-loop-number
-invariant-loop-number l = AreWeightsOf l.problem l.weights

@@ -1,5 +1,0 @@
-use Rattle.std.proofs.Common.{◌≤◌}
-use Rattle.nearest_weights.proofs.small.few_turns.Given as goal
-
-abbrev pub invariant-loop : goal.invariant-loop
-invariant-loop l = 1 ≤ l.fewer

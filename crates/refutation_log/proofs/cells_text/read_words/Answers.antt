@@ -1,0 +1,12 @@
+use Rattle.std.proofs.Common.{sym}
+use Rattle.refutation_log.proofs.CellsRead.{word_read, words_done, unknown_there}
+use Rattle.refutation_log.proofs.cells_text.read_words.Goals as goal
+
+pub returns-in_default-clause-unknown : goal.returns-in_default-clause-unknown
+returns-in_default-clause-unknown c = unknown_there c.args.problem.now c.args.text.now c.args.words.now c.loop-word.word-index _ c.loop-word-test.true (sym c.in_default.ensures)
+
+pub loop-word-preserved : goal.loop-word-preserved
+loop-word-preserved c = word_read c.args.problem.now c.args.text.now c.args.words.now c.loop-word.word-index _ c.in-Some.cell c.args.said.now.items c.loop-word.said.items c.push.new.self.items c.loop-word-test.true c.loop-word.invariant (sym c.in-Some.ensures) c.in_ok-push.ensures.items
+
+pub returns-clause-said : goal.returns-clause-said
+returns-clause-said c = words_done c.args.problem.now c.args.text.now c.args.words.now c.loop-word.word-index c.args.said.now.items c.loop-word.said.items c.loop-word-test.false c.loop-word.invariant
