@@ -92,3 +92,11 @@ log_under h lines = log_with h.named h.opening h.goal h.counts lines
 
 abbrev pub text_of_header : Instance → Header → List ℕ
 text_of_header P h = header_text P h.named h.opening h.goal h.counts
+
+-- what is left behind a header begins with the lines of a log, and the rest follows them
+abbrev pub AreLinesUnder : Instance → Header → List ℕ → List ℕ → List Line → Type 0
+AreLinesUnder P h left rest lines = AreReadLines P (log_under h lines) left rest
+
+-- a text that begins with the header is refused by reading, for this cause, in what is left behind it
+abbrev pub IsUnreadUnder : Instance → Header → List ℕ → LogRefusal → Type 0
+IsUnreadUnder P h left why = IsUnread P (kind_by h.goal) (text_of_header P h ++ left) why

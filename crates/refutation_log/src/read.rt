@@ -4,8 +4,8 @@ ghost use Rattle.rwsp_terms.specs.declared.limits.TheConstants.{LONGEST_LOG};
 ghost use Rattle.rwsp_model.specs.Refusals.{MatchAnswer};
 ghost use Rattle.refutation_terms.specs.Ranges.{AreRules};
 ghost use Rattle.refutation_terms.specs.Log.{OpeningFits, GoalFits};
-ghost use Rattle.refutation_terms.specs.Verdict.{kind_by, Spells};
-ghost use Rattle.refutation_log.specs.ReadLog.{HasLogsOf, IsReadAs, IsUnread, log_under, text_of_header, AreReadLines, IsTreeLineRefused, open_after};
+ghost use Rattle.refutation_terms.specs.Verdict.{Spells};
+ghost use Rattle.refutation_log.specs.ReadLog.{HasLogsOf, IsReadAs, IsUnread, AreLinesUnder, IsUnreadUnder, IsTreeLineRefused, open_after};
 
 use crate::header::{Header, lines_of_header, read_header};
 use crate::line::read_line;
@@ -61,8 +61,8 @@ fn read_lines(
     requires goal { GoalFits problem.now header.now.opening header.now.goal }
     requires few { length reader.old ≤ LONGEST_LOG }
     ensures { MatchAnswer result
-        (λ v. AreReadLines problem.now (log_under header.now v.items) reader.old reader.new)
-        (IsUnread problem.now (kind_by header.now.goal) (text_of_header problem.now header.now ++ reader.old)) }
+        (λ v. AreLinesUnder problem.now header.now reader.old reader.new v.items)
+        (IsUnreadUnder problem.now header.now reader.old) }
 {
     problem.prove_limits();
     let terms = header.terms();
