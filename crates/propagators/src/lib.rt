@@ -25,11 +25,11 @@ mod two_turns;
 mod window;
 mod window_over;
 
-pub use crate::NearestWeights;
 pub use counts::Counts;
 pub use cycle::CycleProp;
 pub use cycle_cut::first_unsupported;
 pub use day::DayProp;
+pub use nearest_weights::NearestWeights;
 pub use root_bounds::RootBounds;
 pub use two_turns::Cycle;
 pub use window::WindowProp;
