@@ -1,9 +1,3 @@
-ghost use Rattle.std.specs.Prelude.{Some};
-ghost use Rattle.roster_print.specs.RefusalText.{roster_refusal_text};
-
-use std::error::Error;
-use std::fmt;
-
 /// Why a text is refused as a roster.
 #[derive(Clone, Copy, Debug, PartialEq, Eq)]
 pub enum RosterRefusal {
@@ -14,17 +8,3 @@ pub enum RosterRefusal {
     /// The text has this number of weeks, and the problem another.
     Weeks(u32),
 }
-
-impl fmt::Display for RosterRefusal {
-    ghost output = { λ refusal. Some (roster_refusal_text refusal) };
-
-    fn fmt<W: fmt::Write>(&self, f: &mut fmt::Formatter<W>) -> fmt::Result {
-        match self {
-            RosterRefusal::Unknown(line) => write!(f, "roster refused: unknown line {line}"),
-            RosterRefusal::Width(line) => write!(f, "roster refused: width line {line}"),
-            RosterRefusal::Weeks(weeks) => write!(f, "roster refused: weeks {weeks}"),
-        }
-    }
-}
-
-impl Error for RosterRefusal {}
