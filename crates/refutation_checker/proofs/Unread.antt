@@ -1,7 +1,8 @@
 -- Splits that are passed without being read.
-use Rattle.std.proofs.Common.{◌≡◌, ◌≢◌, Option, Some, None, ℕ, ◌+◌, ◌<◌, ◌≤◌, List, [], ◌∷◌, ◌++◌, length, get_or, refl, ap, sym, ◌∙◌, append_assoc, length-append, subst, arith, inl, inr, Bool, true, false, ◌==◌}
+use Rattle.std.proofs.Common.{◌≡◌, ◌≢◌, Option, Some, None, ℕ, ◌+◌, ◌<◌, ◌≤◌, List, [], ◌∷◌, ◌++◌, length, get_or, refl, ap, sym, ◌∙◌, append_assoc, length-append, subst, arith, inl, inr, Bool, true, false, not, drop, ◌==◌, ◌&&◌}
 use Rattle.std.specs.Prelude.{MatchBool}
 use Rattle.std.specs.Option.{option_map}
+use Rattle.std.proofs.lemmas.Bool.{and_parts, not-true}
 use Rattle.std.proofs.lemmas.List.{append-nil}
 use Rattle.rwsp_terms.specs.declared.data.Symbol.{Symbol}
 use Rattle.rwsp_terms.specs.Instance.{Instance, symbol_of}
@@ -11,7 +12,7 @@ use Rattle.refutation_terms.specs.declared.lines.Line.TheVariants.{Split, Unfini
 use Rattle.refutation_terms.specs.declared.lines.Leaf.{Leaf}
 use Rattle.refutation_terms.specs.Tree.{IsLeaf, IsTree, Node, lines_in}
 use Rattle.refutation_terms.specs.Log.{LineFits}
-use Rattle.refutation_terms.specs.LogText.{RawLine, raw, raw_fields, line_of, line_text, lines_text, split_kind, window_kind, day_kind, dead_kind, own_kinds, last_kinds}
+use Rattle.refutation_terms.specs.LogText.{RawLine, raw, raw_fields, line_of, line_text, lines_text, split_kind, line_kinds}
 use Rattle.refutation_terms.proofs.LineTables.{raw_line, spelled_raw}
 use Rattle.rwsp_text.specs.Fields.{Words, text_of}
 use Rattle.rwsp_text.specs.Kinds.{Kind, IsLine, IsOfKind}
@@ -93,13 +94,26 @@ abbrev NoneBegins : List (Kind RawLine) → Type 0
 NoneBegins [] = Unit {0}
 NoneBegins (kind ∷ table) = ((get_or kind.word 0 115 == 115) ≡ false) × NoneBegins table
 
-last_begin : (counts : Bool) → NoneBegins (last_kinds counts)
-last_begin false = (refl, tt)
-last_begin true = (refl, (refl, tt))
+-- the same by computing over the table
+abbrev none_begins : List (Kind RawLine) → Bool
+none_begins [] = true
+none_begins (kind ∷ table) = not (get_or kind.word 0 115 == 115) && none_begins table
 
-own_begin : (P : Instance) (goal : Option ℕ) (counts : Bool) → NoneBegins (own_kinds P goal counts)
-own_begin P None counts = (refl, last_begin counts)
-own_begin P (Some goal) counts = (refl, (refl, last_begin counts))
+not_begun : (table : List (Kind RawLine)) → none_begins table ≡ true → NoneBegins table
+not_begun [] h = tt
+not_begun (kind ∷ table) h =
+    let parts = and_parts (not (get_or kind.word 0 115 == 115)) (none_begins table) h in
+    (not-true (get_or kind.word 0 115 == 115) parts.0, not_begun table parts.1)
+
+-- the kinds of leaves: the table behind the split
+abbrev leaf_kinds : Instance → Option ℕ → Bool → List (Kind RawLine)
+leaf_kinds P goal counts = drop 1 (line_kinds P goal counts)
+
+leaves_begin : (P : Instance) (goal : Option ℕ) (counts : Bool) → none_begins (leaf_kinds P goal counts) ≡ true
+leaves_begin P None false = refl
+leaves_begin P None true = refl
+leaves_begin P (Some goal) false = refl
+leaves_begin P (Some goal) true = refl
 
 first_letter : (w : List ℕ) (ws : Words) → (get_or w 0 115 == 115) ≡ false → (get_or (text_of (w ∷ ws)) 0 0 == 115) ≡ false
 first_letter [] ws other = absurd (cc)
@@ -127,7 +141,7 @@ leaf_begins P goal counts leaf limits fits =
     let s = spelled_raw P goal counts (Closing leaf) (has_names P limits) fits in
     elim (raw_line P goal counts l s.0) [
       | inl split ↦ absurd (split_says_none P (raw_fields P l) l leaf split s.1)
-      | inr other ↦ line_begins (window_kind P ∷ day_kind P ∷ dead_kind P ∷ own_kinds P goal counts) (raw_fields P l) l (refl, (refl, (refl, own_begin P goal counts))) other
+      | inr other ↦ line_begins (leaf_kinds P goal counts) (raw_fields P l) l (not_begun (leaf_kinds P goal counts) (leaves_begin P goal counts)) other
     ]
 
 pub by_letter : (P : Instance) (goal : Option ℕ) (counts : Bool) (l : Line) (t : Bool) → KeepsLimits P → LineFits P goal counts l → (get_or (line_text P (raw P goal l)) 0 0 == 115) ≡ t → MatchBool t ((p : ℕ) × (x : Symbol) × (l ≡ Split p x)) (IsLeaf l)
