@@ -55,7 +55,7 @@ headers_are_distinct P R Q given other body rest limits a b h k e =
     (rules_same P R Q w a b second.0, given_same P given other limits h k third.0, third.1)
 
 -- the text of the log in it, without a turn or a goal
-plain : (P : Instance) (g : Log) → g.opening ≡ Full → g.goal ≡ None → g.counts ≡ true → log_text P g ≡ header_text P g.named Full None true ++ lines_text P None g.lines
+pub plain : (P : Instance) (g : Log) → g.opening ≡ Full → g.goal ≡ None → g.counts ≡ true → log_text P g ≡ header_text P g.named Full None true ++ lines_text P None g.lines
 plain P g no_turn no_goal may_count =
     ap (λ o. header_text P g.named o g.goal g.counts ++ lines_text P g.goal g.lines) no_turn
     ∙ ap (λ goal. header_text P g.named Full goal g.counts ++ lines_text P goal g.lines) no_goal

@@ -43,7 +43,7 @@ fill_version_cause : (bytes : List ℕ) (why : LogRefusal) → FillVersionCause 
 fill_version_cause bytes (Refusals.Form i) h = ap Refusals.Form h.0
 fill_version_cause bytes why h = absurd h
 
-version_refutes : (why : LogRefusal) → FillVersionCause fill_version_text why → ⊥
+pub version_refutes : (why : LogRefusal) → FillVersionCause fill_version_text why → ⊥
 version_refutes (Refusals.Form i) h = h.1 refl
 version_refutes why h = h
 
@@ -73,7 +73,7 @@ all_known P (g ∷ given) limits known zero c e none =
     let clash : None ≡ Some g.x = sym none ∙ ap (λ (n : NamedCell). symbol_of P n.name) (sym same) ∙ known 0 g refl in cc
 all_known P (g ∷ given) limits known (suc k) c e none = all_known P given limits (λ i d f. known (suc i) d f) k c e none
 
-cells_refute : (P : Instance) (given : List GivenCell) (why : LogRefusal) → KeepsLimits P → AreGivenIn P given → CellsCause P (cells_text P given) why → ⊥
+pub cells_refute : (P : Instance) (given : List GivenCell) (why : LogRefusal) → KeepsLimits P → AreGivenIn P given → CellsCause P (cells_text P given) why → ⊥
 cells_refute P given (Refusals.Form i) limits are h = h.1 (map (named_cell P) given) (named_are P given limits are, refl)
 cells_refute P given (Refusals.Name i) limits are h =
     let u = h.1 in

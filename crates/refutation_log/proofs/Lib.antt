@@ -26,3 +26,4 @@ pub mod LeftCells
 pub mod GivenLaws
 pub mod FillFronts
 pub mod FillUnique
+pub mod FillRead

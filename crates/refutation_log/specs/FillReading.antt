@@ -5,13 +5,15 @@ use Rattle.rwsp_text.specs.Fields.{Words, ◌>>=◌, place_at, name_at}
 use Rattle.rwsp_terms.specs.Instance.{Instance, cells, IsSymbol, symbol_of}
 use Rattle.refutation_terms.specs.declared.lines.Opening.TheVariants.{Full}
 use Rattle.refutation_terms.specs.Ranges.{AreRules}
+use Rattle.refutation_terms.specs.declared.lines.LogRefusal.{LogRefusal}
+use Rattle.refutation_terms.specs.Tree.{IsTree}
 use Rattle.refutation_terms.specs.Log.{Fits}
 use Rattle.refutation_log.specs.declared.refusal.LineRefusal.{LineRefusal}
 use Rattle.refutation_log.specs.declared.refusal.LineRefusal.TheVariants.{Form, Name}
 use Rattle.refutation_log.specs.declared.cells.GivenCell.{GivenCell}
 use Rattle.refutation_log.specs.GivenCells.{AreGivenIn}
 use Rattle.refutation_log.specs.FillLog.{FillLog}
-use Rattle.refutation_log.specs.FillText.{NamedCell, cell_words, named_cell, cells_text, fill_header, AreNamedCells, SpellsCells, NamesUnknown}
+use Rattle.refutation_log.specs.FillText.{NamedCell, cell_words, named_cell, cells_text, fill_header, fill_text, AreNamedCells, SpellsCells, NamesUnknown, IsFillRefused}
 
 -- a given cell is one of the problem's
 abbrev pub IsCellOf : Instance → GivenCell → Type 0
@@ -31,6 +33,18 @@ pub record BeginsWithFillHeader (P : Instance) (text named : List ℕ) (given : 
   pub are_rules : AreRules P named
   pub are_given : AreGivenIn P given
   pub whole : text ≡ fill_header P named given ++ body
+
+-- the text begins with the header of no fill log, and is refused for this cause
+pub record IsFillHeaderRefused (P : Instance) (text : List ℕ) (why : LogRefusal) : Type 0 where
+  pub refused : IsFillRefused P text why
+  pub none : (named : List ℕ) (given : List GivenCell) (body : List ℕ)
+      → BeginsWithFillHeader P text named given body → ⊥
+
+-- the text is that of a fill log that fits the problem and is one whole tree
+pub record IsFillReadAs (P : Instance) (text : List ℕ) (f : FillLog) : Type 0 where
+  pub is_text : text ≡ fill_text P f
+  pub fits : FillFits P f
+  pub tree : IsTree f.log.lines
 
 -- the bytes spell these given cells
 abbrev pub SpellsGivenCells : Instance → List ℕ → List GivenCell → Type 0

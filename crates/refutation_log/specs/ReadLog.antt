@@ -1,6 +1,6 @@
 -- Why a text is refused by reading alone: its lines are spelled, its names known, and it is one whole tree. What the
 -- lines say isn't looked at.
-use Rattle.std.specs.Prelude.{◌≡◌, ℕ, ◌+◌, ◌-◌, ◌<◌, ◌≤◌, List, ◌++◌, length, take, Bool, Option}
+use Rattle.std.specs.Prelude.{◌≡◌, ℕ, ◌+◌, ◌-◌, ◌<◌, ◌≤◌, List, [], ◌++◌, length, take, Bool, Option}
 use Rattle.rwsp_terms.specs.declared.limits.TheConstants.{LONGEST_LOG, DAYS_OF_WEEK}
 use Rattle.rwsp_terms.specs.Instance.{Instance}
 use Rattle.refutation_terms.specs.declared.lines.LogKind.{LogKind}
@@ -100,3 +100,7 @@ AreLinesUnder P h left rest lines = AreReadLines P (log_under h lines) left rest
 -- a text that begins with the header is refused by reading, for this cause, in what is left behind it
 abbrev pub IsUnreadUnder : Instance → Header → List ℕ → LogRefusal → Type 0
 IsUnreadUnder P h left why = IsUnread P (kind_by h.goal) (text_of_header P h ++ left) why
+
+-- the log has this header, and its lines are what is left behind it
+abbrev pub IsLogUnder : Instance → Header → List ℕ → Log → Type 0
+IsLogUnder P h left g = AreReadLines P g left [] × (g ≡ log_under h g.lines)

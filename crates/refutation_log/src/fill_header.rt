@@ -4,7 +4,7 @@ ghost use Rattle.rwsp_model.specs.Refusals.{MatchAnswer};
 ghost use Rattle.refutation_log.specs.Headers.{StopsFor};
 ghost use Rattle.refutation_log.specs.GivenCells.{AreGivenIn};
 ghost use Rattle.refutation_log.specs.FillText.{fill_version_text, cells_text, FillVersionCause, CellsCause, IsFillRefused};
-ghost use Rattle.refutation_log.specs.FillReading.{BeginsWithFillHeader, cell_at, WritesGiven, AreWordsRefused, SpellsGivenCells, AreCellsRefused};
+ghost use Rattle.refutation_log.specs.FillReading.{BeginsWithFillHeader, IsFillHeaderRefused, cell_at, WritesGiven, AreWordsRefused, SpellsGivenCells, AreCellsRefused};
 
 use crate::{GivenCell, GivenCells, LineReader, LineRefusal, LogRefusal, body_of, rules_line};
 use rwsp_model::{Fail, Problem};
@@ -31,6 +31,20 @@ pub fn read_fill_header<'a>(
         (λ h. BeginsWithFillHeader problem.now bytes.now h.named h.given h.body.now)
         (IsFillRefused problem.now bytes.now) }
 {
+    header_of(alloc, problem, bytes)
+}
+
+/// The same, which is refused only where there is no header.
+pub(crate) fn header_of<'a>(
+    alloc: Global,
+    problem: &Problem,
+    bytes: &'a [u8],
+) -> Result<FillHeader<'a>, Fail<LogRefusal>>
+    ensures { MatchAnswer result
+        (λ h. BeginsWithFillHeader problem.now bytes.now h.named h.given h.body.now)
+        (IsFillHeaderRefused problem.now bytes.now) }
+{
+    problem.prove_limits();
     let mut reader = LineReader::new(bytes);
     if let Err(why) = version_line(&mut reader) {
         return Err(Fail::Refused(why));
@@ -110,9 +124,9 @@ fn read_given(
     given_in(alloc, problem, &mut fields)
 }
 
-// The given cells that all fields which are left write. A field that is no part of one ends the reading; a name that is
-// no symbol's does so only once all are read.
-fn given_in(
+/// The given cells that all fields which are left write. A field that is no part of one ends the reading; a name that
+/// is no symbol's does so only once all are read.
+pub fn given_in(
     alloc: Global,
     problem: &Problem,
     fields: &mut Fields,

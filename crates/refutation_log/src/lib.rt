@@ -11,6 +11,7 @@ mod fill_header;
 mod fill_laws;
 mod fill_log;
 mod fill_print;
+mod fill_read;
 mod filled;
 mod found;
 mod gather;
@@ -33,13 +34,14 @@ pub use cells::{GivenCell, GivenCells};
 pub use cells_text::{is_open_word_taken, read_cells};
 pub use cited::{put_cited, put_opening_cited};
 pub use fields::{put_place, put_word};
-pub use fill_header::{FillHeader, read_fill_header};
+pub use fill_header::{FillHeader, given_in, read_fill_header};
 pub use fill_laws::{
     fill_headers_are_distinct, fill_logs_have_one_text, fill_texts_have_one_verdict,
     refusals_decide_cells, spelled_are_given, text_gives_one_list,
 };
 pub use fill_log::FillLog;
 pub use fill_print::{print_fill, put_cells_line};
+pub use fill_read::read_fill;
 pub use filled::Filled;
 pub use found::Found;
 pub use given_laws::fills_leave_no_roster;

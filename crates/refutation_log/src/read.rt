@@ -5,7 +5,7 @@ ghost use Rattle.rwsp_model.specs.Refusals.{MatchAnswer};
 ghost use Rattle.refutation_terms.specs.Ranges.{AreRules};
 ghost use Rattle.refutation_terms.specs.Log.{OpeningFits, GoalFits};
 ghost use Rattle.refutation_terms.specs.Verdict.{Spells};
-ghost use Rattle.refutation_log.specs.ReadLog.{HasLogsOf, IsReadAs, IsUnread, AreLinesUnder, IsUnreadUnder, IsTreeLineRefused, open_after};
+ghost use Rattle.refutation_log.specs.ReadLog.{HasLogsOf, IsReadAs, IsUnread, AreLinesUnder, IsLogUnder, IsUnreadUnder, IsTreeLineRefused, open_after};
 
 use crate::header::{Header, lines_of_header, read_header};
 use crate::line::read_line;
@@ -31,6 +31,23 @@ pub fn read_log(
         Ok(header) => header,
         Err(fail) => return Err(fail),
     };
+    log_behind(alloc, problem, header)
+}
+
+/// The log with this header, whose lines are all that is behind it.
+pub(crate) fn log_behind(
+    alloc: Global,
+    problem: &Problem,
+    header: Header,
+) -> Result<Log, Fail<LogRefusal>>
+    requires named { AreRules problem.now header.named }
+    requires opening { OpeningFits problem.now header.opening }
+    requires goal { GoalFits problem.now header.opening header.goal }
+    requires few { length header.body.now ≤ LONGEST_LOG }
+    ensures { MatchAnswer result
+        (IsLogUnder problem.now header.entry header.entry.body.now)
+        (IsUnreadUnder problem.now header.entry header.entry.body.now) }
+{
     let mut reader = LineReader::new(header.body);
     let lines = match read_lines(alloc, problem, &mut reader, &header) {
         Ok(lines) => lines,
