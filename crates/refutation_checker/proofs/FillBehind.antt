@@ -13,13 +13,13 @@ use Rattle.refutation_terms.specs.declared.lines.LogRefusal.TheVariants as Refus
 use Rattle.refutation_terms.specs.Word.{Domains}
 use Rattle.refutation_terms.specs.Tree.{IsTree, after_trees}
 use Rattle.refutation_terms.specs.Log.{Holds, LineFits}
-use Rattle.refutation_terms.proofs.Trees.{tree_is_whole}
 use Rattle.refutation_terms.proofs.TreeDomains.{behind}
 use Rattle.refutation_terms.proofs.Spent.{open_holds_not}
 use Rattle.refutation_terms.proofs.Causes.{long_not_short, escaped_not_holding}
 use Rattle.domain_store.specs.States.{State, IsStateOf}
 use Rattle.refutation_checker.specs.LineVerdicts.{IsIdleSplit, IsSoundLine, LineCause}
 use Rattle.refutation_checker.specs.LineTexts.{IsSoundUnder, PassesNext}
+use Rattle.refutation_checker.proofs.OpenTrees.{no_tree}
 use Rattle.refutation_checker.proofs.Passing.{still_part}
 use Rattle.refutation_log.specs.declared.cells.GivenCell.{GivenCell}
 use Rattle.refutation_log.specs.FillLog.{given_opening, given_domains_at, given_splits}
@@ -41,10 +41,7 @@ cause_not_sound P goal named D n line (Refusals.Escape i w) h s = escaped_not_ho
 cause_not_sound P goal named D n line (Refusals.Unfinished i) h s = open_holds_not P goal D (subst (Holds P goal D) h.1 s.holds)
 cause_not_sound P goal named D n line why h s = absurd h
 
--- lines with no whole tree in front are no tree, nor are they behind the splits on given cells
-
-pub no_tree : (lines : List Line) → after_trees 1 lines ≡ None → IsTree lines → ⊥
-no_tree lines none tree = let some : after_trees 1 lines ≡ Some [] = subst (λ ls. after_trees 1 ls ≡ Some []) tree.1 (tree_is_whole tree.0) in let clash : Some [] ≡ None = sym some ∙ none in cc
+-- behind the splits on given cells lines with no whole tree in front are none
 
 pub part_behind : (P : Instance) (given : List GivenCell) (lines : List Line) (w : State) → after_trees 1 lines ≡ None → IsBehindGiven P given lines w → w.whole ≡ false
 part_behind P given lines w none walked =

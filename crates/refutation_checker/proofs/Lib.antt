@@ -4,6 +4,7 @@ pub mod LineJudging
 pub mod Passing
 pub mod HeaderFaults
 pub mod SoundLines
+pub mod OpenTrees
 pub mod ChunkJudging
 pub mod Joining
 pub mod Deciding
@@ -17,7 +18,6 @@ pub mod Feeds
 pub mod Cutting
 pub mod FillBehind
 pub mod FillPassing
-pub mod OneFillLine
 pub mod FillBodies
 pub mod FillVerdicts
 pub mod SomeFillVerdict

@@ -18,7 +18,7 @@ use Rattle.domain_store.specs.Store.{Store, BelongsTo, has_domain, IsStore, HasD
 use Rattle.domain_store.specs.States.{State, IsStateOf}
 use Rattle.domain_store.proofs.Idle.{idle_in_store}
 use Rattle.refutation_checker.specs.LineVerdicts.{StandsPlainly, IsPlainlySound, IsIdleSplit, PlainCause, HoldsByWords, IsSoundLine, LineCause}
-use Rattle.refutation_checker.specs.LineTexts.{Judging, log_of, IsSoundUnder, HasCause, IsLineRead, MayStep}
+use Rattle.refutation_checker.specs.LineTexts.{Judging, log_of, IsSoundUnder, HasCause, CauseUnder, IsLineRead, MayStep}
 
 pub plain_is_cause : (P : Instance) (goal : Option ℕ) (named : List ℕ) (D : Domains) (n : ℕ) (line : Line) (why : LogRefusal) → PlainCause P goal named D n line why → LineCause P goal named D n line why
 plain_is_cause P goal named D n line (Refusals.Escape i w) h = absurd h
@@ -78,6 +78,13 @@ pub read_next : (J : Judging) (o : Opening) (lines : List Line) (bytes : List �
 read_next J o lines bytes line w spelled part h =
     let fit = spelled_lines_fit J.problem J.goal J.counts bytes line spelled in
     record { spelled = fit.1; sound = record { in_tree = part; fits = fit.0; sound = h.0 }; walked = h.1 }
+
+-- whatever its number is
+pub refused_there : (J : Judging) (o : Opening) (lines : List Line) (bytes : List ℕ) (line : Line) (n : ℕ) (why : LogRefusal)
+    → Spells J.problem J.goal J.counts bytes line → (IsTree lines → ⊥) → HasCause J (domains_at J.problem o lines (length lines)) n line why
+    → CauseUnder J lines (domains_at J.problem o lines (length lines)) n bytes why
+refused_there J o lines bytes line n why spelled part h =
+    inr (part, cause_of_text J.problem J.goal J.counts J.named (domains_at J.problem o lines (length lines)) n bytes line why spelled h)
 
 pub refused_next : (J : Judging) (o : Opening) (lines : List Line) (bytes : List ℕ) (line : Line) (n : ℕ) (why : LogRefusal)
     → Spells J.problem J.goal J.counts bytes line → (IsTree lines → ⊥) → n ≡ header_lines o J.goal J.counts + length lines + 1

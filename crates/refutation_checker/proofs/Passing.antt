@@ -35,7 +35,7 @@ use Rattle.refutation_log.proofs.OneText.{name_there, feedless_words, body_feedl
 use Rattle.refutation_log.proofs.PrintedTexts.{line_piece, joined_lines}
 use Rattle.domain_store.specs.States.{State, IsStateOf}
 use Rattle.domain_store.proofs.Stack.{read_is_tree}
-use Rattle.refutation_checker.specs.LineTexts.{Judging, HasCause, IsSoundNext, PassesNext, HasCauseNext}
+use Rattle.refutation_checker.specs.LineTexts.{Judging, HasCause, head_of, IsSoundNext, PassesNext, HasCauseNext}
 use Rattle.refutation_checker.specs.ChunkVerdicts.{AreSoundBehind, IsChunkRefused}
 use Rattle.refutation_log.specs.Headers.{GoalIsInRange}
 use Rattle.refutation_checker.specs.Turns.{IsSoundTurn, TurnFault, IsTurnFault}
@@ -81,10 +81,10 @@ passed_next J g i number line w new (Ok None) tree fits here before is h =
     let next = h g.opening front before.walked in
     let less = slice_get_within g.lines i line here in
     let more : take (i + 1) g.lines ≡ front ++ line ∷ [] = take_more g.lines i line less ∙ ap (λ l. front ++ l ∷ []) (get_or_from_slice_get g.lines i line line here) in
-    let one : IsSoundNext J g.opening front line = record { in_tree = no_front g.lines i tree less; fits = fits; sound = next.0 } in
+    let one : IsSoundNext J (head_of J g.opening) front line = record { in_tree = no_front g.lines i tree less; fits = fits; sound = next.0 } in
     record {
       walked = subst (λ ls. IsStateOf J.problem g.opening ls new) (sym more) next.1;
-      sound = subst (λ ls. AreSoundBehind J g.opening [] ls) (sym more) (sound_joined J g.opening [] front (line ∷ []) before.sound (one, tt));
+      sound = subst (λ ls. AreSoundBehind J (head_of J g.opening) [] ls) (sym more) (sound_joined J (head_of J g.opening) [] front (line ∷ []) before.sound (one, tt));
     }
 passed_next J g i number line w new (Ok (Some why)) tree fits here before is h =
     let front = take i g.lines in
@@ -110,7 +110,7 @@ lines_cut P goal lines i line here =
     ∙ ap (λ t. t ++ (f line ++ flat_map f after)) (joined_lines P goal before)
     ∙ ap (λ t. lines_text P goal before ++ (f line ++ t)) (joined_lines P goal after)
 
-refused_at : (P : Instance) (g : Log) (i : ℕ) (why : LogRefusal) → KeepsLimits P → Fits P g → IsTree g.lines → IsRefusedAt (judging_of P g) g i why → IsChunkRefused (judging_of P g) g.opening [] (lines_text P g.goal g.lines) why
+refused_at : (P : Instance) (g : Log) (i : ℕ) (why : LogRefusal) → KeepsLimits P → Fits P g → IsTree g.lines → IsRefusedAt (judging_of P g) g i why → IsChunkRefused (judging_of P g) (head_of (judging_of P g) g.opening) [] (lines_text P g.goal g.lines) why
 refused_at P g i why limits fits tree at =
     let J : Judging = judging_of P g in
     let front = take i g.lines in

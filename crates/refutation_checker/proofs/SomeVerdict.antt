@@ -30,7 +30,7 @@ use Rattle.refutation_log.specs.Headers.{BeginsWithHeader}
 use Rattle.refutation_log.specs.ReadLog.{HasLogsOf}
 use Rattle.refutation_checker.specs.Turns.{IsSoundTurn}
 use Rattle.refutation_checker.specs.ChunkVerdicts.{AreSoundBehind}
-use Rattle.refutation_checker.specs.LineTexts.{Judging, log_of, IsSoundNext}
+use Rattle.refutation_checker.specs.LineTexts.{Judging, log_of, head_of, IsSoundNext}
 use Rattle.refutation_checker.specs.Laws.{TextsHaveAVerdict}
 use Rattle.refutation_checker.proofs.HeaderFaults.{refused_at_line}
 use Rattle.refutation_checker.proofs.LineJudging.{refused_next}
@@ -90,7 +90,7 @@ abbrev RefusesNone : Judging → Opening → List Line → List ℕ → Type 0
 RefusesNone J o lines line = (why : LogRefusal) → CauseBehind J.problem (log_of J o lines) line why → ⊥
 
 abbrev Takes : Judging → Opening → List Line → List ℕ → Line → Type 0
-Takes J o lines line l = (line ≡ line_text J.problem (raw J.problem J.goal l)) × IsSoundNext J o lines l
+Takes J o lines line l = (line ≡ line_text J.problem (raw J.problem J.goal l)) × IsSoundNext J (head_of J o) lines l
 
 -- a line that is refused for no cause is a sound next line
 spelled_stands : (J : Judging) (o : Opening) (lines : List Line) (line : List ℕ) (written : RawLine) → RefusesNone J o lines line → ((l : Line) → Takes J o lines line l → ⊥) → (IsTree lines → ⊥) → IsWritten J.problem J.goal J.counts line written → (found : Option Line) → line_of J.problem written ≡ found → ⊥
@@ -110,7 +110,7 @@ line_read J o lines line none goes =
     none (Refusals.Form n) (inr (part, (refl, λ written w. spelled_stands J o lines line written none goes part w (line_of J.problem written) refl)))
 
 -- the lines behind a header, some of which have been read
-lines_on : (J : Judging) (kind : LogKind) (text body : List ℕ) (o : Opening) → HasHeader J kind text o body → HasNoVerdict J.problem kind text → (n : ℕ) (lines : List Line) (left : List ℕ) → length left < n → AreSoundBehind J o [] lines → body ≡ lines_text J.problem J.goal lines ++ left → ⊥
+lines_on : (J : Judging) (kind : LogKind) (text body : List ℕ) (o : Opening) → HasHeader J kind text o body → HasNoVerdict J.problem kind text → (n : ℕ) (lines : List Line) (left : List ℕ) → length left < n → AreSoundBehind J (head_of J o) [] lines → body ≡ lines_text J.problem J.goal lines ++ left → ⊥
 lines_on J kind text body o h none zero lines left few sound e = omega (arith, few)
 lines_on J kind text body o h none (suc n) lines [] few sound e =
     let all : body ≡ lines_text J.problem J.goal lines = e ∙ append-nil (lines_text J.problem J.goal lines) in
@@ -130,7 +130,7 @@ lines_on J kind text body o h none (suc n) lines (b ∷ left) few sound e =
       cause = c;
     })))
     (λ l takes.
-    lines_on J kind text body o h none n (lines ++ l ∷ []) next.rest (let less = next.shorter in omega (arith, few, less)) (sound_joined J o [] lines (l ∷ []) sound (takes.1, tt))
+    lines_on J kind text body o h none n (lines ++ l ∷ []) next.rest (let less = next.shorter in omega (arith, few, less)) (sound_joined J (head_of J o) [] lines (l ∷ []) sound (takes.1, tt))
     (text_on J.problem J.goal body (b ∷ left) next.line next.rest lines l e next.whole takes.0))
 
 body_on : (J : Judging) (kind : LogKind) (text body : List ℕ) (o : Opening) → HasLogsOf J.problem kind → BeginsWithHeader J.problem kind text J.named o J.goal J.counts body → IsSoundTurn J.problem J.named o → HasNoVerdict J.problem kind text → ⊥

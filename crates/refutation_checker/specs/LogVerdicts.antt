@@ -7,7 +7,7 @@ use Rattle.refutation_terms.specs.Tree.{domains_at}
 use Rattle.refutation_terms.specs.Log.{Log}
 use Rattle.refutation_terms.specs.Verdict.{header_lines}
 use Rattle.domain_store.specs.States.{State, IsStateOf}
-use Rattle.refutation_checker.specs.LineTexts.{Judging, HasCause}
+use Rattle.refutation_checker.specs.LineTexts.{Judging, HasCause, head_of}
 use Rattle.refutation_checker.specs.ChunkVerdicts.{AreSoundBehind}
 
 -- what the lines of a log are judged by
@@ -16,7 +16,7 @@ judging_of P g = record { problem = P; named = g.named; goal = g.goal; counts = 
 
 -- the first i lines have no cause
 abbrev pub AreSoundTo : Judging → Log → ℕ → Type 0
-AreSoundTo J g i = AreSoundBehind J g.opening [] (take i g.lines)
+AreSoundTo J g i = AreSoundBehind J (head_of J g.opening) [] (take i g.lines)
 
 -- and the walk has read them
 pub record IsPassed (J : Judging) (g : Log) (i : ℕ) (w : State) : Type 0 where
@@ -35,4 +35,4 @@ pub record IsRefusedAt (J : Judging) (g : Log) (i : ℕ) (why : LogRefusal) : Ty
 abbrev pub IsTreeJudged : Instance → Log → Option LogRefusal → Type 0
 IsTreeJudged P g found =
     let J : Judging = judging_of P g in
-    MatchOption found (AreSoundBehind J g.opening [] g.lines) (λ why. (i : ℕ) × IsRefusedAt J g i why)
+    MatchOption found (AreSoundBehind J (head_of J g.opening) [] g.lines) (λ why. (i : ℕ) × IsRefusedAt J g i why)

@@ -14,7 +14,7 @@ ghost use Rattle.refutation_checker.specs.UnreadSplits.{AreEntered, IsEntered, I
 
 use crate::line_ends::{count_lines, lines_end};
 use crate::text_chunk::Chunk;
-use crate::unread_splits::{UnreadSplit, pass_line};
+use crate::unread_splits::{UnreadSplit, missing_inside, pass_line};
 use domain_store::Walk;
 use refutation_log::{LineReader, read_line};
 use refutation_terms::{Line, Terms};
@@ -224,12 +224,14 @@ fn cut_off<'a>(
                 walk,
                 bytes: below,
                 first: all.first + count,
+                missing: missing_inside(splits),
             };
             let chunk = Chunk {
                 number: all.number,
                 walk: all.walk,
                 bytes: lines,
                 first: all.first,
+                missing: all.missing,
             };
             Ok((chunk, Some(rest)))
         }
@@ -245,6 +247,7 @@ fn numbered(chunk: Chunk, number: u32) -> Chunk
         walk: chunk.walk,
         bytes: chunk.bytes,
         first: chunk.first,
+        missing: chunk.missing,
     }
 }
 

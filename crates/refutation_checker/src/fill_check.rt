@@ -4,13 +4,22 @@ ghost use Rattle.refutation_log.specs.FillLog.{FillPasses};
 ghost use Rattle.refutation_log.specs.FillReading.{FillFits};
 ghost use Rattle.refutation_checker.specs.FillVerdicts.{filling, IsFillPassed, HasFaultAt};
 
-use crate::fill_line::{FILL_TERMS, FIRST_LINE};
 use crate::{Judge, Judging};
 use domain_store::Walk;
 use refutation_log::{FillLog, GivenCells, Log, walk_behind};
+use refutation_terms::Terms;
 use rwsp_model::Problem;
 use std::alloc::{AllocError, Global};
 use std::marker::Model;
+
+/// What the lines of a fill log may be: it has no goal, and may count.
+pub const FILL_TERMS: Terms = Terms {
+    goal: None,
+    counts: true,
+};
+
+/// The number of the first line below the header of a fill log.
+pub const FIRST_LINE: u32 = 4;
 
 /// The given cells and the log of a fill log, where each is kept by itself.
 #[derive(Drop)]

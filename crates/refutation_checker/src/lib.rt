@@ -4,10 +4,8 @@
 
 mod chunk;
 mod chunk_starts;
-mod fill_body;
 mod fill_check;
 mod fill_laws;
-mod fill_line;
 mod fill_verdict;
 mod header;
 mod judge;
@@ -33,7 +31,7 @@ pub use chunk_starts::chunks_for;
 pub use clean_words::{Gate, NoGate};
 pub use fill_check::{FillParts, fill_judge, fill_passes, passes_behind};
 pub use fill_laws::fill_texts_have_a_verdict;
-pub use fill_verdict::{PassedFill, check_fill};
+pub use fill_verdict::{PassedFill, check_fill, check_fill_with};
 pub use judge::{Judge, Judging};
 pub use laws::texts_have_a_verdict;
 pub use leaf_judge::{LeafJudge, go_past};

@@ -6,7 +6,7 @@ ghost use Rattle.refutation_terms.specs.Log.{OpeningFits};
 ghost use Rattle.refutation_terms.specs.Verdict.{IsRefused};
 ghost use Rattle.refutation_log.specs.ReadLog.{HasLogsOf};
 ghost use Rattle.refutation_checker.specs.Accepted.{IsPassedText};
-ghost use Rattle.refutation_checker.specs.Starts.{StandsBehind};
+ghost use Rattle.refutation_checker.specs.Starts.{StandsBehind, log_head};
 
 use crate::Chunk;
 use crate::chunk::judge_chunk;
@@ -126,11 +126,12 @@ fn lines_below<'a>(
     header: &Header<'a>,
 ) -> Result<Chunk<'a>, AllocError>
     requires fits { OpeningFits problem.now header.now.opening }
-    ensures start { IfOk result (λ lines. StandsBehind problem.now header.now.goal header.now.counts
-        header.now.opening [] lines) }
+    ensures start { IfOk result (λ lines. StandsBehind problem.now
+        (log_head header.now.opening header.now.goal header.now.counts) [] lines) }
     ensures part { IfOk result (λ lines. lines.walk.whole ≡ false) }
     ensures bytes { IfOk result (λ lines. lines.bytes ≡ header.now.body.now) }
     ensures first { IfOk result (λ lines. lines.first ≤ 4) }
+    ensures missing { IfOk result (λ lines. lines.missing ≡ 1) }
 {
     let walk = Walk::new(alloc, problem, header.opening)?;
     Ok(Chunk {
@@ -138,5 +139,6 @@ fn lines_below<'a>(
         walk,
         bytes: header.body,
         first: lines_of_header(header.opening, header.terms()) + 1,
+        missing: 1,
     })
 }

@@ -1,14 +1,26 @@
+use Rattle.std.proofs.Common.{[], true, false, Ok, Err}
+use Rattle.refutation_checker.specs.FillVerdicts.{AreFillLines}
+use Rattle.refutation_checker.proofs.FillBodies.{judged_below}
 use Rattle.refutation_checker.proofs.FillVerdicts.{accepted, ends, failed}
 use Rattle.refutation_checker.proofs.fill_verdict.check_fill.Goals as goal
 
 pub returns-in-Ok-true : goal.returns-in-Ok-true
 returns-in-Ok-true c =
-    accepted c.args.problem.now c.args.bytes.now c.in-Ok.header.named c.in-Ok.header.given c.in-Ok.header.body.now c.in-Ok.ensures (rw c.in-Ok-true.field-0-test at c.in-Ok-true.ensures)
+    let h = c.in-Ok.header in
+    let below = c.in-Ok-lines_below in
+    let all : AreFillLines c.args.problem.now h.named h.given h.body.now true = judged_below c.args.problem.now h.named h.given below.lines h.body.now (Ok true) below.ensures.start below.ensures.bytes (λ o. (rw c.in-Ok-true.field-0-test at c.in-Ok-true.ensures) o []) in
+    accepted c.args.problem.now c.args.bytes.now h.named h.given h.body.now c.in-Ok.ensures all
 
 pub returns-in-Ok-false : goal.returns-in-Ok-false
 returns-in-Ok-false c =
-    ends c.args.problem.now c.args.bytes.now c.in-Ok.header.named c.in-Ok.header.given c.in-Ok.header.body.now c.in-Ok.ensures (rw c.in-Ok-false.field-0-test at c.in-Ok-false.ensures)
+    let h = c.in-Ok.header in
+    let below = c.in-Ok-lines_below in
+    let all : AreFillLines c.args.problem.now h.named h.given h.body.now false = judged_below c.args.problem.now h.named h.given below.lines h.body.now (Ok false) below.ensures.start below.ensures.bytes (λ o. (rw c.in-Ok-false.field-0-test at c.in-Ok-false.ensures) o []) in
+    ends c.args.problem.now c.args.bytes.now h.named h.given h.body.now c.in-Ok.ensures all
 
-pub returns-in-Err-judge_body : goal.returns-in-Err-judge_body
-returns-in-Err-judge_body c =
-    failed c.args.problem.now c.args.bytes.now c.in-Ok.header.named c.in-Ok.header.given c.in-Ok.header.body.now c.in-Err-judge_body.fail _ _ c.in-Ok.ensures c.in-Err-judge_body.ensures
+pub returns-in-Err-judged : goal.returns-in-Err-judged
+returns-in-Err-judged c =
+    let h = c.in-Ok.header in
+    let below = c.in-Ok-lines_below in
+    failed c.args.problem.now c.args.bytes.now h.named h.given h.body.now c.in-Err-judged.fail _ _ c.in-Ok.ensures
+    (judged_below c.args.problem.now h.named h.given below.lines h.body.now (Err c.in-Err-judged.fail) below.ensures.start below.ensures.bytes (λ o. c.in-Err-judged.ensures o []))
