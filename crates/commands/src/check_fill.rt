@@ -7,10 +7,13 @@ ghost use Rattle.commands.specs.declared.second_file.SecondKind.TheVariants as K
 
 use crate::log_refusal::log_refusal_line;
 use crate::put::put_numbers;
-use refutation_checker::{PassedFill, check_fill};
+use clean_words::Gate;
+use refutation_checker::{PassedFill, check_fill_with};
 use refutation_log::{LogRefusal, put_cells_line};
 use rwsp_model::{Fail, Problem};
+use rwsp_terms::limits::USUAL_WORKERS;
 use std::alloc::{AllocError, Global};
+use std::thread::Threads;
 
 /// Whether a fill log passes.
 #[derive(Drop)]
@@ -21,13 +24,19 @@ pub enum Answer {
     Refused(LogRefusal),
 }
 
-/// The answer to the bytes of a fill log.
-pub fn job(alloc: Global, problem: &Problem, bytes: &[u8]) -> Result<Answer, AllocError>
+/// The answer to the bytes of a fill log, worked out by as many threads as for `check` where nothing is said.
+pub fn job<R: Threads + Sync, G: Gate>(
+    rt: &R,
+    alloc: Global,
+    problem: &Problem,
+    bytes: &[u8],
+    gate: &G,
+) -> Result<Answer, AllocError>
     requires { IsWithinLimit Kinds.Log bytes.now }
     ensures says { IfOk result (IsCheckedFill problem.now bytes.now) }
     ensures own { IfOk result (IsCheckedFillOf problem.now) }
 {
-    match check_fill(alloc, problem, bytes) {
+    match check_fill_with(rt, alloc, problem, bytes, USUAL_WORKERS, gate) {
         Ok(passed) => Ok(Answer::Accepted(passed)),
         Err(Fail::Refused(why)) => Ok(Answer::Refused(why)),
         Err(Fail::Memory) => Err(AllocError),

@@ -1,9 +1,11 @@
 // Fill logs, judged with their texts and without. What is refused, and why, is tried on the program's own tests.
-use refutation_checker::{check_fill, fill_passes};
-use refutation_log::{FillLog, Opening, read_fill_header};
+use refutation_checker::{NoGate, check_fill_with, fill_passes};
+use refutation_log::{FillLog, LogRefusal, Opening, read_fill_header};
+use rwsp_model::Fail::Refused;
 use rwsp_model::Problem;
 use std::alloc::Global;
 use std::test::Fail;
+use std::thread::Threads;
 use test_helpers::{TWOS_IN_SIX, log_of, problem_of};
 
 // A fill log's text, that of the log in it, and whether it passes.
@@ -47,17 +49,82 @@ fn passes_by_itself(
     Ok(fill_passes(alloc, problem, &fill)?)
 }
 
-// Whether the text is accepted.
-fn is_accepted(alloc: Global, problem: &Problem, text: &[u8]) -> bool {
-    text.len() <= 1_000 && check_fill(alloc, problem, text).is_ok()
+// What is said of the text of a fill log, with the line that is refused.
+#[derive(Debug, PartialEq)]
+enum Verdict {
+    Passes,
+    Idle(u32),
+    Fails(u32),
+    Unfinished(u32),
+    Extra(u32),
+    Ends,
+    Other,
+}
+
+use Verdict::{Ends, Extra, Fails, Idle, Passes, Unfinished};
+
+// Texts of fill logs of four cells that are days off, of which three may be, and what is said of each: the given cells
+// count as no lines, and a line behind the whole tree is refused whatever it is.
+const VERDICTS: [(&[u8], Verdict); 7] = [
+    (FILL_LOGS[0].0, Passes),
+    (FILL_LOGS[1].0, Fails(4)),
+    (FILL_LOGS[2].0, Idle(4)),
+    (
+        b"rwsp-fill 1\nrules 7\ncells 1 1 - 2 1 - 3 1 - 4 1 -\nsplit 5 1 D\nday 1 - over\nday 1 - over\n",
+        Passes,
+    ),
+    (
+        b"rwsp-fill 1\nrules 7\ncells 1 1 - 2 1 - 3 1 - 4 1 -\nsplit 5 1 D\nday 1 - over\nday 1 - over\nopen\n",
+        Extra(7),
+    ),
+    (
+        b"rwsp-fill 1\nrules 7\ncells 1 1 - 2 1 - 3 1 - 4 1 -\nsplit 5 1 D\nday 1 - over\nopen\n",
+        Unfinished(6),
+    ),
+    (
+        b"rwsp-fill 1\nrules 7\ncells 1 1 - 2 1 - 3 1 - 4 1 -\nsplit 5 1 D\nday 1 - over\n",
+        Ends,
+    ),
+];
+
+// What so many workers say of the text.
+fn verdict_by<R: Threads + Sync>(
+    rt: &R,
+    alloc: Global,
+    problem: &Problem,
+    text: &[u8],
+    workers: u32,
+) -> Verdict {
+    if text.len() > 1_000 || workers < 1 || workers > 4 {
+        return Verdict::Other;
+    }
+    match check_fill_with(rt, alloc, problem, text, workers, &NoGate) {
+        Ok(_) => Passes,
+        Err(Refused(LogRefusal::Idle(line))) => Idle(line),
+        Err(Refused(LogRefusal::Fails(line))) => Fails(line),
+        Err(Refused(LogRefusal::Unfinished(line))) => Unfinished(line),
+        Err(Refused(LogRefusal::Extra(line))) => Extra(line),
+        Err(Refused(LogRefusal::Ends)) => Ends,
+        Err(_) => Verdict::Other,
+    }
 }
 
 #[test]
 fn fill_logs_pass(rt: HostRuntime) -> Result<(), Fail> {
     let problem = problem_of(rt.alloc(), TWOS_IN_SIX)?;
     for (text, log, passes) in FILL_LOGS {
-        assert_eq!(rt; is_accepted(rt.alloc(), &problem, text), passes);
         assert_eq!(rt; passes_by_itself(rt.alloc(), &problem, text, log)?, passes);
+    }
+    Ok(())
+}
+
+#[test]
+fn any_number_of_workers(rt: HostRuntime) -> Result<(), Fail> {
+    let problem = problem_of(rt.alloc(), TWOS_IN_SIX)?;
+    for (text, verdict) in VERDICTS {
+        for workers in [1, 2, 4] {
+            assert_eq!(rt; verdict_by(&rt, rt.alloc(), &problem, text, workers), verdict);
+        }
     }
     Ok(())
 }

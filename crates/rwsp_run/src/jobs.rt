@@ -219,7 +219,7 @@ pub fn answer_on_files<R: Threads + Sync, G: Gate>(
             Ok(JobAnswer::Fill(answer))
         }
         FilesTask::CheckFill => {
-            let answer = check_fill::job(alloc, problem, &bytes)?;
+            let answer = check_fill::job(rt, alloc, problem, &bytes, gate)?;
             Ok(JobAnswer::CheckFill(answer))
         }
     }
