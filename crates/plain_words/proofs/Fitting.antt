@@ -15,6 +15,8 @@ use Rattle.refutation_terms.specs.Log.{OpeningFits}
 use Rattle.plain_words.specs.declared.statement.Rosters.{Rosters}
 use Rattle.plain_words.specs.declared.statement.Statement.TheVariants.{Named, OnlyTurn, Counted}
 use Rattle.plain_words.specs.Statements.{StatementFits}
+use Rattle.plain_words.specs.declared.statement.Rosters.TheVariants.{Every}
+use Rattle.plain_words.specs.FillWords.{behind_first}
 use Rattle.plain_words.specs.LogWords.{IsLoneTurn, rule_statement, day_number, AreThose, symbols, first_statement, reason_statements}
 
 first_fits : (P : Instance) (w : Rosters) (R : List ℕ) → StatementFits P (first_statement w R)
@@ -40,6 +42,11 @@ reason_fits P w R lone counted numbers x all =
     (All-append (StatementFits P) (map (rule_statement P lone) R) (map (λ (y : Symbol). Counted y) counted)
     (All-map (StatementFits P) (rule_statement P lone) R (All-weaker (IsNumber P) (λ k. StatementFits P (rule_statement P lone k)) (λ k h. rule_fits P lone k x h) R numbers))
     (All-map (StatementFits P) (λ (y : Symbol). Counted y) counted all))
+
+-- the same without the first statement
+pub behind_fits : (P : Instance) (R : List ℕ) (counted : List Symbol) → All (IsNumber P) R → All (IsSymbol P) counted → All (StatementFits P) (behind_first P R counted)
+behind_fits P R counted numbers all =
+    All-tail (StatementFits P) (first_statement Every R) (behind_first P R counted) (reason_fits P Every R None counted numbers tt all)
 
 pub lone_fits : (P : Instance) (o : Opening) (lines : List Line) (lone : Option Turn) → OpeningFits P o → IsLoneTurn P o lines lone → IfSome lone (λ t. IsSymbol P t.x)
 lone_fits P Full lines None fits is = tt

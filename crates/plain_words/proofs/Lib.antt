@@ -14,6 +14,7 @@ pub mod Scanned
 pub mod BestParts
 pub mod StaffPlaces
 pub mod LogSaid
+pub mod FillSaid
 pub mod WholeSaid
 pub mod WholeReasons
 pub mod RosterSaid

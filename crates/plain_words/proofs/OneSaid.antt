@@ -17,10 +17,13 @@ use Rattle.plain_words.specs.AcceptedRules.{AcceptedSays, accepted_in, accepted_
 use Rattle.rwsp_text.specs.Lines.{words_of}
 use Rattle.plain_words.specs.LogWords.{IsLogInWords, rosters_by}
 use Rattle.plain_words.specs.MendWords.{MendSays}
-use Rattle.plain_words.specs.AnswerWords.{LogSays, LineOf, WholeSays, MendOrLine, NoLogSays, AnswerSays}
+use Rattle.plain_words.specs.FillWords.{FillSays}
+use Rattle.plain_words.specs.AcceptedFill.{AcceptedFillSays, AcceptedFillWords}
+use Rattle.plain_words.specs.AnswerWords.{LogSays, FillLineOf, LineOf, WholeSays, MendOrLine, NoLogSays, FillOrNoLog, AnswerSays}
 use Rattle.plain_words.proofs.LogSaid.{IsOne, or_one, in_words_one}
 use Rattle.plain_words.proofs.WholeSaid.{whole_one}
 use Rattle.plain_words.proofs.WaysOne.{mend_one}
+use Rattle.plain_words.proofs.FillSaid.{fill_one, accepted_words_one}
 
 pub log_one : (P : Instance) (kind : LogKind) (bytes : List ℕ) → KeepsLimits P → IsOne (LogSays P kind bytes)
 log_one P kind bytes limits a b is other =
@@ -95,12 +98,20 @@ accepted_one P bytes a b is other =
     let s : is.1 ≡ other.1 = same_accepted is.1 other.1 (sym is.3 ∙ ap (λ (l : List ℕ). accepted_in P (words_of l)) body ∙ other.3) in
     is.4 ∙ ap (λ (x : Option ℕ × List ℕ). accepted_words P x) s ∙ sym other.4
 
-pub line_of_one : (P : Instance) (bytes : List ℕ) → IsOne (LineOf P bytes)
-line_of_one P bytes = or_one (AcceptedSays P bytes) (LineSays P bytes) (accepted_one P bytes) (line_one P bytes)
+accepted_fill_one : (P : Instance) (bytes : List ℕ) → KeepsLimits P → IsOne (AcceptedFillSays P bytes)
+accepted_fill_one P bytes limits a b is other =
+    let body : is.0 ≡ other.0 = same_body is.0 other.0 (sym is.1 ∙ other.1) in
+    accepted_words_one P (words_of is.0) limits a b is.2 (subst (λ (l : List ℕ). AcceptedFillWords P (words_of l) b) (sym body) other.2)
+
+pub line_of_one : (P : Instance) (bytes : List ℕ) → KeepsLimits P → IsOne (LineOf P bytes)
+line_of_one P bytes limits =
+    or_one (AcceptedSays P bytes) (FillLineOf P bytes) (accepted_one P bytes)
+    (or_one (AcceptedFillSays P bytes) (LineSays P bytes) (accepted_fill_one P bytes limits) (line_one P bytes))
 
 pub answers_one : (P : Instance) (bytes text other : List ℕ) → KeepsLimits P → AnswerSays P bytes text → AnswerSays P bytes other → text ≡ other
 answers_one P bytes text other limits is too =
-    or_one (LogSays P WithoutGoal bytes) (OrElse (LogSays P WithGoal bytes) (NoLogSays P bytes)) (log_one P WithoutGoal bytes limits)
-    (or_one (LogSays P WithGoal bytes) (NoLogSays P bytes) (log_one P WithGoal bytes limits)
+    or_one (LogSays P WithoutGoal bytes) (OrElse (LogSays P WithGoal bytes) (FillOrNoLog P bytes)) (log_one P WithoutGoal bytes limits)
+    (or_one (LogSays P WithGoal bytes) (FillOrNoLog P bytes) (log_one P WithGoal bytes limits)
+    (or_one (FillSays P bytes) (NoLogSays P bytes) (fill_one P bytes limits)
     (or_one (WholeSays P bytes) (MendOrLine P bytes) (whole_one P bytes limits)
-    (or_one (MendSays P bytes) (LineOf P bytes) (mend_one P bytes limits) (line_of_one P bytes)))) text other is too
+    (or_one (MendSays P bytes) (LineOf P bytes) (mend_one P bytes limits) (line_of_one P bytes limits))))) text other is too

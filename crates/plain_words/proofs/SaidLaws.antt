@@ -6,13 +6,14 @@ use Rattle.rwsp_terms.specs.declared.data.Symbol.{Symbol}
 use Rattle.rwsp_terms.specs.Instance.{Instance}
 use Rattle.refutation_terms.specs.declared.lines.Turn.{Turn}
 use Rattle.refutation_terms.specs.declared.lines.Line.{Line}
-use Rattle.refutation_terms.specs.declared.lines.Line.TheVariants.{Split, Closing, Unfinished}
-use Rattle.refutation_terms.specs.declared.lines.Leaf.TheVariants.{Window, Day, Words, Few, Blocks}
+use Rattle.refutation_terms.specs.declared.lines.Line.TheVariants.{Closing}
+use Rattle.refutation_terms.specs.declared.lines.Leaf.TheVariants.{Blocks}
 use Rattle.refutation_terms.specs.BlocksLeaf.{BlocksHold}
 use Rattle.refutation_terms.specs.Log.{Log}
 use Rattle.plain_words.specs.declared.statement.Rosters.{Rosters}
 use Rattle.plain_words.specs.declared.statement.Statement.{Statement}
 use Rattle.plain_words.specs.declared.statement.Statement.TheVariants.{Named, OnlyTurn, Counted}
+use Rattle.plain_words.specs.AnswerLaws.{FillRulesAreSaid}
 use Rattle.plain_words.specs.LogWords.{IsReason, rule_in, rule_statement, first_statement, reason_statements, day_number, AreThose, IsCounted, counts_blocks, symbols}
 
 -- rules
@@ -102,13 +103,8 @@ same_number : (x y : Symbol) → (y.number == x.number) ≡ true → y ≡ x
 same_number x y e = grind arith
 
 counts_here : (x : Symbol) (line : Line) → counts_blocks x line ≡ true → line ≡ Closing (Blocks x)
-counts_here x (Split p y) e = absurd (cc)
-counts_here x Unfinished e = absurd (cc)
-counts_here x (Closing (Window rule p len)) e = absurd (cc)
-counts_here x (Closing (Day j y over)) e = absurd (cc)
-counts_here x (Closing (Words p R claim)) e = absurd (cc)
-counts_here x (Closing Few) e = absurd (cc)
 counts_here x (Closing (Blocks y)) e = ap (λ (z : Symbol). Closing (Blocks z)) (same_number x y e)
+counts_here x line e = absurd (cc)
 
 counts_by : (x : Symbol) (line : Line) (lines : List Line) (b : Bool) → counts_blocks x line ≡ b → (list_any (counts_blocks x) lines ≡ true → Counts lines x) → (b || list_any (counts_blocks x) lines) ≡ true → Counts (line ∷ lines) x
 counts_by x line lines true is rest e = (0, line, refl, counts_here x line is)
@@ -124,3 +120,6 @@ counted_said P w g statements i x is got =
     let hold = those_hold (IsCounted P g.lines) (symbols P) is.counted is.are_counted in
     let has = in_reason P w g.named is.lone (IsCounted P g.lines) is.counted i x hold (subst (λ (l : List Statement). slice_get l i ≡ Some (Counted x)) is.said got) in
     (some_counts x g.lines has.0, has.1)
+
+pub fill_rules_said : FillRulesAreSaid
+fill_rules_said P R counted = named_rules P None R (map (λ (x : Symbol). Counted x) counted) (no_rules counted)

@@ -6,7 +6,7 @@ use Rattle.rwsp_terms.specs.Instance.{Instance}
 use Rattle.plain_words.specs.declared.statement.Statement.{Statement}
 use Rattle.plain_words.specs.Says.{SaysNothing}
 use Rattle.plain_words.specs.Escapes.{EscapeSays}
-use Rattle.plain_words.specs.LineAnswers.{IsStatement, ReadSays, SizedSays, RefusedStaffSays, WordsSay, LineSays, staffed_at}
+use Rattle.plain_words.specs.LineAnswers.{IsStatement, ReadSays, SizedSays, RefusedStaffSays, staffed_at}
 use Rattle.plain_words.proofs.Either.{second_says}
 use Rattle.plain_words.proofs.OneSaid.{same_body, same_pair}
 
@@ -28,6 +28,8 @@ pub staff_found : {V : Type 0} (bytes_of : V → List ℕ) (P : Instance) (ws re
 staff_found bytes_of P ws rest m None is h = λ text s. h text (subst (λ (x : ℕ × List (List ℕ)). SizedSays P x.0 x.1 text) (same_pair s.0 (m, rest) (sym s.1 ∙ is)) s.2)
 staff_found bytes_of P ws rest m (Some v) is h = ((m, rest), is, h)
 
-pub line_found : {V : Type 0} (bytes_of : V → List ℕ) (P : Instance) (bytes body : List ℕ) (found : Option V) → bytes ≡ body ++ 10 ∷ [] → Finds bytes_of (WordsSay P (words_of body)) found → Finds bytes_of (LineSays P bytes) found
-line_found bytes_of P bytes body None is h = λ text s. h text (subst (λ (l : List ℕ). WordsSay P (words_of l) text) (same_body s.0 body (sym s.1 ∙ is)) s.2)
-line_found bytes_of P bytes body (Some v) is h = (body, is, h)
+-- what is found of the words of a line is what is found of its bytes
+pub line_found : {V : Type 0} (bytes_of : V → List ℕ) (Says : List (List ℕ) → List ℕ → Type 0) (bytes body : List ℕ) (found : Option V) → bytes ≡ body ++ 10 ∷ [] → Finds bytes_of (Says (words_of body)) found
+    → Finds bytes_of (λ text. (b : List ℕ) × (bytes ≡ b ++ 10 ∷ []) × Says (words_of b) text) found
+line_found bytes_of Says bytes body None is h = λ text s. h text (subst (λ (l : List ℕ). Says (words_of l) text) (same_body s.0 body (sym s.1 ∙ is)) s.2)
+line_found bytes_of Says bytes body (Some v) is h = (body, is, h)

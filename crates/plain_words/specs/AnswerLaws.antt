@@ -13,6 +13,7 @@ use Rattle.plain_words.specs.declared.statement.Rosters.{Rosters}
 use Rattle.plain_words.specs.declared.statement.Statement.{Statement}
 use Rattle.plain_words.specs.declared.statement.Statement.TheVariants.{Counted}
 use Rattle.plain_words.specs.LogWords.{IsReason, rule_in}
+use Rattle.plain_words.specs.FillWords.{behind_first}
 use Rattle.plain_words.specs.AnswerWords.{AnswerSays}
 
 -- the rules in what is said of a refutation are those that the log names, in order, once each
@@ -20,6 +21,11 @@ abbrev pub NamedRulesAreSaid : Type 0
 NamedRulesAreSaid =
     (P : Instance) (w : Rosters) (g : Log) (statements : List Statement)
     → IsReason P w g statements → flat_map rule_in statements ≡ g.named
+
+-- so too behind the first line of what is said of a fill log that names these
+abbrev pub FillRulesAreSaid : Type 0
+FillRulesAreSaid =
+    (P : Instance) (R : List ℕ) (counted : List Symbol) → flat_map rule_in (behind_first P R counted) ≡ R
 
 -- what is said to be counted are leaves of the log, and hold
 abbrev pub CountedAreLeavesOf : Type 0

@@ -48,6 +48,7 @@ short_words Shorts.NoRoster = codes "no roster stands in the answer"
 short_words Shorts.LongProblem = codes "the problem's file has more than 1048576 bytes"
 short_words Shorts.LongRoster = codes "the roster's file has more than 1048576 bytes"
 short_words Shorts.LongLog = codes "the log's file has more than 536870912 bytes"
+short_words Shorts.OpenWord = codes "a shift is called ?, which is the word of a cell that is left open"
 
 -- what an answer with one number says in front of the number
 unfoldable pub count_front : Count → List ℕ

@@ -14,6 +14,8 @@ pub mod Statements
 pub mod LogWords
 pub mod LineAnswers
 pub mod AcceptedRules
+pub mod FillWords
+pub mod AcceptedFill
 pub mod AnswerParts
 pub mod Ways
 pub mod WayWords

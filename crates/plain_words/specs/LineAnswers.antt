@@ -134,6 +134,11 @@ horizon_at ws = word_at (codes "refused") ws >>= plain_at Shorts.Horizon
 unfoldable pub not_at : Words → Option Statement
 not_at ws = word_at (codes "weekly:") ws >>= (λ rest. word_at (codes "days") rest >>= count_at Counts.NotWeekly)
 
+-- behind `fill`
+unfoldable pub fill_at : Words → Option Statement
+fill_at ws =
+    word_at (codes "refused:") ws >>= (λ ws. word_at (codes "name") ws >>= (λ ws. word_at (codes "?") ws >>= plain_at Shorts.OpenWord))
+
 -- behind `staff range:`
 unfoldable pub staff_range_at : Words → Option Statement
 staff_range_at ws = word_at (codes "weeks") ws >>= count_at Counts.StaffRange
@@ -175,7 +180,8 @@ other_answer P w ws =
     (cond (bytes_eq w (codes "too")) (too_at ws)
     (cond (bytes_eq w (codes "horizon")) (horizon_at ws)
     (cond (bytes_eq w (codes "not")) (not_at ws)
-    (word_at (codes "refused:") ws >>= refused_at P w)))))
+    (cond (bytes_eq w (codes "fill")) (fill_at ws)
+    (word_at (codes "refused:") ws >>= refused_at P w))))))
 
 -- what the words of a line say
 unfoldable pub short_answer : Instance → Words → Option Statement

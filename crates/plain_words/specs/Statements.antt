@@ -13,7 +13,7 @@ use Rattle.plain_words.specs.Causes.{short_words, count_words, line_words}
 use Rattle.plain_words.specs.RuleWords.{rule_words}
 use Rattle.plain_words.specs.Counting.{counted_words}
 use Rattle.plain_words.specs.declared.statement.Rosters.{Rosters}
-use Rattle.plain_words.specs.declared.statement.Rosters.TheVariants.{Every, Free, Weeks}
+use Rattle.plain_words.specs.declared.statement.Rosters.TheVariants.{Every, Free, Weeks, Given}
 use Rattle.plain_words.specs.declared.statement.Statement.{Statement}
 use Rattle.plain_words.specs.declared.statement.Statement.TheVariants.{Together, Whatever, Named, OnlyTurn, Counted, Spent, AtLine, Unnamed, Long, Plain, Numbered, Least, NoneTo, Breaks}
 
@@ -26,6 +26,7 @@ unfoldable pub rosters_words : Rosters → List ℕ
 rosters_words Every = []
 rosters_words (Free n) = codes " with " ++ weekends_words n ++ codes " or more"
 rosters_words (Weeks n) = codes " of " ++ weeks_words n
+rosters_words Given = codes " that hold the given cells"
 
 -- the same where nothing is known of them
 unfoldable pub unknown_words : Rosters → List ℕ

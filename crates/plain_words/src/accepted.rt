@@ -20,9 +20,9 @@ struct Named {
     rules: Vec<u32>,
 }
 
-// The ascending numbers of rules in front.
+/// The ascending numbers of rules in front.
 #[tactic(auto, unfolding(rwsp_text::specs::Fields::rules_at))]
-fn rule_numbers(
+pub(crate) fn rule_numbers(
     alloc: Global,
     problem: &Problem,
     fields: &mut Fields,

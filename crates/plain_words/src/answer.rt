@@ -2,9 +2,11 @@
 ghost use Rattle.std.specs.Prelude.{◌≤◌, length, IfOk};
 ghost use Rattle.rwsp_terms.specs.declared.limits.TheConstants.{LONGEST_LOG};
 ghost use Rattle.refutation_terms.specs.declared.lines.LogKind.TheVariants.{WithGoal};
-ghost use Rattle.plain_words.specs.AnswerWords.{OrElse, LogSays, LineOf, NoLogSays, AnswerSays, IsSaid, MendOrLine};
+ghost use Rattle.plain_words.specs.AnswerWords.{OrElse, LogSays, FillLineOf, LineOf, NoLogSays, FillOrNoLog, AnswerSays, IsSaid, MendOrLine};
 
 use crate::accepted::accepted_line_words;
+use crate::accepted_fill::accepted_fill_words;
+use crate::fill_words::fill_words;
 use crate::line_answer::line_words;
 use crate::log_text::log_words;
 use crate::mend_words::mend_words;
@@ -40,9 +42,28 @@ fn behind_logs(
     bytes: &[u8],
 ) -> Result<Option<Vec<u8>>, AllocError>
     requires { length bytes.now ≤ LONGEST_LOG }
-    ensures { IfOk result (IsSaid (OrElse (LogSays problem.now WithGoal bytes.now) (NoLogSays problem.now bytes.now))) }
+    ensures { IfOk result (IsSaid (OrElse (LogSays problem.now WithGoal bytes.now) (FillOrNoLog problem.now bytes.now))) }
 {
     let first = log_words(alloc, problem, LogKind::WithGoal, bytes)?;
+    match first {
+        Some(text) => Ok(Some(text)),
+        None => {
+            let found = fill_or_no_log(alloc, problem, bytes)?;
+            Ok(found)
+        }
+    }
+}
+
+// What bytes say that are a fill log, or no log.
+fn fill_or_no_log(
+    alloc: Global,
+    problem: &Problem,
+    bytes: &[u8],
+) -> Result<Option<Vec<u8>>, AllocError>
+    requires { length bytes.now ≤ LONGEST_LOG }
+    ensures { IfOk result (IsSaid (FillOrNoLog problem.now bytes.now)) }
+{
+    let first = fill_words(alloc, problem, bytes)?;
     match first {
         Some(text) => Ok(Some(text)),
         None => {
@@ -90,6 +111,24 @@ fn line_of(alloc: Global, problem: &Problem, bytes: &[u8]) -> Result<Option<Vec<
     ensures { IfOk result (IsSaid (LineOf problem.now bytes.now)) }
 {
     let first = accepted_line_words(alloc, problem, bytes)?;
+    match first {
+        Some(text) => Ok(Some(text)),
+        None => {
+            let found = fill_line_of(alloc, problem, bytes)?;
+            Ok(found)
+        }
+    }
+}
+
+// What bytes say that are one line, but not that a log is accepted.
+fn fill_line_of(
+    alloc: Global,
+    problem: &Problem,
+    bytes: &[u8],
+) -> Result<Option<Vec<u8>>, AllocError>
+    ensures { IfOk result (IsSaid (FillLineOf problem.now bytes.now)) }
+{
+    let first = accepted_fill_words(alloc, problem, bytes)?;
     match first {
         Some(text) => Ok(Some(text)),
         None => {

@@ -47,6 +47,7 @@ pub enum Short {
     LongProblem,
     LongRoster,
     LongLog,
+    OpenWord,
 }
 
 /// An answer with one number: what it counts.
@@ -156,6 +157,9 @@ pub(crate) fn put_short(out: &mut Vec<u8>, short: Short) -> Result<(), AllocErro
             b"the roster's file has more than 1048576 bytes",
         ),
         Short::LongLog => out.extend_from_slice(b"the log's file has more than 536870912 bytes"),
+        Short::OpenWord => out.extend_from_slice(
+            b"a shift is called ?, which is the word of a cell that is left open",
+        ),
     }
 }
 

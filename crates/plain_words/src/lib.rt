@@ -2,6 +2,7 @@
 #![tactic(auto)]
 
 mod accepted;
+mod accepted_fill;
 mod answer;
 mod answer_laws;
 mod best_words;
@@ -9,6 +10,7 @@ mod breach;
 mod cause;
 mod counted;
 mod escape;
+mod fill_words;
 mod hours;
 mod laws;
 mod line_answer;
@@ -37,7 +39,9 @@ mod whole_laws;
 mod words;
 
 pub use answer::answer_words;
-pub use answer_laws::{answers_say_one, counted_are_leaves_of, named_rules_are_said};
+pub use answer_laws::{
+    answers_say_one, counted_are_leaves_of, fill_rules_are_said, named_rules_are_said,
+};
 pub use breach::Breach;
 pub use cause::{Cause, Count, Short};
 pub use laws::{counted_are_leaves, rules_are_said_once};

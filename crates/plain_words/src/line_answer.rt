@@ -4,7 +4,7 @@ ghost use Rattle.rwsp_terms.specs.Instance.{Instance};
 ghost use Rattle.rwsp_terms.specs.Rules.{rules};
 ghost use Rattle.rwsp_text.specs.Lines.{words_of};
 ghost use Rattle.plain_words.specs.Statements.{StatementFits, statement_line};
-ghost use Rattle.plain_words.specs.LineAnswers.{plain_at, count_at, line_at, rule_line, rule_line_at, refused_log_at, refused_staff_at, refused_roster_at, range_at, refused_file_at, refused_rest_at, least_at, none_at, accepted_at, no_at, too_long_kind, too_at, horizon_at, not_at, staff_range_at, staff_at, breaks_at, failed_at, failure, refused_at, other_answer, short_answer, IsStatement, ReadSays, WordsSay, LineSays};
+ghost use Rattle.plain_words.specs.LineAnswers.{plain_at, count_at, line_at, rule_line, rule_line_at, refused_log_at, refused_staff_at, refused_roster_at, range_at, refused_file_at, refused_rest_at, least_at, none_at, accepted_at, no_at, too_long_kind, too_at, horizon_at, not_at, fill_at, staff_range_at, staff_at, breaks_at, failed_at, failure, refused_at, other_answer, short_answer, IsStatement, ReadSays, WordsSay, LineSays};
 ghost use Rattle.plain_words.specs.AnswerWords.{IsSaid};
 
 use crate::breach::breach_at;
@@ -292,6 +292,18 @@ fn not_at(fields: &mut Fields) -> Option<Statement>
     count_at(Count::NotWeekly, fields)
 }
 
+// That the word of an open cell is a shift's name.
+#[tactic(auto, unfolding(crate::specs::LineAnswers::fill_at))]
+fn fill_at(fields: &mut Fields) -> Option<Statement>
+    ensures value { fill_at fields.old ≡ result }
+    ensures own { (P : Instance) → IfSome result (StatementFits P) }
+{
+    fields.word(b"refused:")?;
+    fields.word(b"name")?;
+    fields.word(b"?")?;
+    plain_at(Short::OpenWord, fields)
+}
+
 // That there would be too many days.
 #[tactic(auto, unfolding(crate::specs::LineAnswers::staff_range_at))]
 fn staff_range(fields: &mut Fields) -> Option<Statement>
@@ -389,6 +401,8 @@ fn other_answer(problem: &Problem, word: &[u8], fields: &mut Fields) -> Option<S
         horizon_at(fields)
     } else if word == b"not".as_slice() {
         not_at(fields)
+    } else if word == b"fill".as_slice() {
+        fill_at(fields)
     } else {
         fields.word(b"refused:")?;
         refused_at(problem, word, fields)
@@ -421,7 +435,12 @@ pub(crate) fn body_of(bytes: &[u8]) -> Option<&[u8]>
     bytes.strip_suffix(b"\n".as_slice())
 }
 
-fn line_text(alloc: Global, problem: &Problem, statement: Statement) -> Result<Vec<u8>, AllocError>
+/// The line of a statement.
+pub(crate) fn line_text(
+    alloc: Global,
+    problem: &Problem,
+    statement: Statement,
+) -> Result<Vec<u8>, AllocError>
     requires { StatementFits problem.now statement }
     ensures { IfOk result (λ v. v.items ≡ statement_line problem.now statement) }
 {

@@ -122,8 +122,8 @@ fn put_if_counted(
     Ok(())
 }
 
-// The symbols whose blocks the lines count rightly. It goes over the lines once for each symbol.
-fn counted_symbols(
+/// The symbols whose blocks the lines count rightly. It goes over the lines once for each symbol.
+pub(crate) fn counted_symbols(
     alloc: Global,
     problem: &Problem,
     lines: &[Line],
@@ -148,8 +148,8 @@ fn rule_statement(problem: &Problem, lone: Option<Turn>, rule: u32) -> Statement
     }
 }
 
-// What is said before the rules.
-fn first_statement(rosters: Rosters, rules: &[u32]) -> Statement
+/// What is said before the rules.
+pub(crate) fn first_statement(rosters: Rosters, rules: &[u32]) -> Statement
     ensures { result ≡ first_statement rosters rules.now }
 {
     if rules.is_empty() {
@@ -159,8 +159,8 @@ fn first_statement(rosters: Rosters, rules: &[u32]) -> Statement
     }
 }
 
-// Adds what is said of each rule.
-fn put_named(
+/// Adds what is said of each rule.
+pub(crate) fn put_named(
     statements: &mut Vec<Statement>,
     problem: &Problem,
     lone: Option<Turn>,
@@ -175,8 +175,11 @@ fn put_named(
     Ok(())
 }
 
-// Adds that the blocks of each symbol are counted.
-fn put_counted(statements: &mut Vec<Statement>, counted: &[Symbol]) -> Result<(), AllocError>
+/// Adds that the blocks of each symbol are counted.
+pub(crate) fn put_counted(
+    statements: &mut Vec<Statement>,
+    counted: &[Symbol],
+) -> Result<(), AllocError>
     ensures { OnOk result (statements.new.items ≡ statements.old.items ++ map (λ x. Statement.Counted x) counted.now) }
 {
     for x in counted {

@@ -35,8 +35,8 @@ fn put_behind_blank(out: &mut Vec<u8>, number: u32) -> Result<(), AllocError>
     put_number(out, u64::from(number))
 }
 
-// Appends each number behind a blank.
-fn put_numbers(out: &mut Vec<u8>, rules: &[u32]) -> Result<(), AllocError>
+/// Appends each number behind a blank.
+pub(crate) fn put_numbers(out: &mut Vec<u8>, rules: &[u32]) -> Result<(), AllocError>
     ensures { OnOk result (out.new.items ≡ out.old.items ++ flat_map (λ n. 32 ∷ decimal n) rules.now) }
 {
     for rule in rules {

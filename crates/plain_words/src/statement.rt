@@ -24,6 +24,8 @@ pub enum Rosters {
     Free(u32),
     /// Those of this number of weeks.
     Weeks(u32),
+    /// Those that hold given cells.
+    Given,
 }
 
 /// What is said of an answer in one line.
@@ -113,6 +115,7 @@ fn put_rosters(out: &mut Vec<u8>, rosters: Rosters) -> Result<(), AllocError>
             out.extend_from_slice(b" of ")?;
             put_weeks(out, count)
         }
+        Rosters::Given => out.extend_from_slice(b" that hold the given cells"),
     }
 }
 
@@ -123,7 +126,7 @@ fn put_unknown(out: &mut Vec<u8>, rosters: Rosters) -> Result<(), AllocError>
 {
     match rosters {
         Rosters::Every => out.extend_from_slice(b" as a whole"),
-        Rosters::Free(_) | Rosters::Weeks(_) => put_rosters(out, rosters),
+        Rosters::Free(_) | Rosters::Weeks(_) | Rosters::Given => put_rosters(out, rosters),
     }
 }
 
@@ -329,9 +332,9 @@ fn put_counting(out: &mut Vec<u8>, problem: &Problem, x: Symbol) -> Result<(), A
     Ok(())
 }
 
-// Appends a statement.
+/// Appends a statement.
 #[tactic(auto, unfolding(crate::specs::Statements::statement_words))]
-fn put_statement(
+pub(crate) fn put_statement(
     out: &mut Vec<u8>,
     problem: &Problem,
     statement: Statement,

@@ -11,3 +11,6 @@ returns-then-eq-4-clause-own c = c.horizon_at.ensures.own c.args.problem.now
 
 pub returns-then-eq-5-clause-own : goal.returns-then-eq-5-clause-own
 returns-then-eq-5-clause-own c = c.not_at.ensures.own c.args.problem.now
+
+pub returns-then-eq-6-clause-own : goal.returns-then-eq-6-clause-own
+returns-then-eq-6-clause-own c = c.fill_at.ensures.own c.args.problem.now
