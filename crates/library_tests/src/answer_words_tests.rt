@@ -7,7 +7,7 @@ use test_helpers::{
     problem_of,
 };
 
-const SHORT: [(&[u8], &[u8]); 12] = [
+const SHORT: [(&[u8], &[u8]); 19] = [
     (
         b"accepted: rules 1 3\n",
         b"no roster meets these rules together (the log is the proof):\n1: at most 2 days of D in a row\n3: at most 2 days off in a row\n",
@@ -45,7 +45,23 @@ const SHORT: [(&[u8], &[u8]); 12] = [
         b"the roster has 0 weeks, and the problem another number\n",
     ),
     (b"meets\n", b"the roster meets every rule\n"),
+    (
+        b"accepted: rules 1 7 cells 1 1 D 2 1 -\n",
+        b"these can't stand together (the log is the proof): week 1 day 1 D, week 2 day 1 off, and rules 1 7\n1: at most 2 days of D in a row\n7: day 1: D 3, off 3\n",
+    ),
+    (
+        b"accepted: rules 7 cells\n",
+        b"even with no cell given, no roster meets these rules together (the log is the proof):\n7: day 1: D 3, off 3\n",
+    ),
+    (
+        b"fill refused: name ?\n",
+        b"a shift is called ?, which is the word of a cell that is left open\n",
+    ),
     (b"accepted: rules 3 1\n", b""),
+    (b"accepted: rules 3 1 cells 1 1 D\n", b""),
+    (b"accepted: rules 7 cells 2 1 - 1 1 D\n", b""),
+    (b"accepted: rules 7 cells 1 1 E\n", b""),
+    (b"fill refused: name -\n", b""),
     (b"meets", b""),
 ];
 
@@ -74,6 +90,45 @@ const LOGS: [(&[u8], &[u8], &[u8]); 5] = [
         LONG_BLOCKS,
         b"rwsp-free 1\nrules\ngoal 0\nopen\n",
         b"0 cases are closed and 1 was left open, so nothing is known of rosters as a whole\n",
+    ),
+];
+
+const FILLS: [(&[u8], &[u8], &[u8]); 8] = [
+    (
+        TWOS_IN_SIX,
+        b"rwsp-fill 1\nrules 7\ncells 1 1 - 2 1 - 3 1 - 4 1 -\nday 1 - over\n",
+        b"these can't stand together (the log is the proof): week 1 day 1 off, week 2 day 1 off, week 3 day 1 off, week 4 day 1 off, and rule 7\n7: day 1: D 3, off 3\n",
+    ),
+    (
+        THREE_IN_FIVE,
+        b"rwsp-fill 1\nrules 1 2 7\ncells 2 1 D\nblocks D\n",
+        b"these can't stand together (the log is the proof): week 2 day 1 D, and rules 1 2 7\n1: at most 2 days of D in a row\n2: at least 2 days of D in a row\n7: day 1: D 3, off 2\ncounting shows it: 3 days of D cannot be made of blocks of 2 days: 1 block has at most 2 days, and 2 at least 4\n",
+    ),
+    (
+        MOST_OF_FOUR_WEEKS,
+        b"rwsp-fill 1\nrules 1\ncells 2 3 D 4 7 -\nwindow 1 2 3 7\n",
+        b"these can't stand together (the log is the proof): week 2 day 3 D, week 4 day 7 off, and rule 1\n1: at most 6 days of D in a row\n",
+    ),
+    (
+        TWOS_IN_SIX,
+        b"rwsp-fill 1\nrules 1\ncells\nday 1 D over\n",
+        b"even with no cell given, no roster meets these rules together (the log is the proof):\n1: at most 2 days of D in a row\n",
+    ),
+    (
+        TWOS_IN_SIX,
+        b"rwsp-fill 1\nrules\ncells 2 1 D\nday 1 D over\n",
+        b"these can't stand together (the log is the proof): week 2 day 1 D, whatever the rules\n",
+    ),
+    (
+        TWOS_IN_SIX,
+        b"rwsp-fill 1\nrules 1 2 3 4\ncells 2 1 D\nsplit 3 1 D\nday 1 D over\nopen\n",
+        b"1 case is closed and 1 was left open, so nothing is known of rosters that hold the given cells\n",
+    ),
+    (TWOS_IN_SIX, b"rwsp-fill 1\nrules 7\ncells 1 1 -\n", b""),
+    (
+        TWOS_IN_SIX,
+        b"rwsp-fill 1\nrules 7\ncells 1 1 -\nopen\nopen\n",
+        b"",
     ),
 ];
 
@@ -182,6 +237,15 @@ fn short_answers_in_words(rt: HostRuntime) -> Result<(), Fail> {
 #[test]
 fn logs_in_words(rt: HostRuntime) -> Result<(), Fail> {
     for (problem, text, expected) in LOGS {
+        let told = words(rt.alloc(), problem, text)?;
+        assert_eq!(rt; told.as_slice(), expected);
+    }
+    Ok(())
+}
+
+#[test]
+fn fill_logs_in_words(rt: HostRuntime) -> Result<(), Fail> {
+    for (problem, text, expected) in FILLS {
         let told = words(rt.alloc(), problem, text)?;
         assert_eq!(rt; told.as_slice(), expected);
     }

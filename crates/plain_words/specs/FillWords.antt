@@ -56,8 +56,8 @@ behind_first P R counted = map (rule_statement P None) R ++ map (λ x. Counted x
 abbrev pub fill_reason : Instance → List GivenCell → List ℕ → List Symbol → List ℕ
 fill_reason P given R counted = (first_words P given R ++ 10 ∷ []) ++ statements_words P (behind_first P R counted)
 
--- the text is what is said of a fill log with no open line: its cells, its rules, and each symbol whose blocks it counts
--- rightly
+-- the text is what is said of a fill log with no open line: its cells, its rules, and each symbol whose blocks it
+-- counts rightly
 abbrev pub IsFillReason : Instance → FillLog → List ℕ → Type 0
 IsFillReason P f text =
     (counted : List Symbol) × AreThose (IsCounted P f.log.lines) (symbols P) counted

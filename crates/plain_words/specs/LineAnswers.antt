@@ -137,7 +137,9 @@ not_at ws = word_at (codes "weekly:") ws >>= (λ rest. word_at (codes "days") re
 -- behind `fill`
 unfoldable pub fill_at : Words → Option Statement
 fill_at ws =
-    word_at (codes "refused:") ws >>= (λ ws. word_at (codes "name") ws >>= (λ ws. word_at (codes "?") ws >>= plain_at Shorts.OpenWord))
+    word_at (codes "refused:") ws >>= (λ ws.
+    word_at (codes "name") ws >>= (λ ws.
+    word_at (codes "?") ws >>= plain_at Shorts.OpenWord))
 
 -- behind `staff range:`
 unfoldable pub staff_range_at : Words → Option Statement

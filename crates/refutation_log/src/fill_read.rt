@@ -44,7 +44,8 @@ fn fill_behind(
     requires few { length header.body.now ≤ LONGEST_LOG }
     ensures { IfOk result (λ found. (text : List ℕ)
         → BeginsWithFillHeader problem.now text header.entry.named header.entry.given header.entry.body.now
-        → MatchOption found ((f : FillLogValue) → IsFillReadAs problem.now text f → ⊥) (IsFillReadAs problem.now text)) }
+        → MatchOption found
+        ((f : FillLogValue) → IsFillReadAs problem.now text f → ⊥) (IsFillReadAs problem.now text)) }
 {
     problem.prove_limits();
     let plain = Header {
