@@ -22,7 +22,8 @@ use std::alloc::{AllocError, Global};
 /// A roster that meets every rule and holds the given cells, or a fill log of why there is none, within the budget,
 /// which needs each cell and each rule that it names; or one that has spent the budget. Blocks are counted first: where
 /// a leaf of blocks holds, it is the whole fill log, and names no cell. Then a roster is looked for, where the cells
-/// alone refute nothing; and cases are distinguished behind the cells, by windows, days, words of two turns and weights.
+/// alone refute nothing; and cases are distinguished behind the cells, by windows, days, words of two turns and
+/// weights.
 pub fn fill(
     alloc: Global,
     problem: &Problem,
