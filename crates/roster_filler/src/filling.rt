@@ -5,7 +5,9 @@ ghost use Rattle.domain_store.specs.Cycles.{AreShortRules};
 ghost use Rattle.refutation_log.specs.GivenCells.{AreGivenIn};
 ghost use Rattle.refutation_log.specs.Filled.{IsFilledWith};
 ghost use Rattle.roster_search.specs.Behind.{IsFoundBehind};
+ghost use Rattle.roster_filler.specs.Counted.{IsCountedFirst};
 
+use crate::counted::counted_fill;
 use crate::guide::FillGuide;
 use crate::reasons::reasons_behind;
 use crate::reducing::reduce_fill;
@@ -18,10 +20,29 @@ use rwsp_terms::limits::GREATEST_BUDGET;
 use std::alloc::{AllocError, Global};
 
 /// A roster that meets every rule and holds the given cells, or a fill log of why there is none, within the budget,
-/// which needs each cell and each rule that it names; or one that has spent the budget. Where the cells alone refute
-/// nothing, a roster is looked for first. Then cases are distinguished behind the cells, by windows, days, words of two
-/// turns and weights.
+/// which needs each cell and each rule that it names; or one that has spent the budget. Blocks are counted first: where
+/// a leaf of blocks holds, it is the whole fill log, and names no cell. Then a roster is looked for, where the cells
+/// alone refute nothing; and cases are distinguished behind the cells, by windows, days, words of two turns and
+/// weights.
 pub fn fill(
+    alloc: Global,
+    problem: &Problem,
+    given: &GivenCells,
+    budget: u32,
+) -> Result<Filled, AllocError>
+    requires budget { (1 ≤ budget) × (budget ≤ GREATEST_BUDGET) }
+    requires given { AreGivenIn problem.now given.now }
+    ensures filled { IfOk result (IsFilledWith problem.now given.now budget) }
+    ensures counted { IfOk result (IsCountedFirst problem.now) }
+{
+    match counted_fill(alloc, problem)? {
+        Some(fill) => Ok(Filled::NoRoster(fill)),
+        None => fill_by_cases(alloc, problem, given, budget),
+    }
+}
+
+// The same by a search.
+fn fill_by_cases(
     alloc: Global,
     problem: &Problem,
     given: &GivenCells,

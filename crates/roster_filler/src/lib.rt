@@ -2,6 +2,7 @@
 #![tactic(auto)]
 
 mod cells;
+mod counted;
 mod filling;
 mod guide;
 mod reasons;

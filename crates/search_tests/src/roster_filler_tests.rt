@@ -1,13 +1,13 @@
 // Rosters behind given cells of small problems, worked by hand.
 ghost use Rattle.std.specs.Prelude.{◌≤◌, length, IfOk};
-ghost use Rattle.rwsp_terms.specs.declared.limits.TheConstants.{LONGEST_FILE};
+ghost use Rattle.rwsp_terms.specs.declared.limits.TheConstants.{GREATEST_BUDGET, LONGEST_FILE};
 
 use refutation_log::{Filled, read_cells};
 use roster_filler::fill;
 use rwsp_model::Problem;
 use std::alloc::{AllocError, Global};
 use std::test::Fail;
-use test_helpers::{CROWDED_TWOS_IN_SIX, TWOS_IN_FOUR, problem_of};
+use test_helpers::{THREE_IN_FIVE, TWOS_IN_FOUR, problem_of};
 
 // What is found: a roster, or how many cells and rules a fill log names.
 #[derive(Clone, Copy, Debug, PartialEq, Eq)]
@@ -95,29 +95,44 @@ fn cells_that_a_rule_forbids(rt: HostRuntime) -> Result<(), Fail> {
     Ok(())
 }
 
-// Three of five days, in twos: there is no roster, and no leaf says so at the first line.
-const THREE_OF_FIVE: &[u8] = b"1\n5\n1\n3\nD 360 480 2 2\n1 2\n2 2\n0 0\n";
+#[test]
+fn blocks_are_counted_first(rt: HostRuntime) -> Result<(), Fail> {
+    let odd = problem_of(rt.alloc(), THREE_IN_FIVE)?;
+    // no D in twos on three days: both lengths of its blocks, and the day's rule
+    let open = filled(rt.alloc(), &odd, b"?\n?\n?\n?\n?\n".as_slice())?;
+    assert_eq!(rt; open, End::NoRoster(0, 3));
+    // nor with cells that a rule forbids
+    let all = filled(rt.alloc(), &odd, b"D\nD\nD\n-\n-\n".as_slice())?;
+    assert_eq!(rt; all, End::NoRoster(0, 3));
+    Ok(())
+}
+
+// Work in twos, both A or both B, with a day off between: once A and three times B are demanded. There is no roster,
+// since A comes twice or not at all; and no leaf says so at the first line, since AA-AA- and BB-BB- keep the rules of
+// blocks and pairs, have the demand on the average, and one block of A and two of B have as many days as it asks for.
+const AS_AND_BS_IN_TWOS: &[u8] =
+    b"1\n6\n2\n1\n3\nA 360 480 1 2\nB 840 480 1 2\n1 1\n2 2\n2 0\nA B\nB A\n";
 
 #[test]
-fn a_spent_budget_and_no_cells(rt: HostRuntime) -> Result<(), Fail> {
-    let crowded = problem_of(rt.alloc(), CROWDED_TWOS_IN_SIX)?;
-    let end = filled(rt.alloc(), &crowded, b"?\n?\n?\n?\n?\n?\n".as_slice())?;
-    let no_cell = match end {
+fn a_spent_budget(rt: HostRuntime) -> Result<(), Fail> {
+    let problem = problem_of(rt.alloc(), AS_AND_BS_IN_TWOS)?;
+    let spent = end_within(rt.alloc(), &problem, 1)?;
+    assert_eq!(rt; spent, End::Undecided);
+    let no_cell = match end_within(rt.alloc(), &problem, 100)? {
         End::NoRoster(0, _) => true,
         _ => false,
     };
     assert_eq!(rt; no_cell, true);
-    let odd = problem_of(rt.alloc(), THREE_OF_FIVE)?;
-    let spent = spent_end(rt.alloc(), &odd)?;
-    assert_eq!(rt; spent, End::Undecided);
     Ok(())
 }
 
-// What is found within one line, with no cell given.
-fn spent_end(alloc: Global, problem: &Problem) -> Result<End, AllocError> {
-    let Ok(given) = read_cells(alloc, problem, b"?\n?\n?\n?\n?\n".as_slice()) else {
+// What is found within so many lines, with none of six cells given.
+fn end_within(alloc: Global, problem: &Problem, budget: u32) -> Result<End, AllocError>
+    requires { (1 ≤ budget) × (budget ≤ GREATEST_BUDGET) }
+{
+    let Ok(given) = read_cells(alloc, problem, b"?\n?\n?\n?\n?\n?\n".as_slice()) else {
         return Ok(End::Refused);
     };
-    let found = fill(alloc, problem, &given, 1)?;
+    let found = fill(alloc, problem, &given, budget)?;
     Ok(end_of(&found))
 }

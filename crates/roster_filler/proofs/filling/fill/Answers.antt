@@ -1,19 +1,13 @@
--- A fill log that the search found, without what it can do without.
-use Rattle.std.proofs.Common.{subst, arith}
-use Rattle.roster_search.specs.Behind.{IsFoundBehind}
-use Rattle.roster_filler.specs.Leaving.{AreAmong}
+-- A fill log of the leaf of blocks is needed whole.
+use Rattle.std.proofs.Common.{subst}
+use Rattle.std.specs.Prelude.{MatchOption}
+use Rattle.refutation_terms.specs.BlocksLeaf.{NoBlocksHold}
+use Rattle.roster_filler.specs.Counted.{IsCountedFill}
+use Rattle.roster_filler.proofs.Counting.{counted_proof}
 use Rattle.roster_filler.proofs.filling.fill.Goals as goal
 
-pub returns-in_ok-reduce_fill-in-NoRoster : goal.returns-in_ok-reduce_fill-in-NoRoster
-returns-in_ok-reduce_fill-in-NoRoster c =
+pub returns-in-Some-clause-filled : goal.returns-in-Some-clause-filled
+returns-in-Some-clause-filled c =
     let P = c.args.problem.now in
-    let f = c.in_ok-reduce_fill-in-NoRoster.field-0 in
-    let r = c.in_ok-reduce_fill-in-NoRoster.ensures in
-    let h = subst (IsFoundBehind P c.args.given.now c.args.budget) c.in-NoRoster.is c.in_ok-found.ensures in
-    record {
-      passes = r.passes;
-      small = omega (arith, r.same_size, h.1);
-      names = subst (AreAmong f.given) h.2 r.among;
-      cells = r.cells;
-      rules = r.rules;
-    }
+    counted_proof P c.args.given.now c.args.budget c.in-Some.fill c.requires.budget.0
+    (subst (λ found. MatchOption found (NoBlocksHold P) (IsCountedFill P)) c.in-Some.is c.in_ok-fill.ensures)
