@@ -9,7 +9,7 @@ use Rattle.clean_words.specs.Automata.{RuleAutomaton, IsAutomaton}
 use Rattle.roster_finder.specs.Cycles.{repeated, IsCleanCycle, IsClosedWalk}
 
 -- a word leads on from where the one before it leads
-lead_on : (moves : Moves) (s : Option ℕ) (u w : List Symbol) → lead moves s (u ++ w) ≡ lead moves (lead moves s u) w
+pub lead_on : (moves : Moves) (s : Option ℕ) (u w : List Symbol) → lead moves s (u ++ w) ≡ lead moves (lead moves s u) w
 lead_on moves s [] w = refl
 lead_on moves s (x ∷ u) w = lead_on moves (after moves s x) u w
 

@@ -3,6 +3,7 @@ pub mod ByStep
 pub mod Cycles
 pub mod DayDomains
 pub mod Found
+pub mod Led
 pub mod Mixtures
 pub mod Moves
 pub mod Parts

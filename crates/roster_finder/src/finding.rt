@@ -246,6 +246,17 @@ impl<'a> Search<'a> {
         (MOST_STEP_MOVES / self.setting.layer.step_count()).min(most)
     }
 
+    // The roster of the word, where it meets every rule and has `free` free weekends at least.
+    fn met(&self, problem: &Problem, free: u32) -> Result<Option<Roster>, AllocError>
+        requires { 0 < free → problem.now.days ≡ 7 }
+        ensures { IfOk result (λ found. IfSome found (IsRosterWith problem.now free)) }
+    {
+        let Some(symbols) = self.draft.walk.closed_word(self.setting.layer) else {
+            return Ok(None);
+        };
+        met_roster(self.setting.alloc, problem, free, symbols)
+    }
+
     // Rewrites windows until the word is a roster that meets every rule and has `free` free weekends at least.
     fn run(
         &mut self,
@@ -264,9 +275,7 @@ impl<'a> Search<'a> {
                 return Ok(None);
             }
             if self.draft.counters.deviation() == 0 {
-                let symbols = self.draft.walk.symbols();
-                let met = met_roster(self.setting.alloc, problem, free, symbols)?;
-                if let Some(roster) = met {
+                if let Some(roster) = self.met(problem, free)? {
                     return Ok(Some(roster));
                 }
                 refused += self.draft.walk.cells;

@@ -16,6 +16,7 @@ mod heavy_word;
 mod laws;
 #[cfg(test)]
 mod layer_tests;
+mod led_states;
 mod mixture;
 mod nodes;
 mod numbers;

@@ -1,8 +1,12 @@
-// Which states of the automaton are nodes: those that words without beginning and end pass through.
-ghost use Rattle.std.specs.Prelude.{◌≡◌, ℕ, ◌<◌, ◌≤◌, length, All, IfOk, IfSome, slice_index_or, None};
+// Which states of the automaton are nodes: those that some word leads to and that words without beginning and end pass
+// through.
+ghost use Rattle.std.specs.Prelude.{◌≡◌, ℕ, ◌+◌, ◌<◌, ◌≤◌, length, All, IfOk, IfSome, OnOk};
+ghost use Rattle.clean_words.specs.Automata.{RuleAutomaton};
 ghost use Rattle.roster_finder.specs.AutomatonSteps.{IsMoveOf};
+ghost use Rattle.roster_finder.specs.Led.{ClosesClean, IsLed, IsLedIfAny};
 ghost use Rattle.roster_finder.specs.Steps.{IsBelow};
 
+use crate::led_states::led_states;
 use clean_words::{Automaton, Step as Move};
 use std::alloc::{AllocError, Global};
 
@@ -12,16 +16,48 @@ pub(crate) struct Nodes {
     pub count: usize,
     // For each state its number among the nodes, where it is one.
     numbers: Vec<Option<usize>>,
+    /// The state of each node.
+    pub states: Vec<u32>,
     ghost within: { All (IsBelow count) numbers.items },
+    ghost whole: { length states.items ≡ count },
 }
 
 impl Nodes {
     /// Those of an automaton.
     pub fn of(alloc: Global, automaton: &Automaton) -> Result<Nodes, AllocError>
-        ensures { IfOk result (λ n. length n.numbers.items ≡ length automaton.now.moves) }
+        ensures numbers { IfOk result (λ n. length n.numbers.items ≡ length automaton.now.moves) }
+        ensures led { IfOk result (λ n. All (IsLed automaton.now) n.states.items) }
+        ensures clean { IfOk result (λ n. All (ClosesClean automaton.now) n.states.items) }
     {
+        automaton.prove_facts();
+        let led = led_states(alloc, automaton)?;
         let passed = passed_states(alloc, automaton)?;
-        numbered(alloc, &passed)
+        let mut nodes = Nodes {
+            count: 0,
+            numbers: Vec::new(alloc),
+            states: Vec::new(alloc),
+        };
+        for place in 0..automaton.states() {
+            nodes.push(node_at(&led, &passed, place))?;
+        }
+        Ok(nodes)
+    }
+
+    // Numbers a state as the next node; or none, where the next state isn't one.
+    fn push(&mut self, state: Option<u32>) -> Result<(), AllocError>
+        ensures long { OnOk result (length self.new.numbers.items ≡ length self.old.numbers.items + 1) }
+        ensures led { OnOk result ((a : RuleAutomaton) → IsLedIfAny a state
+            → All (IsLed a) self.old.states.items → All (IsLed a) self.new.states.items) }
+    {
+        let Some(state) = state else {
+            self.numbers.push(None)?;
+            return Ok(());
+        };
+        self.states.push(state)?;
+        let number = self.count;
+        self.count = self.states.len();
+        self.numbers.push(Some(number))?;
+        Ok(())
     }
 
     /// The number of a state among the nodes.
@@ -33,21 +69,13 @@ impl Nodes {
     }
 }
 
-// Numbers the states that are marked.
-fn numbered(alloc: Global, marks: &[bool]) -> Result<Nodes, AllocError>
-    ensures { IfOk result (λ n. length n.numbers.items ≡ length marks.now) }
+// The state of a place, where it is to be a node: where some word leads to it and it is passed.
+fn node_at(led: &[Option<u32>], passed: &[bool], place: usize) -> Option<u32>
+    requires led { place < length led.now }
+    requires passed { place < length passed.now }
+    ensures { (a : RuleAutomaton) → All (IsLedIfAny a) led.now → IsLedIfAny a result }
 {
-    let mut numbers = Vec::new(alloc);
-    let mut count: usize = 0;
-    for is_marked in marks {
-        if *is_marked {
-            numbers.push(Some(count))?;
-            count += 1;
-        } else {
-            numbers.push(None)?;
-        }
-    }
-    Ok(Nodes { count, numbers })
+    if passed[place] { led[place] } else { None }
 }
 
 /// A step of the automaton.

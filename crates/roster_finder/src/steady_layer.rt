@@ -1,29 +1,41 @@
 // The one layer that long clean words pass through day by day.
-ghost use Rattle.std.specs.Prelude.{◌≡◌, ℕ, ◌+◌, ◌*◌, ◌<◌, ◌≤◌, ◌^◌, length, All, IfOk, IfSome};
+ghost use Rattle.std.specs.Prelude.{◌≡◌, ◌↔◌, ℕ, ◌+◌, ◌*◌, ◌<◌, ◌≤◌, ◌^◌, length, All};
+ghost use Rattle.std.specs.Prelude.{IfOk, IfSome, IsTrue};
 ghost use Rattle.rwsp_terms.specs.Instance.{shift_count};
-ghost use Rattle.roster_finder.specs.Steps.{IsStepWithin, IsBelow};
+ghost use Rattle.rwsp_terms.specs.Rules.{NamesShortRules};
+ghost use Rattle.rwsp_terms.specs.declared.limits.TheConstants.{MOST_SYMBOLS};
+ghost use Rattle.roster_finder.specs.Cycles.{IsCleanCycle};
+ghost use Rattle.roster_finder.specs.Led.{ClosesClean, LeadsBack, lead_from, state_of, word_of};
+ghost use Rattle.roster_finder.specs.Steps.{IsStepWithin, IsBelow, IsUnder};
 
 use crate::nodes::{Nodes, move_of};
 use crate::numbers::Numbers;
 use crate::step::Step;
 use clean_words::{Automaton, Told};
 use rwsp_model::Problem;
+use rwsp_terms::Symbol;
 use std::alloc::{AllocError, Global};
 
 /// The nodes that clean words without beginning and end pass through, and the steps between them. A node is a state of
-/// the automaton of the short rules, where each state tells the last symbol. A closed walk from a state that some word
-/// leads to is a clean cyclic word (`closed_walks_are_clean`). The automaton has no other states; but no clause says so.
+/// the automaton of the short rules that some word leads to; each state tells the last symbol. So a closed walk is a
+/// clean cyclic word (`closed_walks_are_clean`).
 #[derive(Drop)]
 pub(crate) struct SteadyLayer {
     /// The number of symbols, the day off among them.
     pub symbols: usize,
     /// The number of nodes.
     pub nodes: usize,
+    automaton: Automaton,
+    // The state of each node.
+    states: Vec<u32>,
     steps: Vec<Step>,
     // The last symbol of each node.
     last: Numbers,
     // The number of the step out of each node by each symbol, node by node.
     out: Vec<Option<usize>>,
+    ghost few_symbols: { symbols ≤ MOST_SYMBOLS },
+    ghost states_whole: { length states.items ≡ nodes },
+    ghost walks_clean: { All (ClosesClean automaton) states.items },
     ghost steps_within: { All (IsStepWithin nodes symbols) steps.items },
     ghost last_whole: { length last.entries.items ≡ nodes },
     ghost last_below: { last.below ≡ symbols },
@@ -34,7 +46,9 @@ pub(crate) struct SteadyLayer {
 impl SteadyLayer {
     /// The layer of a problem's words.
     pub fn of(alloc: Global, problem: &Problem) -> Result<SteadyLayer, AllocError>
-        ensures { IfOk result (λ l. l.symbols ≡ shift_count problem.now + 1) }
+        ensures symbols { IfOk result (λ l. l.symbols ≡ shift_count problem.now + 1) }
+        ensures problem { IfOk result (λ l. l.automaton.problem ≡ problem.now) }
+        ensures rules { IfOk result (λ l. NamesShortRules problem.now l.automaton.rules) }
     {
         let automaton = Automaton::of_short_rules(alloc, problem, Told::LastSymbol)?;
         let nodes = Nodes::of(alloc, &automaton)?;
@@ -45,6 +59,8 @@ impl SteadyLayer {
         Ok(SteadyLayer {
             symbols,
             nodes: nodes.count,
+            automaton,
+            states: nodes.states,
             steps,
             last,
             out,
@@ -98,6 +114,34 @@ impl SteadyLayer {
     {
         let number = self.step_number(node, symbol)?;
         Some(self.step(number).to)
+    }
+
+    // The state to which a word leads from the state of a node.
+    fn state_behind(&self, node: usize, word: &[usize]) -> Option<u32>
+        requires node { node < self.now.nodes }
+        requires word { All (IsUnder self.now.symbols) word.now }
+        ensures { result ≡ lead_from self.now.automaton (state_of self.now.states.items node) word.now }
+    {
+        self.automaton.prove_facts();
+        let mut state = self.states[node];
+        for number in word {
+            let symbol = Symbol {
+                number: *number as u8,
+            };
+            state = self.automaton.follow(state, symbol)?;
+        }
+        Some(state)
+    }
+
+    /// Whether a word leads from the state of a node back to it. Such a word is clean however often it is repeated.
+    pub fn leads_back(&self, node: usize, word: &[usize]) -> bool
+        requires node { node < self.now.nodes }
+        requires word { All (IsUnder self.now.symbols) word.now }
+        ensures back { IsTrue result ↔
+            LeadsBack self.now.automaton (state_of self.now.states.items node) word.now }
+        ensures clean { IsTrue result → IsCleanCycle self.now.automaton (word_of word.now) }
+    {
+        self.state_behind(node, word) == Some(self.states[node])
     }
 }
 

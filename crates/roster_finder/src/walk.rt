@@ -1,5 +1,5 @@
 // Closed walks through the steady layer: cyclic words that are clean where they lead on from node to node.
-ghost use Rattle.std.specs.Prelude.{◌≡◌, ◌+◌, ◌*◌, ◌<◌, ◌≤◌, length, IfOk};
+ghost use Rattle.std.specs.Prelude.{◌≡◌, ◌+◌, ◌*◌, ◌<◌, ◌≤◌, length, IfOk, IfSome};
 ghost use Rattle.rwsp_terms.specs.declared.limits.TheConstants.{MOST_CELLS};
 
 use crate::numbers::Numbers;
@@ -27,6 +27,8 @@ pub(crate) struct Walk {
 }
 
 impl Walk {
+    ghost use Rattle.roster_finder.specs.Cycles.{IsCleanCycle};
+    ghost use Rattle.roster_finder.specs.Led.{word_of};
     ghost use Rattle.roster_finder.specs.Walks.{HaveOneShape, IsWalkOf};
 
     /// A walk through all weeks, all its days of symbol 0 at node 0.
@@ -46,8 +48,19 @@ impl Walk {
         })
     }
 
-    pub fn symbols(&self) -> &[usize] {
-        self.symbols.entries()
+    /// The word, where it leads from the state of the first node back to it, as it does; so it is clean however often it
+    /// is repeated.
+    pub fn closed_word(&self, layer: &SteadyLayer) -> Option<&[usize]>
+        requires { IsWalkOf layer.now self.now }
+        ensures word { IfSome result (λ w. w.now ≡ self.now.symbols.entries.items) }
+        ensures clean { IfSome result (λ w. IsCleanCycle layer.now.automaton (word_of w.now)) }
+    {
+        let word = self.symbols.entries();
+        if layer.leads_back(self.node(0), word) {
+            Some(word)
+        } else {
+            None
+        }
     }
 
     pub fn symbol(&self, position: usize) -> usize

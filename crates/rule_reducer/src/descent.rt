@@ -7,10 +7,10 @@ ghost use Rattle.rule_reducer.specs.Citing.{AreCited};
 ghost use Rattle.rule_reducer.specs.Without.{HoldsWithout};
 
 use crate::citations::Citations;
+use crate::numbered_rule::NumberedRule;
 use crate::refusing_lines::{refuses_at, refusing_line};
 use crate::shrinking_log::ShrinkingLog;
 use rwsp_model::{Problem, rule_at};
-use rwsp_terms::Rule;
 use std::alloc::{AllocError, Global};
 
 /// The line that refused the last strip. The next one is tried there first: a line that can't do without one rule often
@@ -20,55 +20,53 @@ pub struct LastRefusal {
     pub place: usize,
 }
 
-// Whether each line holds without the rule, which has this number. Only lines that list it are judged.
+// Whether each line holds without the rule. Only lines that list it are judged.
 fn holds_without(
     alloc: Global,
     problem: &Problem,
     log: &ShrinkingLog,
     last: &mut LastRefusal,
-    number: u32,
-    rule: Rule,
+    dropped: NumberedRule,
 ) -> Result<bool, AllocError>
     requires passes { Passes problem.now log.now }
-    requires rule { rule_of problem.now number ≡ Some rule }
+    requires rule { rule_of problem.now dropped.number ≡ Some dropped.rule }
     ensures { IfOk result (λ yes. MatchBool yes
-        (HoldsWithout problem.now number log.now)
-        (Passes problem.now (strip problem.now number log.now) → ⊥)) }
+        (HoldsWithout problem.now dropped.number log.now)
+        (Passes problem.now (strip problem.now dropped.number log.now) → ⊥)) }
 {
-    let refused = refuses_at(alloc, problem, log, number, rule, last.place)?;
+    let refused = refuses_at(alloc, problem, log, dropped, last.place)?;
     if refused {
         return Ok(false);
     }
-    if let Some(place) = refusing_line(alloc, problem, log, number, rule)? {
+    if let Some(place) = refusing_line(alloc, problem, log, dropped)? {
         last.place = place;
         return Ok(false);
     }
     Ok(true)
 }
 
-// Whether the log passes without the rule, which has this number. No line is judged for a rule that none lists, nor for
-// one that is cited for good.
+// Whether the log passes without the rule. No line is judged for a rule that none lists, nor for one that is cited for
+// good.
 fn can_drop(
     alloc: Global,
     problem: &Problem,
     log: &ShrinkingLog,
     cited: &Citations,
     last: &mut LastRefusal,
-    number: u32,
-    rule: Rule,
+    dropped: NumberedRule,
 ) -> Result<bool, AllocError>
     requires passes { Passes problem.now log.now }
     requires cited { AreCited problem.now log.now cited.now.for_good cited.now.in_lists }
-    requires rule { rule_of problem.now number ≡ Some rule }
+    requires rule { rule_of problem.now dropped.number ≡ Some dropped.rule }
     ensures { IfOk result (λ yes. MatchBool yes
-        (Passes problem.now (strip problem.now number log.now))
-        (Passes problem.now (strip problem.now number log.now) → ⊥)) }
+        (Passes problem.now (strip problem.now dropped.number log.now))
+        (Passes problem.now (strip problem.now dropped.number log.now) → ⊥)) }
 {
-    if cited.for_good.holds(number) {
+    if cited.for_good.holds(dropped.number) {
         return Ok(false);
     }
-    if cited.in_lists.holds(number) {
-        let held = holds_without(alloc, problem, log, last, number, rule)?;
+    if cited.in_lists.holds(dropped.number) {
+        let held = holds_without(alloc, problem, log, last, dropped)?;
         return Ok(held);
     }
     Ok(true)
@@ -89,9 +87,10 @@ fn drop_rule(
     ensures { OnOk result (StripsTo problem.now (number ∷ []) log.old log.new) }
 {
     let rule = rule_at(problem, number);
-    let droppable = can_drop(alloc, problem, log, cited, last, number, rule)?;
+    let dropped = NumberedRule { number, rule };
+    let droppable = can_drop(alloc, problem, log, cited, last, dropped)?;
     if droppable {
-        log.strip(alloc, number, rule)?;
+        log.strip(alloc, dropped)?;
         return Ok(());
     }
     Ok(())

@@ -4,6 +4,7 @@
 mod citations;
 mod descent;
 mod lists;
+mod numbered_rule;
 mod reducing;
 mod refusing_lines;
 mod shrinking_log;

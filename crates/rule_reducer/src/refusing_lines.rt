@@ -6,13 +6,13 @@ ghost use Rattle.refutation_terms.specs.Strip.{strip};
 ghost use Rattle.domain_store.specs.States.{IsStateOf, IsWalkOf};
 ghost use Rattle.rule_reducer.specs.Without.{judging, HoldsWithout, TellsWithout};
 
+use crate::numbered_rule::NumberedRule;
 use crate::shrinking_log::ShrinkingLog;
 use crate::stripped_lines::{lists, strip_line};
 use domain_store::Walk;
 use refutation_checker::{LeafJudge, go_past};
 use refutation_terms::Line;
 use rwsp_model::Problem;
-use rwsp_terms::Rule;
 use std::alloc::{AllocError, Global};
 
 // Whether the line, which is next for the walk, doesn't hold without the rule. Only a line that lists the rule is
@@ -22,18 +22,17 @@ fn refuses(
     judge: &mut LeafJudge,
     walk: &Walk,
     line: &Line,
-    number: u32,
-    rule: Rule,
+    dropped: NumberedRule,
 ) -> Result<bool, AllocError>
     requires state { IsWalkOf judge.old.problem walk.now }
     requires fits { LineFits judge.old.problem judge.old.goal judge.old.counts line.now }
     requires short { ListsShortOnly judge.old.problem line.now }
-    requires rule { rule_of judge.old.problem number ≡ Some rule }
+    requires rule { rule_of judge.old.problem dropped.number ≡ Some dropped.rule }
     ensures same { judge.new ≡ judge.old }
-    ensures refuses { IfOk result (TellsWithout judge.old number line.now walk.now) }
+    ensures refuses { IfOk result (TellsWithout judge.old dropped.number line.now walk.now) }
 {
-    if lists(line, number, rule) {
-        let stripped = strip_line(alloc, line, number, rule)?;
+    if lists(line, dropped) {
+        let stripped = strip_line(alloc, line, dropped)?;
         let judged = judge.holds(alloc, walk, &stripped);
         drop(stripped);
         let holds = judged?;
@@ -75,22 +74,21 @@ pub fn refuses_at(
     alloc: Global,
     problem: &Problem,
     log: &ShrinkingLog,
-    number: u32,
-    rule: Rule,
+    dropped: NumberedRule,
     place: usize,
 ) -> Result<bool, AllocError>
     requires passes { Passes problem.now log.now }
-    requires rule { rule_of problem.now number ≡ Some rule }
-    ensures { IfOk result (λ yes. IsTrue yes → Passes problem.now (strip problem.now number log.now) → ⊥) }
+    requires rule { rule_of problem.now dropped.number ≡ Some dropped.rule }
+    ensures { IfOk result (λ yes. IsTrue yes → Passes problem.now (strip problem.now dropped.number log.now) → ⊥) }
 {
     let lines = log.lines();
     if place >= lines.len() {
         return Ok(false);
     }
-    if !lists(&lines[place], number, rule) {
+    if !lists(&lines[place], dropped) {
         return Ok(false);
     }
-    refuses_behind(alloc, problem, log, number, rule, place)
+    refuses_behind(alloc, problem, log, dropped, place)
 }
 
 // Whether the line at the place, which is there, doesn't hold without the rule.
@@ -98,19 +96,18 @@ fn refuses_behind(
     alloc: Global,
     problem: &Problem,
     log: &ShrinkingLog,
-    number: u32,
-    rule: Rule,
+    dropped: NumberedRule,
     place: usize,
 ) -> Result<bool, AllocError>
     requires passes { Passes problem.now log.now }
-    requires rule { rule_of problem.now number ≡ Some rule }
+    requires rule { rule_of problem.now dropped.number ≡ Some dropped.rule }
     requires place { place < length log.now.lines }
-    ensures { IfOk result (λ yes. IsTrue yes → Passes problem.now (strip problem.now number log.now) → ⊥) }
+    ensures { IfOk result (λ yes. IsTrue yes → Passes problem.now (strip problem.now dropped.number log.now) → ⊥) }
 {
     let lines = log.lines();
     let walk = walk_to(alloc, problem, log, place)?;
     let mut judge = judge_of(problem, log);
-    let refused = refuses(alloc, &mut judge, &walk, &lines[place], number, rule);
+    let refused = refuses(alloc, &mut judge, &walk, &lines[place], dropped);
     drop(judge);
     drop(walk);
     refused
@@ -122,18 +119,17 @@ pub fn refusing_line(
     alloc: Global,
     problem: &Problem,
     log: &ShrinkingLog,
-    number: u32,
-    rule: Rule,
+    dropped: NumberedRule,
 ) -> Result<Option<usize>, AllocError>
     requires passes { Passes problem.now log.now }
-    requires rule { rule_of problem.now number ≡ Some rule }
+    requires rule { rule_of problem.now dropped.number ≡ Some dropped.rule }
     ensures { IfOk result (λ found. MatchOption found
-        (HoldsWithout problem.now number log.now)
-        (λ k. Passes problem.now (strip problem.now number log.now) → ⊥)) }
+        (HoldsWithout problem.now dropped.number log.now)
+        (λ k. Passes problem.now (strip problem.now dropped.number log.now) → ⊥)) }
 {
     let mut walk = Walk::new(alloc, problem, log.opening())?;
     let mut judge = judge_of(problem, log);
-    let found = first_refusing(alloc, problem, log, &mut judge, &mut walk, number, rule);
+    let found = first_refusing(alloc, problem, log, &mut judge, &mut walk, dropped);
     drop(judge);
     drop(walk);
     found
@@ -146,21 +142,20 @@ fn first_refusing(
     log: &ShrinkingLog,
     judge: &mut LeafJudge,
     walk: &mut Walk,
-    number: u32,
-    rule: Rule,
+    dropped: NumberedRule,
 ) -> Result<Option<usize>, AllocError>
     requires passes { Passes problem.now log.now }
-    requires rule { rule_of problem.now number ≡ Some rule }
+    requires rule { rule_of problem.now dropped.number ≡ Some dropped.rule }
     requires judge { judge.old ≡ judging problem.now log.now }
     requires walk { IsStateOf problem.now log.now.opening [] walk.old }
     ensures { IfOk result (λ found. MatchOption found
-        (HoldsWithout problem.now number log.now)
-        (λ k. Passes problem.now (strip problem.now number log.now) → ⊥)) }
+        (HoldsWithout problem.now dropped.number log.now)
+        (λ k. Passes problem.now (strip problem.now dropped.number log.now) → ⊥)) }
 {
     let lines = log.lines();
     for i in 0..lines.len() {
         let line = &lines[i];
-        let refused = refuses(alloc, judge, walk, line, number, rule)?;
+        let refused = refuses(alloc, judge, walk, line, dropped)?;
         if refused {
             return Ok(Some(i));
         }

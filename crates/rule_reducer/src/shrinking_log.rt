@@ -6,10 +6,11 @@ ghost use Rattle.refutation_terms.specs.Tree.{IsTree};
 ghost use Rattle.refutation_terms.specs.Strip.{strip, strip_line};
 
 use crate::lists::without;
+use crate::numbered_rule::NumberedRule;
 use crate::stripped_lines::strip_lines;
 use refutation_log::Log;
 use refutation_terms::{Line, Opening, Terms};
-use rwsp_terms::{Rule, RuleList};
+use rwsp_terms::RuleList;
 use std::alloc::{AllocError, Global};
 use std::marker::Model;
 
@@ -89,12 +90,13 @@ impl ShrinkingLog {
         &self.lines
     }
 
-    /// Takes out the rule, which has this number. After want of memory some lines may be without it already.
-    pub fn strip(&mut self, alloc: Global, number: u32, rule: Rule) -> Result<(), AllocError>
-        ensures { OnOk result ((P : Instance) → rule_of P number ≡ Some rule → self.new ≡ strip P number self.old) }
+    /// Takes out the rule. After want of memory some lines may be without it already.
+    pub fn strip(&mut self, alloc: Global, dropped: NumberedRule) -> Result<(), AllocError>
+        ensures { OnOk result ((P : Instance) →
+            rule_of P dropped.number ≡ Some dropped.rule → self.new ≡ strip P dropped.number self.old) }
     {
-        let named = without(alloc, &self.named, number)?;
-        strip_lines(alloc, &mut self.lines, number, rule)?;
+        let named = without(alloc, &self.named, dropped.number)?;
+        strip_lines(alloc, &mut self.lines, dropped)?;
         self.named = named;
         Ok(())
     }

@@ -7,6 +7,7 @@ ghost use Rattle.refutation_terms.specs.Strip.{strip_line, strip_claim, without_
 ghost use Rattle.rule_reducer.specs.Citing.{HasList};
 
 use crate::lists::{weights_without, without};
+use crate::numbered_rule::NumberedRule;
 use refutation_log::copy_line;
 use refutation_terms::{Leaf, Line, WordClaim};
 use rwsp_terms::{Rule, Weights};
@@ -45,30 +46,29 @@ fn claim_loses_weights(claim: &WordClaim, rule: Rule) -> bool
     }
 }
 
-/// Whether a strip of the rule, which has this number, can change the line: a leaf of words that lists the rule, or has
-/// weights on its day.
-pub fn lists(line: &Line, number: u32, rule: Rule) -> bool
+/// Whether a strip of the rule can change the line: a leaf of words that lists the rule, or has weights on its day.
+pub fn lists(line: &Line, dropped: NumberedRule) -> bool
     ensures leaf { IsTrue result → HasList line.now }
     ensures same { (result ≡ false) → (P : Instance) →
-        rule_of P number ≡ Some rule → strip_line P number line.now ≡ line.now }
+        rule_of P dropped.number ≡ Some dropped.rule → strip_line P dropped.number line.now ≡ line.now }
 {
     match line {
-        Line::Closing(leaf) => leaf_lists(leaf, number, rule),
+        Line::Closing(leaf) => leaf_lists(leaf, dropped),
         _ => false,
     }
 }
 
-fn leaf_lists(leaf: &Leaf, number: u32, rule: Rule) -> bool
+fn leaf_lists(leaf: &Leaf, dropped: NumberedRule) -> bool
     ensures leaf { IsTrue result → HasList (Line.Closing leaf.now) }
-    ensures same { (result ≡ false) → (P : Instance) → rule_of P number ≡ Some rule →
-        strip_line P number (Line.Closing leaf.now) ≡ Line.Closing leaf.now }
+    ensures same { (result ≡ false) → (P : Instance) → rule_of P dropped.number ≡ Some dropped.rule →
+        strip_line P dropped.number (Line.Closing leaf.now) ≡ Line.Closing leaf.now }
 {
     match leaf {
         Leaf::Words { rules, claim, .. } => {
-            if rules.holds(number) {
+            if rules.holds(dropped.number) {
                 return true;
             }
-            claim_loses_weights(claim, rule)
+            claim_loses_weights(claim, dropped.rule)
         }
         _ => false,
     }
@@ -96,15 +96,15 @@ fn strip_claim(alloc: Global, claim: &WordClaim, rule: Rule) -> Result<WordClaim
     }
 }
 
-/// The line without the rule, which has this number.
-pub fn strip_line(alloc: Global, line: &Line, number: u32, rule: Rule) -> Result<Line, AllocError>
+/// The line without the rule.
+pub fn strip_line(alloc: Global, line: &Line, dropped: NumberedRule) -> Result<Line, AllocError>
     ensures { IfOk result (λ kept. (P : Instance) →
-        rule_of P number ≡ Some rule → kept ≡ strip_line P number line.now) }
+        rule_of P dropped.number ≡ Some dropped.rule → kept ≡ strip_line P dropped.number line.now) }
 {
     match line {
         Line::Closing(Leaf::Words { p, rules, claim }) => {
-            let rules = without(alloc, rules, number)?;
-            let claim = strip_claim(alloc, claim, rule)?;
+            let rules = without(alloc, rules, dropped.number)?;
+            let claim = strip_claim(alloc, claim, dropped.rule)?;
             Ok(Line::Closing(Leaf::Words {
                 p: *p,
                 rules,
@@ -116,13 +116,14 @@ pub fn strip_line(alloc: Global, line: &Line, number: u32, rule: Rule) -> Result
 }
 
 // Takes the rule out of the line. A line that doesn't list it isn't copied.
-fn strip_in_place(alloc: Global, line: &mut Line, number: u32, rule: Rule) -> Result<(), AllocError>
-    ensures { OnOk result ((P : Instance) → rule_of P number ≡ Some rule → line.new ≡ strip_line P number line.old) }
+fn strip_in_place(alloc: Global, line: &mut Line, dropped: NumberedRule) -> Result<(), AllocError>
+    ensures { OnOk result ((P : Instance) →
+        rule_of P dropped.number ≡ Some dropped.rule → line.new ≡ strip_line P dropped.number line.old) }
 {
-    if !lists(line, number, rule) {
+    if !lists(line, dropped) {
         return Ok(());
     }
-    let stripped = strip_line(alloc, line, number, rule)?;
+    let stripped = strip_line(alloc, line, dropped)?;
     *line = stripped;
     Ok(())
 }
@@ -131,14 +132,13 @@ fn strip_in_place(alloc: Global, line: &mut Line, number: u32, rule: Rule) -> Re
 pub fn strip_lines(
     alloc: Global,
     lines: &mut [Line],
-    number: u32,
-    rule: Rule,
+    dropped: NumberedRule,
 ) -> Result<(), AllocError>
     ensures { OnOk result ((P : Instance) →
-        rule_of P number ≡ Some rule → lines.new ≡ map (strip_line P number) lines.old) }
+        rule_of P dropped.number ≡ Some dropped.rule → lines.new ≡ map (strip_line P dropped.number) lines.old) }
 {
     for i in 0..lines.len() {
-        strip_in_place(alloc, &mut lines[i], number, rule)?;
+        strip_in_place(alloc, &mut lines[i], dropped)?;
     }
     Ok(())
 }

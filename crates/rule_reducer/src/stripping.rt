@@ -5,6 +5,7 @@ ghost use Rattle.rwsp_terms.specs.Rules.{rule_of};
 ghost use Rattle.refutation_terms.specs.Log.{Fits};
 ghost use Rattle.refutation_terms.specs.Strip.{strip};
 
+use crate::numbered_rule::NumberedRule;
 use crate::shrinking_log::ShrinkingLog;
 use refutation_log::Log;
 use rwsp_model::{Problem, number_of};
@@ -25,6 +26,6 @@ pub fn strip(alloc: Global, log: &Log, rule: Rule, problem: &Problem) -> Result<
     let _tree = log.lines();
     let own = log.copy()?;
     let mut kept = ShrinkingLog::of(own);
-    kept.strip(alloc, number, rule)?;
+    kept.strip(alloc, NumberedRule { number, rule })?;
     Ok(kept.into_log())
 }

@@ -6,16 +6,16 @@ use Rattle.rule_reducer.proofs.descent.can_drop.Goals as goal
 pub returns-then-holds : goal.returns-then-holds
 returns-then-holds c =
     let P = c.args.problem.now in
-    let n = c.args.number in
-    let r = c.args.rule in
+    let n = c.args.dropped.number in
+    let r = c.args.dropped.rule in
     let cited = c.args.cited.now in
     cited_for_good P n r c.args.log.now c.requires.rule ((c.requires.cited.lasting r).0 (held_is_named P n r cited.for_good c.requires.rule (c.holds.ensures.0 c.if-holds.true)))
 
 pub returns-then-holds-2 : goal.returns-then-holds-2
 returns-then-holds-2 c =
     let P = c.args.problem.now in
-    let n = c.args.number in
-    let r = c.args.rule in
+    let n = c.args.dropped.number in
+    let r = c.args.dropped.rule in
     let g = c.args.log.now in
     let cited = c.args.cited.now in
     droppable P n r g c.in_ok-held.held c.requires.rule c.requires.passes
@@ -25,8 +25,8 @@ returns-then-holds-2 c =
 pub returns : goal.returns
 returns c =
     let P = c.args.problem.now in
-    let n = c.args.number in
-    let r = c.args.rule in
+    let n = c.args.dropped.number in
+    let r = c.args.dropped.rule in
     let g = c.args.log.now in
     let cited = c.args.cited.now in
     let free : CitesForGood P g r → ⊥ =

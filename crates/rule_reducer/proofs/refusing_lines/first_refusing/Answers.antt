@@ -28,7 +28,7 @@ refuses-requires-clause-short c =
     (c.requires.passes.grounded.short c.loop-i.i line (line_read g.lines _ c.loop-i.i line c.lines-lines.ensures (omega (arith, ap length c.lines-lines.ensures)) c.index-lines-i.is))
 
 pub refuses-requires-clause-rule : goal.refuses-requires-clause-rule
-refuses-requires-clause-rule c = subst (λ (J : Judging). rule_of J.problem c.args.number ≡ Some c.args.rule) (sym c.loop-i.invariant.same) c.requires.rule
+refuses-requires-clause-rule c = subst (λ (J : Judging). rule_of J.problem c.args.dropped.number ≡ Some c.args.dropped.rule) (sym c.loop-i.invariant.same) c.requires.rule
 
 pub returns-then-refused : goal.returns-then-refused
 returns-then-refused c =
@@ -38,8 +38,8 @@ returns-then-refused c =
     let line = c.index-lines-i.result in
     let refused = c.in_ok-refused.refused in
     let here = line_read g.lines _ i line c.lines-lines.ensures (omega (arith, ap length c.lines-lines.ensures)) c.index-lines-i.is in
-    tells_refusal P c.args.number g i line c.loop-i.walk refused here c.requires.passes c.loop-i.invariant.walked
-    (told_of (judging P g) c.loop-i.judge c.args.number line c.loop-i.walk refused c.loop-i.invariant.same c.in_ok-refused.ensures.refuses) c.if-refused.true
+    tells_refusal P c.args.dropped.number g i line c.loop-i.walk refused here c.requires.passes c.loop-i.invariant.walked
+    (told_of (judging P g) c.loop-i.judge c.args.dropped.number line c.loop-i.walk refused c.loop-i.invariant.same c.in_ok-refused.ensures.refuses) c.if-refused.true
 
 pub go_past-requires-clause-part : goal.go_past-requires-clause-part
 go_past-requires-clause-part c =
@@ -68,9 +68,9 @@ loop-i-preserved c =
     record {
       same = c.refuses.ensures.same ∙ c.loop-i.invariant.same;
       walked = walked_more P g.opening g.lines i line c.go_past.new.walk here (c.in_ok-go_past.ensures P g.opening (take i g.lines) c.loop-i.invariant.walked);
-      held = tells_hold P c.args.number g i line c.loop-i.walk refused here c.requires.passes c.loop-i.invariant.walked
-          (told_of (judging P g) c.loop-i.judge c.args.number line c.loop-i.walk refused c.loop-i.invariant.same c.in_ok-refused.ensures.refuses) c.if-refused.false c.loop-i.invariant.held;
+      held = tells_hold P c.args.dropped.number g i line c.loop-i.walk refused here c.requires.passes c.loop-i.invariant.walked
+          (told_of (judging P g) c.loop-i.judge c.args.dropped.number line c.loop-i.walk refused c.loop-i.invariant.same c.in_ok-refused.ensures.refuses) c.if-refused.false c.loop-i.invariant.held;
     }
 
 pub returns : goal.returns
-returns c = holds_all c.args.problem.now c.args.number c.args.log.now c.loop-i.i (omega (arith, ap length c.lines-lines.ensures)) c.loop-i.invariant.held
+returns c = holds_all c.args.problem.now c.args.dropped.number c.args.log.now c.loop-i.i (omega (arith, ap length c.lines-lines.ensures)) c.loop-i.invariant.held

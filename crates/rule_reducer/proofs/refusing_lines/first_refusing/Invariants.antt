@@ -8,5 +8,5 @@ abbrev pub invariant-loop-i : goal.invariant-loop-i
 invariant-loop-i l = record {
   same : l.judge ≡ judging l.problem l.log;
   walked : IsStateOf l.problem l.log.opening (take l.i l.log.lines) l.walk;
-  held : HoldWithout l.problem l.number l.log l.i;
+  held : HoldWithout l.problem l.dropped.number l.log l.i;
 }

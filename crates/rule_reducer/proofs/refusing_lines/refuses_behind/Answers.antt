@@ -33,7 +33,7 @@ pub returns : goal.returns
 returns c =
     let P = c.args.problem.now in
     let g = c.args.log.now in
-    let n = c.args.number in
+    let n = c.args.dropped.number in
     let line = c.index-lines-place.result in
     let walk = c.in_ok-walk.walk in
     let here = line_read g.lines _ c.args.place line c.lines-lines.ensures c.requires.place c.index-lines-place.is in

@@ -6,4 +6,4 @@ use Rattle.rule_reducer.proofs.InPlace.{replaced}
 use Rattle.rule_reducer.proofs.stripped_lines.strip_lines.Given as goal
 
 abbrev pub invariant-loop-i : goal.invariant-loop-i
-invariant-loop-i l = (P : Instance) → rule_of P l.number ≡ Some l.rule → l.lines ≡ replaced (strip_line P l.number) l.fn.lines l.i
+invariant-loop-i l = (P : Instance) → rule_of P l.dropped.number ≡ Some l.dropped.rule → l.lines ≡ replaced (strip_line P l.dropped.number) l.fn.lines l.i
