@@ -40,6 +40,9 @@ const MOST_MOVES: usize = 160_000;
 /// The most of a search that is to end soon.
 const MOST_SHORT_MOVES: usize = 16_000;
 
+/// The most of a search of a hasty finder.
+const MOST_HASTY_MOVES: usize = 48_000;
+
 /// Where a layer has many steps, this divided by their number, since each move looks at each step.
 const MOST_STEP_MOVES: usize = 36_000_000;
 
@@ -75,6 +78,8 @@ const MOST_REFUSED: usize = 10_000_000;
 pub enum Patience {
     /// Most rosters that can be found are found by then.
     Short,
+    /// Three times as long.
+    Middle,
     Long,
 }
 
@@ -240,8 +245,9 @@ impl<'a> Search<'a> {
         }
         let most = match patience {
             Patience::Short => MOST_SHORT_MOVES,
+            Patience::Middle if self.shares.hang_together => MOST_HASTY_MOVES,
             Patience::Long if self.shares.hang_together => MOST_MOVES,
-            Patience::Long => MOST_LOOSE_MOVES,
+            Patience::Middle | Patience::Long => MOST_LOOSE_MOVES,
         };
         (MOST_STEP_MOVES / self.setting.layer.step_count()).min(most)
     }
@@ -378,6 +384,7 @@ fn roster_of(problem: &Problem, cells: Vec<Symbol>) -> Option<Roster>
 pub struct RosterFinder<'a> {
     problem: &'a Problem,
     layer: SteadyLayer,
+    is_hasty: bool,
 }
 
 impl<'a> Model for RosterFinder<'a> {
@@ -401,6 +408,18 @@ impl<'a> RosterFinder<'a> {
         Ok(RosterFinder {
             problem,
             layer: SteadyLayer::of(alloc, problem)?,
+            is_hasty: false,
+        })
+    }
+
+    /// The same, but no search of it is a long one: for a problem that is likely to have no roster.
+    pub fn hasty(alloc: Global, problem: &'a Problem) -> Result<RosterFinder<'a>, AllocError>
+        ensures { IfOk result (λ f. f ≡ problem.now) }
+    {
+        Ok(RosterFinder {
+            problem,
+            layer: SteadyLayer::of(alloc, problem)?,
+            is_hasty: true,
         })
     }
 
@@ -435,7 +454,15 @@ impl<'a> RosterFinder<'a> {
         let Some(mut search) = Search::new(setting, &domains)? else {
             return Ok(None);
         };
-        search.run(self.problem, free, patience)
+        search.run(self.problem, free, self.bounded(patience))
+    }
+
+    // The patience that a search of this finder has where so much is asked for.
+    fn bounded(&self, patience: Patience) -> Patience {
+        match patience {
+            Patience::Long if self.is_hasty => Patience::Middle,
+            _ => patience,
+        }
     }
 
     /// A roster that meets every rule and holds each given cell, or None. None says nothing: another search may find

@@ -8,3 +8,6 @@ pub struct Effort {
     /// Whether blocks are counted first. A log of one that doesn't count may not count.
     pub counts: bool,
 }
+
+/// A plan within so many lines is a short one.
+pub const FEW_LINES: u32 = 64;

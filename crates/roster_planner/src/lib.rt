@@ -16,9 +16,9 @@ mod searching;
 mod staffing;
 mod top_leaf;
 
-pub use effort::Effort;
+pub use effort::{Effort, FEW_LINES};
 pub use of_cases::{CaseReasons, case_reasons};
-pub use planning::plan_roster;
+pub use planning::{plan_refutable, plan_roster};
 pub use raising::best;
 pub use searching::planner_search;
 pub use staffing::{Sizes, least_crew};

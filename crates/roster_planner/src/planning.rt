@@ -1,16 +1,19 @@
 // A roster for a problem, or a refutation.
 ghost use Rattle.std.specs.Prelude.{◌≡◌, ◌≤◌, false, IfOk};
+ghost use Rattle.std.specs.Option.{IfSome};
 ghost use Rattle.domain_store.specs.Cycles.{AreShortRules};
 ghost use Rattle.refutation_log.specs.Planned.{IsCounted, IsPlanned};
+ghost use Rattle.roster_finder.specs.Found.{IsRosterWith};
 
 use crate::counted::counted_log;
+use crate::effort::FEW_LINES;
 use crate::reasons::reasons_of;
 use crate::{Effort, planner_search};
 use clean_words::{Automaton, Gate, Told};
 use refutation_log::{Found, first_turn};
 use roster_finder::{Patience, RosterFinder};
 use roster_search::Aim;
-use rwsp_model::Problem;
+use rwsp_model::{Problem, Roster};
 use rwsp_terms::limits::GREATEST_BUDGET;
 use std::alloc::{AllocError, Global};
 use std::thread::Threads;
@@ -33,12 +36,44 @@ pub fn plan_roster<R: Threads + Sync, G: Gate>(
     ensures planned { IfOk result (IsPlanned problem.now effort.budget) }
     ensures counted { IfOk result (IsCounted problem.now effort.counts) }
 {
+    plan_by(rt, alloc, problem, effort, gate, false)
+}
+
+/// The same for a problem that is likely to have no roster. So reasons come before rosters are looked for, this ends
+/// soon, and only where the budget is spent it begins again with more patience, unless the plan is a short one.
+pub fn plan_refutable<R: Threads + Sync, G: Gate>(
+    rt: &R,
+    alloc: Global,
+    problem: &Problem,
+    effort: Effort,
+    gate: &G,
+) -> Result<Found, AllocError>
+    requires { (1 ≤ effort.budget) × (effort.budget ≤ GREATEST_BUDGET) }
+    ensures planned { IfOk result (IsPlanned problem.now effort.budget) }
+    ensures counted { IfOk result (IsCounted problem.now effort.counts) }
+{
+    plan_by(rt, alloc, problem, effort, gate, true)
+}
+
+// The plan, in haste to refute or not.
+fn plan_by<R: Threads + Sync, G: Gate>(
+    rt: &R,
+    alloc: Global,
+    problem: &Problem,
+    effort: Effort,
+    gate: &G,
+    is_hasty: bool,
+) -> Result<Found, AllocError>
+    requires { (1 ≤ effort.budget) × (effort.budget ≤ GREATEST_BUDGET) }
+    ensures planned { IfOk result (IsPlanned problem.now effort.budget) }
+    ensures counted { IfOk result (IsCounted problem.now effort.counts) }
+{
     if !effort.counts {
-        return search_plan(rt, alloc, problem, effort.budget, gate);
+        return search_plan(rt, alloc, problem, effort.budget, gate, is_hasty);
     }
     match counted_log(alloc, problem, first_turn(problem), None)? {
         Some(log) => Ok(Found::NoRoster(log)),
-        None => search_plan(rt, alloc, problem, effort.budget, gate),
+        None => search_plan(rt, alloc, problem, effort.budget, gate, is_hasty),
     }
 }
 
@@ -49,14 +84,82 @@ fn search_plan<R: Threads + Sync, G: Gate>(
     problem: &Problem,
     budget: u32,
     gate: &G,
+    is_hasty: bool,
 ) -> Result<Found, AllocError>
     requires { (1 ≤ budget) × (budget ≤ GREATEST_BUDGET) }
     ensures planned { IfOk result (IsPlanned problem.now budget) }
     ensures counted { IfOk result (IsCounted problem.now false) }
 {
+    if is_hasty {
+        return hasty_plan(rt, alloc, problem, budget, gate);
+    }
     let finder = RosterFinder::new(alloc, problem)?;
     let found = plan_or_find(rt, alloc, &finder, budget, gate);
     // An owned value that a generic call takes is dropped there, which keeps the proof of this body small.
+    drop(finder);
+    found
+}
+
+// What a search finds that looks for rosters for a shorter time. Where it has spent its budget, and this isn't that of a
+// short plan, a roster is looked for with more patience.
+fn hasty_plan<R: Threads + Sync, G: Gate>(
+    rt: &R,
+    alloc: Global,
+    problem: &Problem,
+    budget: u32,
+    gate: &G,
+) -> Result<Found, AllocError>
+    requires { (1 ≤ budget) × (budget ≤ GREATEST_BUDGET) }
+    ensures planned { IfOk result (IsPlanned problem.now budget) }
+    ensures counted { IfOk result (IsCounted problem.now false) }
+{
+    let finder = RosterFinder::hasty(alloc, problem)?;
+    let found = plan_by_cases(rt, alloc, &finder, budget, gate);
+    drop(finder);
+    let found = found?;
+    if budget > FEW_LINES && is_undecided(&found) {
+        or_patiently(alloc, problem, budget, found)
+    } else {
+        Ok(found)
+    }
+}
+
+// Whether the budget was spent.
+fn is_undecided(found: &Found) -> bool {
+    matches!(found, Found::Undecided(_))
+}
+
+// The roster that is found with patience, or else what was found.
+fn or_patiently(
+    alloc: Global,
+    problem: &Problem,
+    budget: u32,
+    found: Found,
+) -> Result<Found, AllocError>
+    requires planned { IsPlanned problem.now budget found }
+    requires counted { IsCounted problem.now false found }
+    ensures planned { IfOk result (IsPlanned problem.now budget) }
+    ensures counted { IfOk result (IsCounted problem.now false) }
+{
+    match patient_roster(alloc, problem) {
+        Ok(None) => Ok(found),
+        Ok(Some(roster)) => {
+            drop(found);
+            Ok(Found::Roster(roster))
+        }
+        Err(error) => {
+            drop(found);
+            Err(error)
+        }
+    }
+}
+
+// A roster that is found with patience.
+fn patient_roster(alloc: Global, problem: &Problem) -> Result<Option<Roster>, AllocError>
+    ensures { IfOk result (λ found. IfSome found (IsRosterWith problem.now 0)) }
+{
+    let finder = RosterFinder::new(alloc, problem)?;
+    let found = finder.find(alloc, 0, Patience::Long);
     drop(finder);
     found
 }
@@ -76,6 +179,21 @@ fn plan_or_find<R: Threads + Sync, G: Gate>(
     if let Some(roster) = finder.find(alloc, 0, Patience::Short)? {
         return Ok(Found::Roster(roster));
     }
+    plan_by_cases(rt, alloc, finder, budget, gate)
+}
+
+// What a search finds that distinguishes cases.
+fn plan_by_cases<R: Threads + Sync, G: Gate>(
+    rt: &R,
+    alloc: Global,
+    finder: &RosterFinder<'_>,
+    budget: u32,
+    gate: &G,
+) -> Result<Found, AllocError>
+    requires { (1 ≤ budget) × (budget ≤ GREATEST_BUDGET) }
+    ensures planned { IfOk result (IsPlanned finder.now budget) }
+    ensures counted { IfOk result (IsCounted finder.now false) }
+{
     let automaton = Automaton::of_short_rules(alloc, finder.problem(), Told::DayOff)?;
     let found = plan_cases(rt, alloc, &automaton, finder, budget, gate);
     drop(automaton);

@@ -1,7 +1,7 @@
 -- A log of one leaf is a plan, and behind it no leaf of blocks holds.
 use Rattle.roster_planner.proofs.OneLeaves.{one_plan}
 use Rattle.roster_planner.proofs.Counting.{if_found_counts}
-use Rattle.roster_planner.proofs.planning.plan_roster.Goals as goal
+use Rattle.roster_planner.proofs.planning.plan_by.Goals as goal
 
 pub returns-in-Some-clause-planned : goal.returns-in-Some-clause-planned
 returns-in-Some-clause-planned g c =
