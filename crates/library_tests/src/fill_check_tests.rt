@@ -123,7 +123,10 @@ fn any_number_of_workers(rt: HostRuntime) -> Result<(), Fail> {
     let problem = problem_of(rt.alloc(), TWOS_IN_SIX)?;
     for (text, verdict) in VERDICTS {
         for workers in [1, 2, 4] {
-            assert_eq!(rt; verdict_by(&rt, rt.alloc(), &problem, text, workers), verdict);
+            assert_eq!(rt;
+                verdict_by(&rt, rt.alloc(), &problem, text, workers),
+                verdict
+            );
         }
     }
     Ok(())
