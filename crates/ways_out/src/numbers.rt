@@ -10,10 +10,10 @@ use crate::change::{Change, Outcome};
 use crate::enough::is_enough;
 use crate::loosening::at_number;
 use crate::nearest::outcome_by_first;
-use crate::plans::{Asked, FEW_LINES, Verdict, plan_within};
+use crate::plans::{Asked, Verdict, plan_within};
 use clean_words::Gate;
 use refutation_log::Found;
-use roster_planner::Effort;
+use roster_planner::{Effort, FEW_LINES};
 use std::alloc::{AllocError, Global};
 use std::thread::Threads;
 

@@ -11,13 +11,10 @@ use crate::enough::fewer_steps;
 use crate::loosening::loosen;
 use clean_words::Gate;
 use refutation_log::Found;
-use roster_planner::{Effort, plan_roster};
+use roster_planner::{Effort, plan_refutable};
 use rwsp_model::Problem;
 use std::alloc::{AllocError, Global};
 use std::thread::Threads;
-
-/// A log with fewer lines than this is short.
-pub const FEW_LINES: u32 = 64;
 
 /// What all plans of changes have in common: the problem that is changed, the effort of each plan, and the gate before
 /// its workers.
@@ -41,7 +38,8 @@ pub enum Verdict {
     Open,
 }
 
-/// The plan of a problem with this effort. Every plan of this crate is made by this call.
+/// The plan of a problem with this effort, in haste, since most changes are no way out. Every plan of this crate is made
+/// by this call.
 pub fn plan_within<R: Threads + Sync, G: Gate>(
     rt: &R,
     alloc: Global,
@@ -53,7 +51,7 @@ pub fn plan_within<R: Threads + Sync, G: Gate>(
     ensures planned { IfOk result (IsPlanned problem.now effort.budget) }
     ensures counted { IfOk result (IsCounted problem.now effort.counts) }
 {
-    plan_roster(rt, alloc, problem, effort, gate)
+    plan_refutable(rt, alloc, problem, effort, gate)
 }
 
 // What is found says of the problem with so many steps of a change. A roster is tried with fewer steps, but with more

@@ -6,12 +6,12 @@ ghost use Rattle.ways_out.specs.Answers.{AreWaysOut, AreWaysOf};
 
 use crate::answer::WaysOut;
 use crate::listed::changes_in;
-use crate::plans::{Asked, FEW_LINES, plan_within};
+use crate::plans::{Asked, plan_within};
 use crate::side_by_side::{Refuted, outcomes_of};
 use crate::together::shown_together;
 use clean_words::Gate;
 use refutation_log::{Found, Log};
-use roster_planner::Effort;
+use roster_planner::{Effort, FEW_LINES};
 use rule_reducer::reduce_in_place;
 use rwsp_model::{Fail, Problem};
 use std::alloc::{AllocError, Global};
