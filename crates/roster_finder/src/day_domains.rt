@@ -15,8 +15,8 @@ pub(crate) struct DayDomains {
     // The nodes that a walk through all weeks may begin at.
     begins: Vec<bool>,
     // The days that may have more symbols than one.
-    open: Numbers,
-    ghost open_below: { open.below ≡ left.rows },
+    undecided: Numbers,
+    ghost undecided_below: { undecided.below ≡ left.rows },
 }
 
 impl DayDomains {
@@ -34,7 +34,7 @@ impl DayDomains {
         Ok(DayDomains {
             left: Table::new(alloc, demand.cells(), demand.symbols, true)?,
             begins: vec![in alloc; true; layer.nodes]?,
-            open: Numbers::counting(alloc, demand.cells())?,
+            undecided: Numbers::counting(alloc, demand.cells())?,
         })
     }
 
@@ -84,9 +84,9 @@ impl DayDomains {
 
     /// The days that may have more symbols than one, in order. They are those that `note_open` noted last.
     pub fn open(&self) -> &Numbers
-        ensures { result.now ≡ self.now.open }
+        ensures { result.now ≡ self.now.undecided }
     {
-        &self.open
+        &self.undecided
     }
 
     /// Takes a symbol from a day.
@@ -144,7 +144,7 @@ impl DayDomains {
                 open.push(day)?;
             }
         }
-        self.open = open;
+        self.undecided = open;
         Ok(())
     }
 }
