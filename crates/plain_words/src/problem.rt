@@ -57,7 +57,7 @@ fn put_counted_of(out: &mut Vec<u8>, problem: &Problem, x: Symbol) -> Result<(),
     put_if(out, problem, is_misfit(problem, x), Sentence::Counted(x))
 }
 
-// The same of each shift.
+// Says of each shift what counting its blocks shows.
 fn put_counted_shifts(out: &mut Vec<u8>, problem: &Problem) -> Result<(), AllocError>
     ensures { OnOk result (out.new.items ≡ out.old.items
         ++ lines problem.now (flat_map (λ x. counted_if problem.now (symbol_numbered x))
@@ -69,7 +69,7 @@ fn put_counted_shifts(out: &mut Vec<u8>, problem: &Problem) -> Result<(), AllocE
     Ok(())
 }
 
-// The same of all symbols.
+// Says of the shifts, and then of the day off, what counting blocks shows.
 #[tactic(auto, using(crate::proofs::Said::lines_behind))]
 fn put_counts(out: &mut Vec<u8>, problem: &Problem) -> Result<(), AllocError>
     ensures { OnOk result (out.new.items ≡ out.old.items ++ lines problem.now (counted problem.now)) }

@@ -75,7 +75,7 @@ fn sized_words(
     Ok(found)
 }
 
-// The same behind the number of weeks.
+// The words for why a staff text fails, read behind the number of weeks.
 fn sized_text(
     alloc: Global,
     problem: &Problem,

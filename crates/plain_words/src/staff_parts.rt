@@ -136,7 +136,7 @@ fn take_section<'a>(
     }
 }
 
-// The same, where the problem may have no such number of weeks.
+// Takes the section for a number of weeks, or nothing where the problem can't have so many.
 fn take_part<'a>(
     alloc: Global,
     problem: &Problem,
@@ -189,7 +189,7 @@ fn printed_roster(
     }
 }
 
-// The same for this number of weeks.
+// The roster that the bytes print, for the problem with so many weeks.
 fn sized_roster(
     alloc: Global,
     problem: &Problem,
@@ -249,7 +249,7 @@ fn spent_end(
     }
 }
 
-// The same as an end.
+// The end of a staff text that has no roster: a log that has spent its budget, or none.
 fn end_by_log(
     alloc: Global,
     problem: &Problem,
@@ -292,7 +292,7 @@ fn sized_end(
     }
 }
 
-// The same where the problem may have no such number of weeks.
+// The end of a staff text at a number of weeks, or nothing where the problem can't have so many.
 fn some_end(
     alloc: Global,
     problem: &Problem,

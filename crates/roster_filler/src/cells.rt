@@ -29,7 +29,7 @@ pub fn leave_cells(
     left
 }
 
-// The same by a judge, for all these cells.
+// Tries each of these cells: it is left out where the judge finds that the log passes without it.
 fn leave_each(
     alloc: Global,
     problem: &Problem,

@@ -41,7 +41,7 @@ pub fn fill(
     }
 }
 
-// The same by a search.
+// The plan behind given cells by a search, whose fill log is then reduced.
 fn fill_by_cases(
     alloc: Global,
     problem: &Problem,
@@ -75,7 +75,7 @@ fn searched(
     found
 }
 
-// The same with a finder of the problem.
+// Searches behind the given cells, with a finder that looks for rosters by other means.
 fn search_with(
     alloc: Global,
     finder: &RosterFinder<'_>,
@@ -92,7 +92,7 @@ fn search_with(
     found
 }
 
-// The same with the automaton of all short rules.
+// Searches behind the given cells, with the reasons that stand on the automaton of all short rules.
 fn search_cases(
     alloc: Global,
     automaton: &Automaton,

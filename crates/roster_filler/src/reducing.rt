@@ -22,7 +22,7 @@ pub fn reduce_fill(alloc: Global, problem: &Problem, fill: FillLog) -> Result<Fi
     Ok(FillLog { given, log })
 }
 
-// The same in place.
+// Leaves cells and rules out in place, until a round drops none, which shows that each is needed.
 fn reduce_parts(
     alloc: Global,
     problem: &Problem,

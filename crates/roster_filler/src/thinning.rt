@@ -37,7 +37,7 @@ pub fn thin_cells(
     thinned
 }
 
-// The same by a judge.
+// Leaves out halves of the cells, then quarters and so on, as the judge allows.
 fn thin_by(
     alloc: Global,
     problem: &Problem,

@@ -412,7 +412,7 @@ impl<'a> RosterFinder<'a> {
         })
     }
 
-    /// The same, but no search of it is a long one: for a problem that is likely to have no roster.
+    /// A finder whose longest search has 48,000 moves, in place of 160,000: for a problem that is likely to have no roster.
     pub fn hasty(alloc: Global, problem: &'a Problem) -> Result<RosterFinder<'a>, AllocError>
         ensures { IfOk result (λ f. f ≡ problem.now) }
     {

@@ -25,7 +25,7 @@ pub fn likely_most(alloc: Global, automaton: &Automaton) -> Result<u32, AllocErr
     most
 }
 
-// The same by these weights.
+// The most free weekends for which these weights give no leaf at the top, by halving.
 fn halved(
     alloc: Global,
     problem: &Problem,

@@ -109,7 +109,7 @@ fn search_with(
     }
 }
 
-// The same where the free leaf of one turn doesn't hold at the top.
+// Distinguishes cases, where the free leaf of one turn doesn't hold at the top.
 fn split_cases(
     alloc: Global,
     automaton: &Automaton,

@@ -39,8 +39,9 @@ pub fn plan_roster<R: Threads + Sync, G: Gate>(
     plan_by(rt, alloc, problem, effort, gate, false)
 }
 
-/// The same for a problem that is likely to have no roster. So reasons come before rosters are looked for, this ends
-/// soon, and only where the budget is spent it begins again with more patience, unless the plan is a short one.
+/// A plan in haste, for a problem that is likely to have no roster: reasons come before rosters are looked for, and the
+/// finder has fewer moves. Only where the budget is spent a roster is looked for with patience, unless the plan is a short
+/// one. What it promises is what `plan_roster` does.
 pub fn plan_refutable<R: Threads + Sync, G: Gate>(
     rt: &R,
     alloc: Global,

@@ -39,7 +39,7 @@ pub fn best(alloc: Global, problem: &Problem, effort: Effort) -> Result<BestFoun
     }
 }
 
-// The same by searches, whose logs may not count blocks.
+// The best roster by searches, whose logs may not count blocks.
 fn search_best(alloc: Global, problem: &Problem, budget: u32) -> Result<BestFound, AllocError>
     requires week { problem.now.days ≡ DAYS_OF_WEEK }
     requires budget { (1 ≤ budget) × (budget ≤ GREATEST_BUDGET) }
@@ -63,8 +63,8 @@ fn search_best(alloc: Global, problem: &Problem, budget: u32) -> Result<BestFoun
     found
 }
 
-// The same with the automaton of all short rules of its problem, and by these searches: the roster is the one with the
-// most free weekends of all that they found.
+// Searches with one goal after the other, over the automaton of all short rules: the roster is the one with the most
+// free weekends of all that were found.
 fn best_by(
     alloc: Global,
     automaton: &Automaton,
