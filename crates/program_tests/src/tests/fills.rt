@@ -202,7 +202,8 @@ fn is_refuted<'x, R: Threads + Sync>(
 fn cells_that_cannot_stand(rt: HostRuntime) -> Result<(), Fail> {
     let cases = [
         (TWO_DAYS, "- ?\n", "accepted: rules 7 cells 1 1 -\n"),
-        (TWO_OF_ONE, "? -\n", "accepted: rules 7 cells\n"),
+        // Blocks are counted first, and then no cell is named.
+        (TWO_OF_ONE, "? -\n", "accepted: rules 1 2 7 8 cells\n"),
         (
             TWO_WEEKS,
             "D ?\nD -\n",
