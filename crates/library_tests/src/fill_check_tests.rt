@@ -8,20 +8,25 @@ use std::test::Fail;
 use std::thread::Threads;
 use test_helpers::{TWOS_IN_SIX, log_of, problem_of};
 
+// Four days are off, of which three may be.
+const FOUR_OFF: &[u8] = b"rwsp-fill 1\nrules 7\ncells 1 1 - 2 1 - 3 1 - 4 1 -\nday 1 - over\n";
+
+const THREE_OFF: &[u8] = b"rwsp-fill 1\nrules 7\ncells 1 1 - 2 1 - 4 1 -\nday 1 - over\n";
+
+// A split on a given cell is idle.
+const SPLIT_ON_A_CELL: &[u8] =
+    b"rwsp-fill 1\nrules 1 2 3 4\ncells 2 1 D\nsplit 2 1 D\nopen\nopen\n";
+
 // A fill log's text, that of the log in it, and whether it passes.
 const FILL_LOGS: [(&[u8], &[u8], bool); 3] = [
+    (FOUR_OFF, b"rwsp-log 3\nrules 7\nturn\nday 1 - over\n", true),
     (
-        b"rwsp-fill 1\nrules 7\ncells 1 1 - 2 1 - 3 1 - 4 1 -\nday 1 - over\n",
-        b"rwsp-log 3\nrules 7\nturn\nday 1 - over\n",
-        true,
-    ),
-    (
-        b"rwsp-fill 1\nrules 7\ncells 1 1 - 2 1 - 4 1 -\nday 1 - over\n",
+        THREE_OFF,
         b"rwsp-log 3\nrules 7\nturn\nday 1 - over\n",
         false,
     ),
     (
-        b"rwsp-fill 1\nrules 1 2 3 4\ncells 2 1 D\nsplit 2 1 D\nopen\nopen\n",
+        SPLIT_ON_A_CELL,
         b"rwsp-log 3\nrules 1 2 3 4\nturn\nsplit 2 1 D\nopen\nopen\n",
         false,
     ),
@@ -50,7 +55,7 @@ fn passes_by_itself(
 }
 
 // What is said of the text of a fill log, with the line that is refused.
-#[derive(Debug, PartialEq)]
+#[derive(Clone, Copy, Debug, PartialEq)]
 enum Verdict {
     Passes,
     Idle(u32),
@@ -66,9 +71,9 @@ use Verdict::{Ends, Extra, Fails, Idle, Passes, Unfinished};
 // Texts of fill logs of four cells that are days off, of which three may be, and what is said of each: the given cells
 // count as no lines, and a line behind the whole tree is refused whatever it is.
 const VERDICTS: [(&[u8], Verdict); 7] = [
-    (FILL_LOGS[0].0, Passes),
-    (FILL_LOGS[1].0, Fails(4)),
-    (FILL_LOGS[2].0, Idle(4)),
+    (FOUR_OFF, Passes),
+    (THREE_OFF, Fails(4)),
+    (SPLIT_ON_A_CELL, Idle(4)),
     (
         b"rwsp-fill 1\nrules 7\ncells 1 1 - 2 1 - 3 1 - 4 1 -\nsplit 5 1 D\nday 1 - over\nday 1 - over\n",
         Passes,
