@@ -1,5 +1,6 @@
 // The heaviest word over domains, by one pass from the last day back.
 ghost use Rattle.std.specs.Prelude.{◌≡◌, ◌<◌, length, IfOk};
+ghost use Rattle.propagators.specs.declared.sweep.TheConstants.{PLACES};
 
 use crate::demand::Shape;
 use clean_words::Automaton;
@@ -14,6 +15,9 @@ const NEVER: i64 = -(1 << 60);
 
 // The place of what a day off gains behind a day off, behind what the symbols gain.
 const OFF_AGAIN: usize = MOST_SYMBOLS as usize;
+
+// The places of what a day gains.
+const PLACES: usize = OFF_AGAIN + 1;
 
 // Where words lie: from a position on, over domains.
 #[derive(Drop)]
@@ -82,18 +86,11 @@ fn bit(number: u8) -> u16 {
     1u16.wrapping_shl(u32::from(number))
 }
 
-// A step from a state: where it leads, and the place of what it gains.
+// A step between two states.
 #[derive(Clone, Copy, Drop)]
 struct Move {
-    to: usize,
-    place: usize,
-}
-
-// A step that a heaviest word begins with, by its number among those from a state, and what the word weighs.
-#[derive(Clone, Copy)]
-struct Choice {
-    number: u8,
-    weight: i64,
+    from: u32,
+    to: u32,
 }
 
 // The room for passes over days.
@@ -101,34 +98,39 @@ struct Choice {
 pub struct Sweep {
     // The number of steps.
     steps: u64,
-    // The steps from each state.
+    // For each place of a gain the steps that gain it, ascending by the state that they are from.
     moves: Vec<Vec<Move>>,
+    // For each place of a gain and each state, where the step leads.
+    ends: Vec<Option<u32>>,
     // What the words from each state to the end weigh at most, on one day and on the next.
     now: Vec<i64>,
     next: Vec<i64>,
     // What the symbols gain on the present day, and a day off behind a day off.
     gains: Vec<i64>,
-    // By day and state: the number of a heaviest word's first step. There is room for the first days alone.
+    // By day and state: the place of what a heaviest word gains first. There is room for the first days alone.
     choices: Vec<u8>,
 }
 
 impl Sweep {
     // Room for passes, with the steps of heaviest words of at most `days` days.
     pub fn of(alloc: Global, automaton: &Automaton, days: u32) -> Result<Sweep, AllocError> {
+        automaton.prove_facts();
         let states = automaton.states();
+        let ends = ends_of(alloc, automaton)?;
         Ok(Sweep {
             steps: automaton.steps().len() as u64,
-            moves: moves_of(alloc, automaton)?,
+            moves: moves_of(alloc, &ends, states as u32)?,
+            ends,
             now: vec![in alloc; NEVER; states]?,
             next: vec![in alloc; NEVER; states]?,
-            gains: vec![in alloc; NEVER; OFF_AGAIN + 1]?,
+            gains: vec![in alloc; NEVER; PLACES]?,
             choices: vec![in alloc; 0u8; states.saturating_mul(days as usize)]?,
         })
     }
 
     // What the heaviest word of `days` days weighs, by dynamic programming (R. Bellman, 1957). None where there is no
     // word.
-    // Cost: a look at each step on each day.
+    // Cost: a look at each step on each day on which its symbol is left.
     pub fn heaviest(&mut self, place: &Place, days: u32, weights: &[i64]) -> Option<i64> {
         self.next.fill(0);
         for i in 0..days {
@@ -165,14 +167,22 @@ impl Sweep {
         put(&mut self.gains, OFF_AGAIN, off_again);
     }
 
-    // One day of a pass.
+    // One day of a pass. Of steps that gain as much the one whose place comes first is chosen.
     fn weigh_day(&mut self, day: u32) {
-        let mut place = (day as usize).saturating_mul(self.moves.len());
-        for (moves, weight) in self.moves.iter().zip(self.now.iter_mut()) {
-            let best = heaviest_choice(moves, &self.next, &self.gains);
-            *weight = best.weight;
-            put(&mut self.choices, place, best.number);
-            place = place.saturating_add(1);
+        let row = (day as usize).saturating_mul(self.now.len());
+        self.now.fill(NEVER);
+        let mut place: u8 = 0;
+        for moves in self.moves.iter() {
+            let gain = entry_or(&self.gains, usize::from(place), NEVER);
+            if gain > NEVER / 2 {
+                let choices = Choices {
+                    all: &mut self.choices,
+                    row,
+                    place,
+                };
+                weigh_moves(moves, gain, &self.next, &mut self.now, choices);
+            }
+            place = place.wrapping_add(1);
         }
     }
 
@@ -188,25 +198,30 @@ impl Sweep {
         let mut counts = vec![in alloc; 0i64; size]?;
         let mut state = 0;
         for day in 0..days {
-            let Some(step) = self.first_step(day, state) else {
+            let gained = self.first_gain(day, state);
+            let Some(to) = self.end_of(gained, state) else {
                 break;
             };
-            let is_off_again = step.place == OFF_AGAIN;
-            let symbol = if is_off_again { 0 } else { step.place };
+            let is_off_again = gained == OFF_AGAIN;
+            let symbol = if is_off_again { 0 } else { gained };
             add_one(&mut counts, place.day_start(day).wrapping_add(symbol));
             if is_off_again && place.ends_weekend(day) {
                 add_one(&mut counts, place.shape.size());
             }
-            state = step.to;
+            state = to as usize;
         }
         Ok(counts)
     }
 
-    // The first step of a heaviest word from a state on a day.
-    fn first_step(&self, day: u32, state: usize) -> Option<Move> {
-        let row = (day as usize).saturating_mul(self.moves.len());
-        let number = entry_or(&self.choices, row.saturating_add(state), 0);
-        self.moves.get(state)?.get(usize::from(number)).copied()
+    // The place of what a heaviest word from a state gains first on a day.
+    fn first_gain(&self, day: u32, state: usize) -> usize {
+        let row = (day as usize).saturating_mul(self.now.len());
+        usize::from(entry_or(&self.choices, row.saturating_add(state), 0))
+    }
+
+    // Where the step from a state leads that gains what has this place.
+    fn end_of(&self, place: usize, state: usize) -> Option<u32> {
+        entry_or(&self.ends, place_of(place, state, self.now.len()), None)
     }
 
     // The number of steps in a pass over `days` days.
@@ -215,60 +230,75 @@ impl Sweep {
     }
 }
 
-// The steps from each state.
-fn moves_of(alloc: Global, automaton: &Automaton) -> Result<Vec<Vec<Move>>, AllocError> {
-    let mut all = Vec::new(alloc);
+// Where the first gains of heaviest words are written: in the row of a day, by the state.
+#[derive(Drop)]
+struct Choices<'a> {
+    all: &'a mut [u8],
+    row: usize,
+    place: u8,
+}
+
+// Lets the heaviest words from each state begin with one of these steps, which gain as much, where they weigh more so.
+fn weigh_moves(moves: &[Move], gain: i64, next: &[i64], now: &mut [i64], choices: Choices<'_>) {
+    let Choices { all, row, place } = choices;
+    for step in moves {
+        let weight = entry_or(next, step.to as usize, NEVER).wrapping_add(gain);
+        let from = step.from as usize;
+        if weight > entry_or(now, from, NEVER) {
+            put(now, from, weight);
+            put(all, row.saturating_add(from), place);
+        }
+    }
+}
+
+// The place of a step in the list of all that are by place of their gain and by state.
+fn place_of(place: usize, state: usize, states: usize) -> usize {
+    place.saturating_mul(states).saturating_add(state)
+}
+
+// Where the step from each state leads, for each place of a gain.
+fn ends_of(alloc: Global, automaton: &Automaton) -> Result<Vec<Option<u32>>, AllocError> {
+    let mut ends = Vec::new(alloc);
     automaton.prove_facts();
-    for state in 0..automaton.states() as u32 {
-        all.push(moves_from(alloc, automaton, state)?)?;
+    for place in 0..PLACES {
+        for state in 0..automaton.states() as u32 {
+            ends.push(end_of(automaton, place, state))?;
+        }
+    }
+    Ok(ends)
+}
+
+// Where the step from a state leads that gains what has this place. A day off behind a day off has a place of its own.
+fn end_of(automaton: &Automaton, place: usize, state: u32) -> Option<u32>
+    requires place { place < PLACES }
+    requires state { state < length automaton.now.moves }
+{
+    let is_off = place == 0 || place == OFF_AGAIN;
+    if is_off && automaton.is_off(state) != (place == OFF_AGAIN) {
+        return None;
+    }
+    let number = if is_off { 0 } else { place as u8 };
+    automaton.follow(state, Symbol { number })
+}
+
+// The steps for each place of a gain.
+fn moves_of(
+    alloc: Global,
+    ends: &[Option<u32>],
+    states: u32,
+) -> Result<Vec<Vec<Move>>, AllocError> {
+    let mut all = Vec::new(alloc);
+    for place in 0..PLACES {
+        let mut moves = Vec::new(alloc);
+        for from in 0..states {
+            let number = place_of(place, from as usize, states as usize);
+            if let Some(to) = entry_or(ends, number, None) {
+                moves.push(Move { from, to })?;
+            }
+        }
+        all.push(moves)?;
     }
     Ok(all)
-}
-
-// The steps from one state. A day off behind a day off has a place of its own, behind the symbols.
-fn moves_from(alloc: Global, automaton: &Automaton, state: u32) -> Result<Vec<Move>, AllocError>
-    requires { state < length automaton.now.moves }
-{
-    let was_off = automaton.is_off(state);
-    let mut moves = Vec::new(alloc);
-    for number in 0..MOST_SYMBOLS as u8 {
-        if was_off && number == 0 {
-            continue;
-        }
-        if let Some(to) = automaton.follow(state, Symbol { number }) {
-            moves.push(Move {
-                to: to as usize,
-                place: usize::from(number),
-            })?;
-        }
-    }
-    if was_off {
-        if let Some(to) = automaton.follow(state, Symbol { number: 0 }) {
-            moves.push(Move {
-                to: to as usize,
-                place: OFF_AGAIN,
-            })?;
-        }
-    }
-    Ok(moves)
-}
-
-// The first step of a heaviest word from a state with these steps, where `next` is what the words behind them weigh.
-fn heaviest_choice(moves: &[Move], next: &[i64], gains: &[i64]) -> Choice {
-    let mut best = Choice {
-        number: 0,
-        weight: NEVER,
-    };
-    let mut number: u8 = 0;
-    for step in moves {
-        let gain = entry_or(gains, step.place, NEVER);
-        let weight = entry_or(next, step.to, NEVER).wrapping_add(gain);
-        if weight > best.weight {
-            best = Choice { number, weight };
-        }
-        number = number.wrapping_add(1);
-    }
-    best
 }
 
 fn add_one(counts: &mut [i64], coordinate: usize) {
