@@ -40,8 +40,8 @@ const MOST_MOVES: usize = 160_000;
 /// The most of a search that is to end soon.
 const MOST_SHORT_MOVES: usize = 16_000;
 
-/// The most of a search of a hasty finder.
-const MOST_HASTY_MOVES: usize = 48_000;
+/// The most of a search of middle length.
+const MOST_MIDDLE_MOVES: usize = 48_000;
 
 /// Where a layer has many steps, this divided by their number, since each move looks at each step.
 const MOST_STEP_MOVES: usize = 36_000_000;
@@ -51,6 +51,9 @@ const MOST_LOOSE_MOVES: usize = 32_000;
 
 /// After this many moves new shares are made.
 const SHARES_FOR: usize = 16_000;
+
+/// So often cuts are looked for at most.
+const CUTTING_TURNS: usize = 10;
 
 /// All shares except the first ones are blurred by random numbers below this.
 const SHARES_NOISE: u32 = 3_000;
@@ -83,12 +86,33 @@ pub enum Patience {
     Long,
 }
 
+impl Patience {
+    // The lesser one of both.
+    fn up_to(self, most: Patience) -> Patience {
+        match (self, most) {
+            (Patience::Short, _) | (_, Patience::Short) => Patience::Short,
+            (Patience::Middle, _) | (_, Patience::Middle) => Patience::Middle,
+            (Patience::Long, Patience::Long) => Patience::Long,
+        }
+    }
+
+    // How often a finder with at most this patience looks for cuts. They take more time than all moves of a shorter
+    // search.
+    fn cutting_turns(self) -> usize {
+        match self {
+            Patience::Short | Patience::Middle => 0,
+            Patience::Long => CUTTING_TURNS,
+        }
+    }
+}
+
 /// A search, as far as it is.
 #[derive(Drop)]
 struct Search<'a> {
     setting: Setting<'a>,
     domains: &'a DayDomains,
     shares: Shares,
+    cutting_turns: usize,
     random: Random,
     draft: Draft,
     // Another word: the best start word so far.
@@ -114,7 +138,11 @@ struct Search<'a> {
 
 impl<'a> Search<'a> {
     // A search without a word yet. None where no walk can begin, or there are no shares.
-    fn new(setting: Setting<'a>, domains: &'a DayDomains) -> Result<Option<Search<'a>>, AllocError>
+    fn new(
+        setting: Setting<'a>,
+        domains: &'a DayDomains,
+        cutting_turns: usize,
+    ) -> Result<Option<Search<'a>>, AllocError>
         requires { AreDomainsOf setting domains.now }
     {
         if setting.layer.nodes == 0 || setting.layer.step_count() == 0 {
@@ -124,10 +152,10 @@ impl<'a> Search<'a> {
             return Ok(None);
         }
         let mut random = Random::new();
-        let Some(shares) = Shares::of(setting, &mut random, 0)? else {
+        let Some(shares) = Shares::of(setting, &mut random, 0, cutting_turns)? else {
             return Ok(None);
         };
-        let search = Search::of(setting, domains, shares, random)?;
+        let search = Search::of(setting, domains, shares, cutting_turns, random)?;
         Ok(Some(search))
     }
 
@@ -136,6 +164,7 @@ impl<'a> Search<'a> {
         setting: Setting<'a>,
         domains: &'a DayDomains,
         shares: Shares,
+        cutting_turns: usize,
         random: Random,
     ) -> Result<Search<'a>, AllocError>
         requires domains { AreDomainsOf setting domains.now }
@@ -151,6 +180,7 @@ impl<'a> Search<'a> {
             setting,
             domains,
             shares,
+            cutting_turns,
             random,
             draft,
             other,
@@ -164,7 +194,8 @@ impl<'a> Search<'a> {
     // Makes new shares where their turn has come. Where there are none this time, the old ones stay.
     fn renew_shares(&mut self, turn: usize) -> Result<(), AllocError> {
         if turn > 0 && turn % SHARES_FOR == 0 {
-            if let Some(shares) = Shares::of(self.setting, &mut self.random, SHARES_NOISE)? {
+            let turns = self.cutting_turns;
+            if let Some(shares) = Shares::of(self.setting, &mut self.random, SHARES_NOISE, turns)? {
                 self.shares = shares;
             }
         }
@@ -245,7 +276,7 @@ impl<'a> Search<'a> {
         }
         let most = match patience {
             Patience::Short => MOST_SHORT_MOVES,
-            Patience::Middle if self.shares.hang_together => MOST_HASTY_MOVES,
+            Patience::Middle if self.shares.hang_together => MOST_MIDDLE_MOVES,
             Patience::Long if self.shares.hang_together => MOST_MOVES,
             Patience::Middle | Patience::Long => MOST_LOOSE_MOVES,
         };
@@ -384,7 +415,8 @@ fn roster_of(problem: &Problem, cells: Vec<Symbol>) -> Option<Roster>
 pub struct RosterFinder<'a> {
     problem: &'a Problem,
     layer: SteadyLayer,
-    is_hasty: bool,
+    // No search goes on for longer.
+    most: Patience,
 }
 
 impl<'a> Model for RosterFinder<'a> {
@@ -405,21 +437,22 @@ impl<'a> RosterFinder<'a> {
     pub fn new(alloc: Global, problem: &'a Problem) -> Result<RosterFinder<'a>, AllocError>
         ensures { IfOk result (λ f. f ≡ problem.now) }
     {
-        Ok(RosterFinder {
-            problem,
-            layer: SteadyLayer::of(alloc, problem)?,
-            is_hasty: false,
-        })
+        RosterFinder::up_to(alloc, problem, Patience::Long)
     }
 
-    /// A finder whose longest search has 48,000 moves, in place of 160,000: for a problem that is likely to have no roster.
-    pub fn hasty(alloc: Global, problem: &'a Problem) -> Result<RosterFinder<'a>, AllocError>
+    /// A search for rosters of the problem that goes on for no longer than this, whatever is asked for: for a problem
+    /// that is likely to have none.
+    pub fn up_to(
+        alloc: Global,
+        problem: &'a Problem,
+        most: Patience,
+    ) -> Result<RosterFinder<'a>, AllocError>
         ensures { IfOk result (λ f. f ≡ problem.now) }
     {
         Ok(RosterFinder {
             problem,
             layer: SteadyLayer::of(alloc, problem)?,
-            is_hasty: true,
+            most,
         })
     }
 
@@ -451,18 +484,10 @@ impl<'a> RosterFinder<'a> {
             demand: &demand,
         };
         let domains = DayDomains::all(setting)?;
-        let Some(mut search) = Search::new(setting, &domains)? else {
+        let Some(mut search) = Search::new(setting, &domains, self.most.cutting_turns())? else {
             return Ok(None);
         };
-        search.run(self.problem, free, self.bounded(patience))
-    }
-
-    // The patience that a search of this finder has where so much is asked for.
-    fn bounded(&self, patience: Patience) -> Patience {
-        match patience {
-            Patience::Long if self.is_hasty => Patience::Middle,
-            _ => patience,
-        }
+        search.run(self.problem, free, patience.up_to(self.most))
     }
 
     /// A roster that meets every rule and holds each given cell, or None. None says nothing: another search may find
@@ -502,9 +527,9 @@ impl<'a> RosterFinder<'a> {
         let mut domains = DayDomains::all(setting)?;
         domains.give(given.cells());
         narrow(setting, &mut domains)?;
-        let Some(mut search) = Search::new(setting, &domains)? else {
+        let Some(mut search) = Search::new(setting, &domains, self.most.cutting_turns())? else {
             return Ok(None);
         };
-        search.run(self.problem, 0, patience)
+        search.run(self.problem, 0, patience.up_to(self.most))
     }
 }

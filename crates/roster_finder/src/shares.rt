@@ -12,9 +12,6 @@ use std::alloc::AllocError;
 /// Shares are given in parts of a use; this many parts are one use.
 pub(crate) const ONE_USE: i64 = 4_096;
 
-/// So often cuts are looked for at most.
-const CUTTING_TURNS: usize = 10;
-
 /// A fractional roster as a flow: for each weekday and step how often it is taken.
 #[derive(Drop)]
 pub(crate) struct Shares {
@@ -26,11 +23,13 @@ pub(crate) struct Shares {
 
 impl Shares {
     /// Those of a mixture of words that meets the demand; None where no mixture does. They hang together where one does
-    /// that is led over all cuts. They are blurred by random numbers below `noise`.
+    /// that is led over all cuts, which are looked for `cutting_turns` times at most. They are blurred by random numbers
+    /// below `noise`.
     pub fn of(
         setting: Setting<'_>,
         random: &mut Random,
         noise: u32,
+        cutting_turns: usize,
     ) -> Result<Option<Shares>, AllocError>
         requires nodes { 0 < setting.layer.now.nodes }
         requires steps { 0 < length setting.layer.now.steps.items }
@@ -44,7 +43,7 @@ impl Shares {
             hang_together: true,
             uses: mixture.uses(setting, ONE_USE)?,
         };
-        shares.lead_over_cuts(setting, random, &mut mixture)?;
+        shares.lead_over_cuts(setting, random, &mut mixture, cutting_turns)?;
         Ok(Some(shares))
     }
 
@@ -55,6 +54,7 @@ impl Shares {
         setting: Setting<'_>,
         random: &mut Random,
         mixture: &mut Mixture,
+        cutting_turns: usize,
     ) -> Result<(), AllocError>
         requires nodes { 0 < setting.layer.now.nodes }
         requires steps { 0 < length setting.layer.now.steps.items }
@@ -62,7 +62,7 @@ impl Shares {
         requires uses { IsByStep setting self.old.uses }
         ensures { OnOk result (IsByStep setting.entry self.new.uses) }
     {
-        for _ in 0..CUTTING_TURNS {
+        for _ in 0..cutting_turns {
             if !mixture.cut(setting, &self.uses)? {
                 break;
             }

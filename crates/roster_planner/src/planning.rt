@@ -36,12 +36,12 @@ pub fn plan_roster<R: Threads + Sync, G: Gate>(
     ensures planned { IfOk result (IsPlanned problem.now effort.budget) }
     ensures counted { IfOk result (IsCounted problem.now effort.counts) }
 {
-    plan_by(rt, alloc, problem, effort, gate, false)
+    plan_by(rt, alloc, problem, effort, gate, First::Rosters)
 }
 
-/// A plan in haste, for a problem that is likely to have no roster: reasons come before rosters are looked for, and the
-/// finder has fewer moves. Only where the budget is spent a roster is looked for with patience, unless the plan is a short
-/// one. What it promises is what `plan_roster` does.
+/// A plan of a problem that is likely to have no roster: reasons come before rosters are looked for, and the finder has
+/// fewer moves, in a short plan the fewest. Only where the budget is spent a roster is looked for with patience, unless the
+/// plan is a short one. What it promises is what `plan_roster` does.
 pub fn plan_refutable<R: Threads + Sync, G: Gate>(
     rt: &R,
     alloc: Global,
@@ -53,28 +53,35 @@ pub fn plan_refutable<R: Threads + Sync, G: Gate>(
     ensures planned { IfOk result (IsPlanned problem.now effort.budget) }
     ensures counted { IfOk result (IsCounted problem.now effort.counts) }
 {
-    plan_by(rt, alloc, problem, effort, gate, true)
+    plan_by(rt, alloc, problem, effort, gate, First::Reasons)
 }
 
-// The plan, in haste to refute or not.
+// What a plan looks for before anything else.
+#[derive(Clone, Copy)]
+enum First {
+    Rosters,
+    Reasons,
+}
+
+// The plan that begins so.
 fn plan_by<R: Threads + Sync, G: Gate>(
     rt: &R,
     alloc: Global,
     problem: &Problem,
     effort: Effort,
     gate: &G,
-    is_hasty: bool,
+    first: First,
 ) -> Result<Found, AllocError>
     requires { (1 ≤ effort.budget) × (effort.budget ≤ GREATEST_BUDGET) }
     ensures planned { IfOk result (IsPlanned problem.now effort.budget) }
     ensures counted { IfOk result (IsCounted problem.now effort.counts) }
 {
     if !effort.counts {
-        return search_plan(rt, alloc, problem, effort.budget, gate, is_hasty);
+        return search_plan(rt, alloc, problem, effort.budget, gate, first);
     }
     match counted_log(alloc, problem, first_turn(problem), None)? {
         Some(log) => Ok(Found::NoRoster(log)),
-        None => search_plan(rt, alloc, problem, effort.budget, gate, is_hasty),
+        None => search_plan(rt, alloc, problem, effort.budget, gate, first),
     }
 }
 
@@ -85,25 +92,20 @@ fn search_plan<R: Threads + Sync, G: Gate>(
     problem: &Problem,
     budget: u32,
     gate: &G,
-    is_hasty: bool,
+    first: First,
 ) -> Result<Found, AllocError>
     requires { (1 ≤ budget) × (budget ≤ GREATEST_BUDGET) }
     ensures planned { IfOk result (IsPlanned problem.now budget) }
     ensures counted { IfOk result (IsCounted problem.now false) }
 {
-    if is_hasty {
-        return hasty_plan(rt, alloc, problem, budget, gate);
+    match first {
+        First::Rosters => rosters_first(rt, alloc, problem, budget, gate),
+        First::Reasons => reasons_first(rt, alloc, problem, budget, gate),
     }
-    let finder = RosterFinder::new(alloc, problem)?;
-    let found = plan_or_find(rt, alloc, &finder, budget, gate);
-    // An owned value that a generic call takes is dropped there, which keeps the proof of this body small.
-    drop(finder);
-    found
 }
 
-// What a search finds that looks for rosters for a shorter time. Where it has spent its budget, and this isn't that of a
-// short plan, a roster is looked for with more patience.
-fn hasty_plan<R: Threads + Sync, G: Gate>(
+// What a search finds before which a roster is looked for.
+fn rosters_first<R: Threads + Sync, G: Gate>(
     rt: &R,
     alloc: Global,
     problem: &Problem,
@@ -114,7 +116,32 @@ fn hasty_plan<R: Threads + Sync, G: Gate>(
     ensures planned { IfOk result (IsPlanned problem.now budget) }
     ensures counted { IfOk result (IsCounted problem.now false) }
 {
-    let finder = RosterFinder::hasty(alloc, problem)?;
+    let finder = RosterFinder::new(alloc, problem)?;
+    let found = plan_or_find(rt, alloc, &finder, budget, gate);
+    // An owned value that a generic call takes is dropped there, which keeps the proof of this body small.
+    drop(finder);
+    found
+}
+
+// What a search finds that looks for rosters for a shorter time. Where it has spent its budget, and this isn't that of a
+// short plan, a roster is looked for with more patience.
+fn reasons_first<R: Threads + Sync, G: Gate>(
+    rt: &R,
+    alloc: Global,
+    problem: &Problem,
+    budget: u32,
+    gate: &G,
+) -> Result<Found, AllocError>
+    requires { (1 ≤ budget) × (budget ≤ GREATEST_BUDGET) }
+    ensures planned { IfOk result (IsPlanned problem.now budget) }
+    ensures counted { IfOk result (IsCounted problem.now false) }
+{
+    let most = if budget > FEW_LINES {
+        Patience::Middle
+    } else {
+        Patience::Short
+    };
+    let finder = RosterFinder::up_to(alloc, problem, most)?;
     let found = plan_by_cases(rt, alloc, &finder, budget, gate);
     drop(finder);
     let found = found?;
