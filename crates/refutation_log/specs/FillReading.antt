@@ -1,5 +1,5 @@
 -- Fill logs that can be written, and what the lines of their header are read as.
-use Rattle.std.specs.Prelude.{◌≡◌, ℕ, ◌<◌, List, ◌++◌, map, Option, None, Some, true, slice_get}
+use Rattle.std.specs.Prelude.{◌≡◌, ℕ, ◌<◌, List, ◌++◌, map, Option, None, Some, MatchOption, true, slice_get}
 use Rattle.std.specs.List.{flat_map}
 use Rattle.rwsp_text.specs.Fields.{Words, ◌>>=◌, place_at, name_at}
 use Rattle.rwsp_terms.specs.Instance.{Instance, cells, IsSymbol, symbol_of}
@@ -45,6 +45,10 @@ pub record IsFillReadAs (P : Instance) (text : List ℕ) (f : FillLog) : Type 0 
   pub is_text : text ≡ fill_text P f
   pub fits : FillFits P f
   pub tree : IsTree f.log.lines
+
+-- what was found is the fill log of the text; none, where the text is that of none
+abbrev pub IsFillRead : Instance → List ℕ → Option FillLog → Type 0
+IsFillRead P text found = MatchOption found ((f : FillLog) → IsFillReadAs P text f → ⊥) (IsFillReadAs P text)
 
 -- the bytes spell these given cells
 abbrev pub SpellsGivenCells : Instance → List ℕ → List GivenCell → Type 0

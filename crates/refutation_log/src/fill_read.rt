@@ -1,10 +1,9 @@
 // A fill log read from its text.
-ghost use Rattle.std.specs.Prelude.{◌≤◌, List, ℕ, length, MatchOption, IfOk};
+ghost use Rattle.std.specs.Prelude.{◌≤◌, List, ℕ, length, IfOk};
 ghost use Rattle.rwsp_terms.specs.declared.limits.TheConstants.{LONGEST_LOG};
 ghost use Rattle.refutation_terms.specs.Ranges.{AreRules};
 ghost use Rattle.refutation_log.specs.GivenCells.{AreGivenIn};
-ghost use Rattle.refutation_log.specs.FillLog.{FillLog as FillLogValue};
-ghost use Rattle.refutation_log.specs.FillReading.{BeginsWithFillHeader, IsFillReadAs};
+ghost use Rattle.refutation_log.specs.FillReading.{BeginsWithFillHeader, IsFillRead};
 
 use crate::fill_header::{FillHeader, header_of};
 use crate::header::Header;
@@ -20,8 +19,7 @@ pub fn read_fill(
     bytes: &[u8],
 ) -> Result<Option<FillLog>, AllocError>
     requires { length bytes.now ≤ LONGEST_LOG }
-    ensures { IfOk result (λ found. MatchOption found
-        ((f : FillLogValue) → IsFillReadAs problem.now bytes.now f → ⊥) (IsFillReadAs problem.now bytes.now)) }
+    ensures { IfOk result (IsFillRead problem.now bytes.now) }
 {
     problem.prove_limits();
     match header_of(alloc, problem, bytes) {
@@ -44,8 +42,7 @@ fn fill_behind(
     requires few { length header.body.now ≤ LONGEST_LOG }
     ensures { IfOk result (λ found. (text : List ℕ)
         → BeginsWithFillHeader problem.now text header.entry.named header.entry.given header.entry.body.now
-        → MatchOption found
-        ((f : FillLogValue) → IsFillReadAs problem.now text f → ⊥) (IsFillReadAs problem.now text)) }
+        → IsFillRead problem.now text found) }
 {
     problem.prove_limits();
     let plain = Header {
