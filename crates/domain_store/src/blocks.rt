@@ -21,7 +21,7 @@ pub fn blocks_holds(problem: &Problem, x: Symbol) -> bool
     }
 }
 
-/// The first symbol for which this is so, the shifts in their order and then the day off.
+/// The first symbol no number of whose blocks fits, the shifts in their order and then the day off.
 pub fn first_blocks(problem: &Problem) -> Option<Symbol>
     ensures { MatchOption result (NoBlocksHold problem.now) (IsFirstBlocks problem.now) }
 {
@@ -37,7 +37,8 @@ pub fn first_blocks(problem: &Problem) -> Option<Symbol>
     }
 }
 
-// The same of a shift. More blocks can have more days, so it is enough to try the most that there is room for.
+// Whether no number of blocks of a shift fits. More blocks can have more days, so it is enough to try the most that there
+// is room for.
 fn shift_blocks_hold(problem: &Problem, x: Symbol) -> bool
     requires { IsShift problem.now x }
     ensures { IsTrue result ↔ BlocksHold problem.now x }
@@ -48,7 +49,7 @@ fn shift_blocks_hold(problem: &Problem, x: Symbol) -> bool
     days_of_blocks(blocks, bounds.greatest) < least_days(problem, x)
 }
 
-// The same of the day off.
+// Whether no number of blocks of the day off fits. Each number is tried, since more of them leave fewer days for work.
 fn off_blocks_hold(problem: &Problem) -> bool
     ensures { IsTrue result ↔ BlocksHold problem.now off_symbol }
 {

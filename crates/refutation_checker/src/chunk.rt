@@ -35,8 +35,8 @@ pub fn judge_chunk(alloc: Global, judging: &Judging, chunk: Chunk) -> Result<boo
     judged
 }
 
-// The same of lines behind the walk, the first of which has this number, and in front of which so many trees are
-// missing. The walk may be behind splits on given cells, and then isn't whole where the tree of the lines is.
+// Judges lines behind the walk, the first of which has this number, and in front of which so many trees are missing. The
+// walk may be behind splits on given cells, and then isn't whole where the tree of the lines is.
 fn judge_lines(
     alloc: Global,
     judge: &mut Judge,

@@ -238,7 +238,7 @@ fn cut_off<'a>(
     }
 }
 
-// The same chunk with this number.
+// The chunk with this number in place of its own.
 fn numbered(chunk: Chunk, number: u32) -> Chunk
     ensures { result ≡ chunk.entry }
 {

@@ -66,7 +66,7 @@ pub fn check_fill_with<R: Threads + Sync, G: Gate>(
     }
 }
 
-/// The same verdict, worked out on one thread.
+/// The verdict on a fill log, worked out on one thread.
 pub fn check_fill(
     alloc: Global,
     problem: &Problem,

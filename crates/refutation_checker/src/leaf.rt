@@ -66,7 +66,7 @@ pub fn unnamed_in_leaf(problem: &Problem, named: &RuleList, leaf: &Leaf) -> Opti
     }
 }
 
-// The same of the list and the claim of a leaf of words.
+// The number of the least rule that a leaf of words cites, by its list or its claim, and the named ones lack.
 fn unnamed_in_words(
     problem: &Problem,
     named: &RuleList,

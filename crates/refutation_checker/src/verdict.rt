@@ -82,7 +82,7 @@ pub fn check_with<R: Threads + Sync, G: Gate>(
     }
 }
 
-/// The same verdict, worked out on one thread.
+/// The verdict on a log, worked out on one thread.
 pub fn check(
     alloc: Global,
     problem: &Problem,

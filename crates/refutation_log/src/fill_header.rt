@@ -34,7 +34,7 @@ pub fn read_fill_header<'a>(
     header_of(alloc, problem, bytes)
 }
 
-/// The same, which is refused only where there is no header.
+/// The header of a text as that of a fill log, which is refused only where there is none.
 pub(crate) fn header_of<'a>(
     alloc: Global,
     problem: &Problem,

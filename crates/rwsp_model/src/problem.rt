@@ -77,7 +77,7 @@ impl Problem {
         })
     }
 
-    /// The same problem with this number of weeks in place of its own.
+    /// The problem with this number of weeks in place of its own.
     pub fn with_weeks(&self, weeks: u32) -> Result<Problem, AllocError>
         requires some { 1 ≤ weeks }
         requires few { weeks ≤ MOST_WEEKS }
@@ -90,7 +90,7 @@ impl Problem {
         Ok(Problem { parts })
     }
 
-    /// The same problem with these forbidden pairs and triples in place of its own.
+    /// The problem with these forbidden pairs and triples in place of its own.
     pub fn with_sequences(
         &self,
         pairs: Vec<(Symbol, Symbol)>,
