@@ -235,7 +235,7 @@ fn is_hardly_left(setting: Setting<'_>, flow: Flow, all: i64) -> bool {
 /// Adds connectivity cuts round the parts that hold and leave days enough and are left by less than three quarters of a
 /// use (subtours: G. Dantzig, R. Fulkerson and S. Johnson, 1954). Nodes are joined to parts by the steps of the greatest
 /// shares first. Costs for each step with a share a look at all of them and at each node on each weekday.
-pub(crate) fn add_cuts(
+pub fn add_cuts(
     setting: Setting<'_>,
     uses: &Table<i64>,
     quotas: &mut Vec<Quota>,

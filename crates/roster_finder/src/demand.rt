@@ -10,12 +10,15 @@ use std::alloc::{AllocError, Global};
 
 /// A least and a greatest number.
 #[derive(Clone, Copy)]
-pub(crate) struct Range {
+pub struct Range {
+    /// The least number.
     pub least: i64,
+    /// The greatest number.
     pub greatest: i64,
 }
 
 impl Range {
+    /// Nothing but 0.
     pub const NONE: Range = Range {
         least: 0,
         greatest: 0,
@@ -25,10 +28,14 @@ impl Range {
 /// For each symbol and weekday, in how many weeks it is, and how many weekends are free at least. Symbols and weekdays
 /// count from 0.
 #[derive(Drop)]
-pub(crate) struct Demand {
+pub struct Demand {
+    /// How many days a week has.
     pub days: usize,
+    /// How many weeks there are.
     pub weeks: usize,
+    /// How many symbols there are, the day off among them.
     pub symbols: usize,
+    /// How many weekends are free at least.
     pub free: u32,
     // By symbol and weekday.
     ranges: Table<Range>,
@@ -43,6 +50,7 @@ pub(crate) struct Demand {
 }
 
 impl Demand {
+    /// The demand of a problem for a roster with so many free weekends at least.
     pub fn of(alloc: Global, problem: &Problem, free: u32) -> Result<Demand, AllocError>
         ensures symbols { IfOk result (λ d. d.symbols ≡ shift_count problem.now + 1) }
         ensures days { IfOk result (λ d. d.days ≡ problem.now.days) }
@@ -97,6 +105,7 @@ impl Demand {
         self.ranges.place(symbol, weekday)
     }
 
+    /// In how many weeks a symbol is on a weekday.
     pub fn range(&self, symbol: usize, weekday: usize) -> Range
         requires symbol { symbol < self.now.symbols }
         requires weekday { weekday < self.now.days }

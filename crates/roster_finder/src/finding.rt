@@ -323,8 +323,8 @@ impl<'a> Search<'a> {
     }
 }
 
-// The roster of these symbols, where it meets every rule and has `free` free weekends at least.
-pub(crate) fn met_roster(
+/// The roster of these symbols by their numbers, where it meets every rule and has `free` free weekends at least.
+pub fn met_roster(
     alloc: Global,
     problem: &Problem,
     free: u32,

@@ -14,8 +14,6 @@ mod given_narrowing;
 mod given_ways;
 mod heavy_word;
 mod laws;
-#[cfg(test)]
-mod layer_tests;
 mod led_states;
 mod mixture;
 mod nodes;
@@ -34,5 +32,14 @@ mod used;
 mod walk;
 mod window;
 
-pub use finding::{Patience, RosterFinder};
+pub use finding::{Patience, RosterFinder, met_roster};
 pub use laws::closed_walks_are_clean;
+// Parts of the search, which tests try one by one.
+pub use cuts::add_cuts;
+pub use demand::{Demand, Range};
+pub use quotas::Quota;
+pub use setting::Setting;
+pub use shares::ONE_USE;
+pub use steady_layer::SteadyLayer;
+pub use step::Step;
+pub use table::Table;

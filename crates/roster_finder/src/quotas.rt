@@ -10,8 +10,10 @@ use std::alloc::AllocError;
 
 /// Steps, each with its weekday, and how often a roster takes one of them at least.
 #[derive(Drop, PartialEq, Eq)]
-pub(crate) struct Quota {
+pub struct Quota {
+    /// Each step's weekday and number, both from 0.
     pub steps: Vec<(usize, usize)>,
+    /// How often a roster takes one of them at least.
     pub least: i64,
 }
 

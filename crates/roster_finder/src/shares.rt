@@ -10,7 +10,7 @@ use crate::table::Table;
 use std::alloc::AllocError;
 
 /// Shares are given in parts of a use; this many parts are one use.
-pub(crate) const ONE_USE: i64 = 4_096;
+pub const ONE_USE: i64 = 4_096;
 
 /// A fractional roster as a flow: for each weekday and step how often it is taken.
 #[derive(Drop)]

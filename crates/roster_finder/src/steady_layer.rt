@@ -20,7 +20,7 @@ use std::alloc::{AllocError, Global};
 /// the automaton of the short rules that some word leads to; each state tells the last symbol. So a closed walk is a
 /// clean cyclic word (`closed_walks_are_clean`).
 #[derive(Drop)]
-pub(crate) struct SteadyLayer {
+pub struct SteadyLayer {
     /// The number of symbols, the day off among them.
     pub symbols: usize,
     /// The number of nodes.
@@ -74,6 +74,7 @@ impl SteadyLayer {
         self.steps.len()
     }
 
+    /// The steps, by their numbers.
     pub fn steps(&self) -> &[Step]
         ensures { result.now ≡ self.now.steps.items }
     {

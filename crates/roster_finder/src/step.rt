@@ -5,9 +5,12 @@ pub(crate) const LAST_OF_WEEKEND: usize = 6;
 
 /// One step through the layer, from node to node by a symbol.
 #[derive(Clone, Copy)]
-pub(crate) struct Step {
+pub struct Step {
+    /// The node before it.
     pub from: usize,
+    /// The node behind it.
     pub to: usize,
+    /// The symbol's number.
     pub symbol: usize,
     /// Whether the symbol is the day off, like the one before.
     pub stays_off: bool,

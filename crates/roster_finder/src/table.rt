@@ -5,8 +5,10 @@ use std::alloc::{AllocError, Global};
 
 /// A table of values by row and column.
 #[derive(Drop)]
-pub(crate) struct Table<T: Copy + Drop> {
+pub struct Table<T: Copy + Drop> {
+    /// How many rows it has; they count from 0.
     pub rows: usize,
+    /// How many columns it has; they count from 0.
     pub columns: usize,
     entries: Vec<T>,
     ghost whole: { length entries.items ≡ columns * rows },
@@ -40,6 +42,7 @@ impl<T: Copy + Drop> Table<T> {
         row * self.columns + column
     }
 
+    /// The value in a row and a column.
     pub fn at(&self, row: usize, column: usize) -> T
         requires row { row < self.now.rows }
         requires column { column < self.now.columns }
@@ -47,6 +50,7 @@ impl<T: Copy + Drop> Table<T> {
         self.entries[self.place(row, column)]
     }
 
+    /// Puts a value into a row and a column.
     pub fn set(&mut self, row: usize, column: usize, value: T)
         requires row { row < self.old.rows }
         requires column { column < self.old.columns }

@@ -29,4 +29,6 @@ mod roster_search_tests;
 #[cfg(test)]
 mod rule_reducer_tests;
 #[cfg(test)]
+mod steady_layer_tests;
+#[cfg(test)]
 mod weekend_best_tests;

@@ -1,56 +1,23 @@
-// The steady layer against a listing of all words, and the cuts round parts that aren't joined.
+// The steady layer of the search for rosters against a listing of all words, and the cuts round parts that aren't joined.
 ghost use Rattle.std.specs.Prelude.{◌≡◌, ◌<◌, length, IfOk};
-ghost use Rattle.rwsp_terms.specs.Instance.{shift_count};
+ghost use Rattle.roster_finder.specs.ByStep.{IsByStep};
 
-use crate::cuts::add_cuts;
-use crate::demand::Demand;
-use crate::finding::met_roster;
-use crate::quotas::Quota;
-use crate::setting::Setting;
-use crate::shares::ONE_USE;
-use crate::steady_layer::SteadyLayer;
-use crate::table::Table;
-use rwsp_model::{Parts, Problem};
-use rwsp_terms::{Bounds, DemandRow, Name, ShiftRow, Symbol};
+use roster_finder::{
+    Demand, ONE_USE, Quota, Setting, SteadyLayer, Table, add_cuts, met_roster,
+};
+use rwsp_model::Problem;
 use std::alloc::{AllocError, Global};
 use std::test::Fail;
+use test_helpers::problem_of;
 
-fn bounds(least: u32, greatest: u32) -> Bounds {
-    Bounds { least, greatest }
-}
+// Three weeks of two days, with any demand and blocks of one or two days of A, of two days of B and of one or two days
+// off, and work for two or three days. B may not follow on A.
+const THREE_WEEKS: &[u8] =
+    b"2\n3\n2\n0..3 0..3\n0..3 0..3\nA 360 480 1 2\nB 360 480 2 2\n1 2\n2 3\n1 0\nA B\n";
 
-// A shift whose blocks have these bounds.
-fn shift(alloc: Global, name: &[u8], bounds: Bounds) -> Result<ShiftRow, AllocError> {
-    Ok(ShiftRow {
-        name: Name::of(name.to_vec(alloc)?),
-        start: 360,
-        length: 480,
-        bounds,
-    })
-}
-
-// Any number of three weeks on each of two days.
-fn any_demand(alloc: Global) -> Result<DemandRow, AllocError> {
-    Ok(DemandRow::of(vec![in alloc; bounds(0, 3); 2]?))
-}
-
-// Three weeks of two days, with blocks of one or two days of A, of two days of B and of one or two days off, and work
-// for two or three days. B may not follow on A.
-fn three_weeks(alloc: Global) -> Result<Parts, AllocError> {
-    Ok(Parts {
-        days: 2,
-        weeks: 3,
-        demand: vec![in alloc; any_demand(alloc)?, any_demand(alloc)?]?,
-        shifts: vec![in alloc;
-            shift(alloc, b"A", bounds(1, 2))?,
-            shift(alloc, b"B", bounds(2, 2))?,
-        ]?,
-        off: bounds(1, 2),
-        work: bounds(2, 3),
-        pairs: vec![in alloc; (Symbol { number: 1 }, Symbol { number: 2 })]?,
-        triples: Vec::new(alloc),
-    })
-}
+// Two weeks of seven days, with any demand, blocks of four or five days of D, and two or three days off.
+const TWO_WEEKS: &[u8] =
+    b"7\n2\n1\n0..2 0..2 0..2 0..2 0..2 0..2 0..2\nD 360 480 4 5\n2 3\n4 5\n0 0\n";
 
 // The word of six days whose symbols are the digits of a number.
 fn word_of(alloc: Global, number: usize) -> Result<Vec<usize>, AllocError> {
@@ -115,28 +82,16 @@ fn count_round(
     Ok(Some(count))
 }
 
-#[test]
-fn words_lead_round_where_they_meet_the_rules(rt: HostRuntime) -> Result<(), Fail> {
-    let alloc = rt.alloc();
-    let problem = Problem::of(three_weeks(alloc)?)?;
-    let layer = SteadyLayer::of(alloc, &problem)?;
-    assert_eq!(rt; count_round(alloc, &problem, &layer)?, Some(12));
-    Ok(())
+fn count_by_layer(alloc: Global, problem: &Problem) -> Result<Option<usize>, AllocError> {
+    let layer = SteadyLayer::of(alloc, problem)?;
+    count_round(alloc, problem, &layer)
 }
 
-// Two weeks of seven days, with blocks of four or five days of D, and two or three days off.
-fn two_weeks(alloc: Global) -> Result<Parts, AllocError> {
-    let any = DemandRow::of(vec![in alloc; bounds(0, 2); 7]?);
-    Ok(Parts {
-        days: 7,
-        weeks: 2,
-        demand: vec![in alloc; any]?,
-        shifts: vec![in alloc; shift(alloc, b"D", bounds(4, 5))?]?,
-        off: bounds(2, 3),
-        work: bounds(4, 5),
-        pairs: Vec::new(alloc),
-        triples: Vec::new(alloc),
-    })
+#[test]
+fn words_lead_round_where_they_meet_the_rules(rt: HostRuntime) -> Result<(), Fail> {
+    let problem = problem_of(rt.alloc(), THREE_WEEKS)?;
+    assert_eq!(rt; count_by_layer(rt.alloc(), &problem)?, Some(12));
+    Ok(())
 }
 
 // Uses the steps of a week of five days D and two days off once, which begins on a weekday.
@@ -177,33 +132,49 @@ fn use_steps(layer: &SteadyLayer, uses: &mut Table<i64>, node: usize, first: usi
     }
 }
 
-// The numbers of steps of the cuts round two such weeks, one of which begins a day later than the other.
-fn cuts_of_weeks(alloc: Global, problem: &Problem) -> Result<Vec<usize>, AllocError> {
-    let layer = SteadyLayer::of(alloc, problem)?;
-    let demand = Demand::of(alloc, problem, 0)?;
-    let setting = Setting {
-        alloc,
-        layer: &layer,
-        demand: &demand,
-    };
-    let mut uses = Table::new(alloc, demand.days, layer.step_count(), 0i64)?;
-    use_week(&layer, &mut uses, 0);
-    use_week(&layer, &mut uses, 1);
-    let mut quotas: Vec<Quota> = Vec::new(alloc);
-    add_cuts(setting, &uses, &mut quotas)?;
+// The uses of two such weeks, one of which begins a day later than the other.
+fn used_weeks(setting: Setting<'_>) -> Result<Table<i64>, AllocError>
+    ensures { IfOk result (IsByStep setting.entry) }
+{
+    let steps = setting.layer.step_count();
+    let mut uses = Table::new(setting.alloc, setting.demand.days, steps, 0i64)?;
+    use_week(setting.layer, &mut uses, 0);
+    use_week(setting.layer, &mut uses, 1);
+    Ok(uses)
+}
+
+// How many steps each quota is of.
+fn sizes_of(alloc: Global, quotas: &[Quota]) -> Result<Vec<usize>, AllocError> {
     let mut sizes = Vec::new(alloc);
-    for quota in &quotas {
+    for quota in quotas {
         sizes.push(quota.steps.len())?;
     }
     Ok(sizes)
 }
 
+// The numbers of steps of the cuts round these weeks.
+fn sizes_of_cuts(setting: Setting<'_>) -> Result<Vec<usize>, AllocError> {
+    let uses = used_weeks(setting)?;
+    let mut quotas = Vec::new(setting.alloc);
+    add_cuts(setting, &uses, &mut quotas)?;
+    sizes_of(setting.alloc, &quotas)
+}
+
+fn cuts_of_weeks(alloc: Global, problem: &Problem) -> Result<Vec<usize>, AllocError> {
+    let layer = SteadyLayer::of(alloc, problem)?;
+    let demand = Demand::of(alloc, problem, 0)?;
+    sizes_of_cuts(Setting {
+        alloc,
+        layer: &layer,
+        demand: &demand,
+    })
+}
+
 // A week is left by a block of four days, and by a third day off.
 #[test]
 fn weeks_that_are_not_joined_are_cut_apart(rt: HostRuntime) -> Result<(), Fail> {
-    let alloc = rt.alloc();
-    let problem = Problem::of(two_weeks(alloc)?)?;
-    let sizes = cuts_of_weeks(alloc, &problem)?;
+    let problem = problem_of(rt.alloc(), TWO_WEEKS)?;
+    let sizes = cuts_of_weeks(rt.alloc(), &problem)?;
     assert_eq!(rt; sizes.as_slice(), [2, 2].as_slice());
     Ok(())
 }
