@@ -1,14 +1,14 @@
 -- That a refusal names the first thing of a text that fails.
 use Rattle.std.proofs.Common.{◌≡◌, ◌≢◌, ◌⊎◌, ℕ, zero, suc, ◌+◌, ◌-◌, ◌<◌, ◌≤◌, List, [], ◌∷◌, ◌++◌, length, Option, Some, None, Bool, true, false, cond, refl, ap, sym, ◌∙◌, arith, subst, append_assoc, append-nil, length-append, eq-eqb, eqb-true, inl, inr}
 use Rattle.std.specs.Prelude.{map, filter, is_none, ◌==◌, All, count_by, replicate}
-use Rattle.std.specs.List.{Any, list_any, flat_map, enumerate_from, onto_first, range_with_len, join_with_byte, AllByRecursion}
+use Rattle.std.specs.List.{list_any, flat_map, enumerate_from, onto_first, range_with_len, join_with_byte, AllByRecursion}
 use Rattle.std.specs.Option.{option_or}
 use Rattle.std.proofs.lemmas.List.{map-append, length-map, length-replicate}
 use Rattle.std.proofs.lemmas.List.Folds.{list_any-append, Any-from_list_any, list_any-from_Any}
 use Rattle.std.proofs.lemmas.List.Elements.{All-nil, All-cons, All-from_recursion, All-head, All-tail, All-weaker, filter-append}
 use Rattle.std.proofs.lemmas.List.FromFn.{length-range_with_len}
 use Rattle.std.proofs.lemmas.List.Splits.{slice_split-cons_yes, slice_split-cons_no, slice_split_none, slice_split_at, length-slice_split}
-use Rattle.std.proofs.lemmas.Bool.{or_parts, ne_eqb, cond-true}
+use Rattle.std.proofs.lemmas.Bool.{or_parts, ne_eqb, cond-true, cond-false}
 use Rattle.rwsp_text.specs.Lexemes.{lines_of, words_of_line, has_some}
 use Rattle.rwsp_text.specs.Lines.{HasNoFeed}
 use Rattle.rwsp_text.proofs.JoinedWords.{IsPrinted}
@@ -20,7 +20,7 @@ use Rattle.roster_print.specs.FirstFailures.{IsName, IsWeek, HasUnknown, HasWron
 use Rattle.roster_print.specs.Laws.{RefusalsAreFirst}
 use Rattle.roster_print.specs.declared.refusal.RosterRefusal.{RosterRefusal}
 use Rattle.roster_print.specs.declared.refusal.RosterRefusal.TheVariants.{Unknown, Width, Weeks}
-use Rattle.roster_print.proofs.Spelling.{AllNamed, WeeksNamed, none_unknown, both_none}
+use Rattle.roster_print.proofs.Spelling.{AllNamed, WeeksNamed, none_unknown, both_none, weeks_are, line_is_refused, count_is_refused}
 use Rattle.roster_print.proofs.Printed.{weeks_printed}
 use Rattle.roster_print.proofs.Reading.{none_of}
 
@@ -72,23 +72,20 @@ weeks_behind front rest (inr a) =
 no_feeds : (line : List ℕ) → HasNoFeed line → All (λ b. is_feed b ≡ false) line
 no_feeds line h = All-weaker (λ b. b ≢ 10) (λ b. is_feed b ≡ false) (λ b ne. ne_eqb b 10 ne) line h
 
+-- the lines of a text that begins with a whole line
+line_cut : (line more : List ℕ) → HasNoFeed line → BeginsWithFeed more → (others : List (List ℕ)) × (lines_of (line ++ more) ≡ line ∷ others)
+line_cut line more h (inl e) = ([], ap (λ m. lines_of (line ++ m)) e ∙ ap lines_of (append-nil line) ∙ slice_split_none is_feed line (no_feeds line h))
+line_cut line more h (inr a) = (lines_of a.0, ap (λ m. lines_of (line ++ m)) a.1 ∙ slice_split_at is_feed line 10 a.0 (no_feeds line h) refl)
+
 -- the weeks of a text that begins with a line that has words
 abbrev BeginsWithWeek : List (List (List ℕ)) → List (List ℕ) → Type 0
 BeginsWithWeek weeks week = (rest : List (List (List ℕ))) × (weeks ≡ week ∷ rest)
 
 line_first : (line more : List ℕ) → HasNoFeed line → has_some (words_of_line line) ≡ true → BeginsWithFeed more → BeginsWithWeek (weeks_of (line ++ more)) (words_of_line line)
-line_first line more h some (inl e) = (
-  [],
-  ap (λ m. weeks_of (line ++ m)) e ∙ ap weeks_of (append-nil line)
-  ∙ ap (λ ls. filter has_some (map words_of_line ls)) (slice_split_none is_feed line (no_feeds line h))
-  ∙ cond-true (has_some (words_of_line line)) (words_of_line line ∷ []) [] some,
-)
-line_first line more h some (inr a) = (
-  weeks_of a.0,
-  ap (λ m. weeks_of (line ++ m)) a.1
-  ∙ ap (λ ls. filter has_some (map words_of_line ls)) (slice_split_at is_feed line 10 a.0 (no_feeds line h) refl)
-  ∙ cond-true (has_some (words_of_line line)) (words_of_line line ∷ weeks_of a.0) (weeks_of a.0) some,
-)
+line_first line more h some m =
+    let c = line_cut line more h m in
+    let rest = filter has_some (map words_of_line c.0) in
+    (rest, ap (λ ls. filter has_some (map words_of_line ls)) c.1 ∙ cond-true (has_some (words_of_line line)) (words_of_line line ∷ rest) rest some)
 
 -- ---- what the refusal of a week says of its words
 
@@ -497,5 +494,102 @@ first_by_lines P bytes why days (Some other) e h =
     let f = find P (lines_of bytes) 1 bytes why refl (e ∙ h) in
     line_is_first P bytes why f days (week_says P f.number (words_of_line f.line) (Some why) f.refused)
 
+-- ---- the other way: what fails first is why the text is refused
+
+-- the lines in front of a place where a line begins
+record LinesInFront (front : List ℕ) : Type 0 where
+  lines : List (List ℕ)
+  whole : lines_of front ≡ lines ++ [] ∷ []
+  behind : (rest : List ℕ) → lines_of (front ++ rest) ≡ lines ++ lines_of rest
+
+lines_in_front : (front : List ℕ) → EndsWithFeed front → LinesInFront front
+lines_in_front front (inl e) = record { lines = []; whole = ap lines_of e; behind = λ rest. ap (λ f. lines_of (f ++ rest)) e }
+lines_in_front front (inr a) = record {
+  lines = lines_of a.0;
+  whole = ap lines_of a.1 ∙ lines_joined a.0 [];
+  behind = λ rest. ap (λ f. lines_of (f ++ rest)) a.1 ∙ ap lines_of (append_assoc a.0 (10 ∷ []) rest) ∙ lines_joined a.0 rest;
+}
+
+all_in_front : {X : Type 0} (Q : X → Type 0) (xs ys : List X) → All Q (xs ++ ys) → AllByRecursion Q xs
+all_in_front Q [] ys h = tt
+all_in_front Q (x ∷ xs) ys h = (All-head Q x (xs ++ ys) h, all_in_front Q xs ys (All-tail Q x (xs ++ ys) h))
+
+names_known : (P : Instance) (words : List (List ℕ)) → All (IsName P) words → list_any (is_unknown P) words ≡ false
+names_known P words h = let s = symbols_named P words h in none_unknown (symbol_of P) words s.0 s.1
+
+week_accepted : (P : Instance) (n : ℕ) (words : List (List ℕ)) → IsWeek P words → week_refusal P (n, words) ≡ None
+week_accepted P n words h =
+    cond-false (list_any (is_unknown P) words) (Some (Unknown n)) (cond (length words == P.days) None (Some (Width n))) (names_known P words h.names)
+    ∙ cond-true (length words == P.days) None (Some (Width n)) (eq-eqb (length words) P.days h.days)
+
+unknown_refused : (P : Instance) (n : ℕ) (words : List (List ℕ)) → HasUnknown P words → week_refusal P (n, words) ≡ Some (Unknown n)
+unknown_refused P n words m =
+    cond-true (list_any (is_unknown P) words) (Some (Unknown n)) (cond (length words == P.days) None (Some (Width n)))
+    (list_any-from_Any (is_unknown P) words (m.0, m.1, m.2, m.3, ap is_none m.4))
+
+width_refused : (P : Instance) (n : ℕ) (words : List (List ℕ)) → HasWrongWidth P words → week_refusal P (n, words) ≡ Some (Width n)
+width_refused P n words h =
+    cond-false (list_any (is_unknown P) words) (Some (Unknown n)) (cond (length words == P.days) None (Some (Width n))) (names_known P words h.names)
+    ∙ cond-false (length words == P.days) None (Some (Width n)) (ne_eqb (length words) P.days h.width)
+
+good_accepted : (P : Instance) (n : ℕ) (line : List ℕ) (rest : List (ℕ × List (List ℕ))) → IsGood P line → (b : Bool) → has_some (words_of_line line) ≡ b → first_refusal P (cond b ((n, words_of_line line) ∷ rest) rest) ≡ first_refusal P rest
+good_accepted P n line rest good false e = refl
+good_accepted P n line rest (inl none) true e = absurd (some_words (words_of_line line) e none)
+good_accepted P n line rest (inr week) true e = ap (λ o. option_or o (first_refusal P rest)) (week_accepted P n (words_of_line line) week)
+
+none_refused : (P : Instance) (n : ℕ) (lines : List (List ℕ)) → AllByRecursion (IsGood P) lines → first_refusal P (weeks_from n lines) ≡ None
+none_refused P n [] h = refl
+none_refused P n (line ∷ lines) h =
+    good_accepted P n line (weeks_from (n + 1) lines) h.0 (has_some (words_of_line line)) refl ∙ none_refused P (n + 1) lines h.1
+
+refused_behind : (P : Instance) (lines : List (List ℕ)) (line : List ℕ) (others : List (List ℕ)) (n number : ℕ) (why : RosterRefusal) → AllByRecursion (IsGood P) lines → has_some (words_of_line line) ≡ true → number ≡ n + length lines → week_refusal P (number, words_of_line line) ≡ Some why → first_refusal P (weeks_from n (lines ++ line ∷ others)) ≡ Some why
+refused_behind P [] line others n number why h some place refused =
+    let same : number ≡ n = omega (arith, place) in
+    let rest = weeks_from (n + 1) others in
+    ap (first_refusal P) (cond-true (has_some (words_of_line line)) ((n, words_of_line line) ∷ rest) rest some)
+    ∙ ap (λ o. option_or o (first_refusal P rest)) (subst (λ k. week_refusal P (k, words_of_line line) ≡ Some why) same refused)
+refused_behind P (first ∷ lines) line others n number why h some place refused =
+    good_accepted P n first (weeks_from (n + 1) (lines ++ line ∷ others)) h.0 (has_some (words_of_line first)) refl
+    ∙ refused_behind P lines line others (n + 1) number why h.1 some (omega (arith, place)) refused
+
+line_refused : (P : Instance) (Fault : List (List ℕ) → Type 0) (bytes : List ℕ) (number : ℕ) (why : RosterRefusal) (f : LineFails P Fault bytes number) → has_some (words_of_line f.line) ≡ true → week_refusal P (number, words_of_line f.line) ≡ Some why → refusal_of_roster P bytes ≡ Some why
+line_refused P Fault bytes number why f some refused =
+    let b = lines_in_front f.front f.begins in
+    let c = line_cut f.line f.back f.unbroken f.ends in
+    let lines : lines_of bytes ≡ b.lines ++ f.line ∷ c.0 =
+    ap lines_of f.whole ∙ ap lines_of (append_assoc f.front f.line f.back) ∙ b.behind (f.line ++ f.back) ∙ ap (λ ls. b.lines ++ ls) c.1 in
+    let place : number ≡ count_by is_feed f.front + 1 = f.place in
+    let long : length (lines_of f.front) ≡ length (b.lines ++ [] ∷ []) = ap (λ ls. length ls) b.whole in
+    let good = all_in_front (IsGood P) b.lines ([] ∷ []) (subst (All (IsGood P)) b.whole f.earlier) in
+    line_is_refused P bytes why
+    (ap (λ ls. first_refusal P (weeks_from 1 ls)) lines
+    ∙ refused_behind P b.lines f.line c.0 1 number why good some (omega (arith, place, long, length-append b.lines ([] ∷ []), length-slice_split is_feed f.front)) refused)
+
+count_refused : (P : Instance) (bytes : List ℕ) (count : ℕ) → CountFails P bytes count → refusal_of_roster P bytes ≡ Some (Weeks count)
+count_refused P bytes count f =
+    let good = all_in_front (IsGood P) (lines_of bytes) [] (subst (All (IsGood P)) (sym (append-nil (lines_of bytes))) f.lines) in
+    let long : length (weeks_of bytes) ≡ length (numbered_weeks bytes) = ap (λ w. length w) (sym (weeks_are bytes)) ∙ length-map (numbered_weeks bytes) (λ week. week.1) in
+    count_is_refused P bytes count (none_refused P 1 (lines_of bytes) good) (f.counted ∙ long) f.other
+
+has_words : (words : List (List ℕ)) → 0 < length words → has_some words ≡ true
+has_words [] h = absurd (omega (arith, h))
+has_words (word ∷ words) h = refl
+
+words_there : (words : List (List ℕ)) → words ≢ [] → has_some words ≡ true
+words_there [] h = absurd (h refl)
+words_there (word ∷ words) h = refl
+
+first_is_refused : (P : Instance) (bytes : List ℕ) (why : RosterRefusal) → IsFirstFailure P bytes why → refusal_of_roster P bytes ≡ Some why
+first_is_refused P bytes (Unknown k) f =
+    let words = words_of_line f.line in
+    let m = f.fault in
+    let below : m.0 < length words = m.2 in
+    line_refused P (HasUnknown P) bytes k (Unknown k) f (has_words words (omega (arith, below))) (unknown_refused P k words m)
+first_is_refused P bytes (Width k) f =
+    let words = words_of_line f.line in
+    let wrong = f.fault in
+    line_refused P (HasWrongWidth P) bytes k (Width k) f (words_there words wrong.some) (width_refused P k words wrong)
+first_is_refused P bytes (Weeks k) f = count_refused P bytes k f
+
 pub refusals_are_first : RefusalsAreFirst
-refusals_are_first P bytes why days h = first_by_lines P bytes why days (first_refusal P (numbered_weeks bytes)) refl h
+refusals_are_first P bytes why days = (λ h. first_by_lines P bytes why days (first_refusal P (numbered_weeks bytes)) refl h, first_is_refused P bytes why)

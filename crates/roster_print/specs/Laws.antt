@@ -1,5 +1,5 @@
 -- What holds for all texts and rosters.
-use Rattle.std.specs.Prelude.{◌≡◌, ℕ, ◌≤◌, List, length, Some, MatchOption}
+use Rattle.std.specs.Prelude.{◌≡◌, ◌↔◌, ℕ, ◌≤◌, List, length, Some, MatchOption}
 use Rattle.rwsp_terms.specs.declared.limits.TheConstants.{LONGEST_FILE}
 use Rattle.rwsp_terms.specs.Instance.{Instance}
 use Rattle.rwsp_terms.specs.Roster.{IsRoster}
@@ -35,8 +35,8 @@ PrintedIsSpelled = (P : Instance) (s : List Symbol) → IsValid P → IsRoster P
 abbrev pub PrintedIsShort : Type 0
 PrintedIsShort = (P : Instance) (s : List Symbol) → IsValid P → IsRoster P s → length (roster_text P s) ≤ LONGEST_FILE
 
--- what a refusal names is the first thing of the text that fails, where weeks have days
+-- where weeks have days, a text is refused for exactly what fails first in it
 abbrev pub RefusalsAreFirst : Type 0
 RefusalsAreFirst =
     (P : Instance) (bytes : List ℕ) (why : RosterRefusal)
-    → 1 ≤ P.days → refusal_of_roster P bytes ≡ Some why → IsFirstFailure P bytes why
+    → 1 ≤ P.days → (refusal_of_roster P bytes ≡ Some why) ↔ IsFirstFailure P bytes why
