@@ -5,7 +5,7 @@ use Rattle.std.specs.List.{list_any, flat_map, enumerate_from, onto_first, range
 use Rattle.std.specs.Option.{option_or}
 use Rattle.std.proofs.lemmas.List.{map-append, length-map, length-replicate}
 use Rattle.std.proofs.lemmas.List.Folds.{list_any-append, Any-from_list_any, list_any-from_Any}
-use Rattle.std.proofs.lemmas.List.Elements.{All-nil, All-cons, All-from_recursion, All-head, All-tail, All-weaker, filter-append}
+use Rattle.std.proofs.lemmas.List.Elements.{All-nil, All-cons, All-from_recursion, All-head, All-tail, All-weaker, recursion_from_All, filter-append}
 use Rattle.std.proofs.lemmas.List.FromFn.{length-range_with_len}
 use Rattle.std.proofs.lemmas.List.Splits.{slice_split-cons_yes, slice_split-cons_no, slice_split_none, slice_split_at, length-slice_split}
 use Rattle.std.proofs.lemmas.Bool.{or_parts, ne_eqb, cond-true, cond-false}
@@ -88,6 +88,9 @@ line_first line more h some m =
     (rest, ap (λ ls. filter has_some (map words_of_line ls)) c.1 ∙ cond-true (has_some (words_of_line line)) (words_of_line line ∷ rest) rest some)
 
 -- ---- what the refusal of a week says of its words
+
+some_words : (words : List (List ℕ)) → has_some words ≡ true → words ≢ []
+some_words words h e = let none : has_some words ≡ false = ap has_some e in let both : true ≡ false = sym h ∙ none in cc
 
 abbrev is_unknown : Instance → List ℕ → Bool
 is_unknown P word = is_none (symbol_of P word)
@@ -245,7 +248,9 @@ Later P n lines why = (r : List ℕ) → lines_of r ≡ lines → FirstBad P (n 
 
 bad_later : (P : Instance) (n : ℕ) (bytes line : List ℕ) (lines : List (List ℕ)) (why : RosterRefusal) → HasNoFeed line → Splits bytes line lines → IsGood P line → first_refusal P (weeks_from (n + 1) lines) ≡ Some why → Later P n lines why → FirstBad P n bytes why
 bad_later P n bytes line lines why h (inl a) good refused later =
-    absurd (let none : first_refusal P (weeks_from (n + 1) lines) ≡ None = ap (λ ls. first_refusal P (weeks_from (n + 1) ls)) a.1 in let both : None ≡ Some why = sym none ∙ refused in cc)
+    let none : first_refusal P (weeks_from (n + 1) lines) ≡ None = ap (λ ls. first_refusal P (weeks_from (n + 1) ls)) a.1 in
+    let both : None ≡ Some why = sym none ∙ refused in
+    absurd (cc)
 bad_later P n bytes line lines why h (inr a) good refused later = bad_behind P n bytes line a.0 why h good a.1 (later a.0 a.2)
 
 bad_by : (P : Instance) (n : ℕ) (bytes line : List ℕ) (lines : List (List ℕ)) (why : RosterRefusal) → HasNoFeed line → Splits bytes line lines → (first_refusal P (weeks_from (n + 1) lines) ≡ Some why → Later P n lines why) → (b : Bool) → has_some (words_of_line line) ≡ b → (o : Option RosterRefusal) → week_refusal P (n, words_of_line line) ≡ o → first_refusal P (cond b ((n, words_of_line line) ∷ weeks_from (n + 1) lines) (weeks_from (n + 1) lines)) ≡ Some why → FirstBad P n bytes why
@@ -307,10 +312,7 @@ spelled_week P bytes s weeks week others e a =
     let known : list_any (is_unknown P) (flat_map (λ w. w) (weeks_of bytes)) ≡ false = none_unknown (symbol_of P) (flat_map (λ w. w) (weeks_of bytes)) s a.names in
     let Known : List (List (List ℕ)) → Type 0 = λ ws. list_any (is_unknown P) (flat_map (λ w. w) ws) ≡ false in
     let Days : List (List (List ℕ)) → Type 0 = λ ws. All (λ w. length w ≡ P.days) ws in
-    (
-      known_inside (is_unknown P) weeks week others (subst Known e known),
-      all_inside (λ w. length w ≡ P.days) weeks week others (subst Days e a.days),
-    )
+    (known_inside (is_unknown P) weeks week others (subst Known e known), all_inside (λ w. length w ≡ P.days) weeks week others (subst Days e a.days))
 
 cannot_go_on : (P : Instance) (front line : List ℕ) → EndsWithFeed front → HasNoFeed line → has_some (words_of_line line) ≡ true → (SpelledWeek P (words_of_line line) → ⊥) → CannotGoOn P (front ++ line)
 cannot_go_on P front line f h some bad more m s a =
@@ -364,7 +366,7 @@ weeks_named P (week ∷ weeks) h =
 
 are_weeks_by : (P : Instance) (line : List ℕ) (rest : List (List (List ℕ))) → IsGood P line → AllByRecursion (IsWeek P) rest → (b : Bool) → has_some (words_of_line line) ≡ b → AllByRecursion (IsWeek P) (cond b (words_of_line line ∷ rest) rest)
 are_weeks_by P line rest good h false e = h
-are_weeks_by P line rest (inl none) h true e = absurd (let no : has_some (words_of_line line) ≡ false = ap has_some none in let both : true ≡ false = sym e ∙ no in cc)
+are_weeks_by P line rest (inl none) h true e = absurd (some_words (words_of_line line) e none)
 are_weeks_by P line rest (inr week) h true e = (week, h)
 
 are_weeks : (P : Instance) (lines : List (List ℕ)) → AllByRecursion (IsGood P) lines → AllByRecursion (IsWeek P) (filter has_some (map words_of_line lines))
@@ -445,9 +447,6 @@ line_fails P Fault bytes number why f days same fault bad =
       can = λ few. can_go_on P f.front days f.begins (are_weeks P (lines_of f.front) f.earlier) few;
       cannot = cannot_go_on P f.front f.line f.begins f.unbroken f.some bad;
     }
-
-some_words : (words : List (List ℕ)) → has_some words ≡ true → words ≢ []
-some_words words h e = let no : has_some words ≡ false = ap has_some e in let both : true ≡ false = sym h ∙ no in cc
 
 line_is_first : (P : Instance) (bytes : List ℕ) (why : RosterRefusal) (f : FirstBad P 1 bytes why) → 1 ≤ P.days → WeekSays P f.number (words_of_line f.line) (Some why) → IsFirstFailure P bytes why
 line_is_first P bytes (Unknown k) f days says = line_fails P (HasUnknown P) bytes k (Unknown k) f days says.0 says.1 (unknown_not_spelled P (words_of_line f.line) says.1)
@@ -561,13 +560,12 @@ line_refused P Fault bytes number why f some refused =
     let place : number ≡ count_by is_feed f.front + 1 = f.place in
     let long : length (lines_of f.front) ≡ length (b.lines ++ [] ∷ []) = ap (λ ls. length ls) b.whole in
     let good = all_in_front (IsGood P) b.lines ([] ∷ []) (subst (All (IsGood P)) b.whole f.earlier) in
-    line_is_refused P bytes why
-    (ap (λ ls. first_refusal P (weeks_from 1 ls)) lines
-    ∙ refused_behind P b.lines f.line c.0 1 number why good some (omega (arith, place, long, length-append b.lines ([] ∷ []), length-slice_split is_feed f.front)) refused)
+    let number_is : number ≡ 1 + length b.lines = omega (arith, place, long, length-append b.lines ([] ∷ []), length-slice_split is_feed f.front) in
+    line_is_refused P bytes why (ap (λ ls. first_refusal P (weeks_from 1 ls)) lines ∙ refused_behind P b.lines f.line c.0 1 number why good some number_is refused)
 
 count_refused : (P : Instance) (bytes : List ℕ) (count : ℕ) → CountFails P bytes count → refusal_of_roster P bytes ≡ Some (Weeks count)
 count_refused P bytes count f =
-    let good = all_in_front (IsGood P) (lines_of bytes) [] (subst (All (IsGood P)) (sym (append-nil (lines_of bytes))) f.lines) in
+    let good = recursion_from_All (IsGood P) (lines_of bytes) f.lines in
     let long : length (weeks_of bytes) ≡ length (numbered_weeks bytes) = ap (λ w. length w) (sym (weeks_are bytes)) ∙ length-map (numbered_weeks bytes) (λ week. week.1) in
     count_is_refused P bytes count (none_refused P 1 (lines_of bytes) good) (f.counted ∙ long) f.other
 

@@ -11,9 +11,10 @@ pub fn refusals_decide_spelling()
     ensures { RefusalsDecideSpelling }
 {}
 
-/// What a refusal names is the first thing of the text that fails: the text in front of the line named can be gone on
-/// with to one that spells a roster, and with that line none can; and where the number of weeks is named, each line is
-/// without words or a week.
+/// Where weeks have days, a text is refused for exactly what fails first in it. A line is named where each line in
+/// front is a week or without words, and this one is neither: what stands in front of it can be gone on with to a text
+/// that spells a roster, unless it has too many weeks, and with the line it can't. The number of weeks is named where
+/// each line is a week or without words: with too few the text can be gone on with, and with too many it can't.
 pub fn refusals_are_first()
     ensures { RefusalsAreFirst }
 {}
