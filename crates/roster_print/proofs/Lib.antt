@@ -2,3 +2,4 @@ pub mod Spelling
 pub mod Printing
 pub mod Printed
 pub mod Reading
+pub mod FirstFailures

@@ -23,7 +23,7 @@ use Rattle.roster_print.specs.Laws.{PrintedIsSpelled, PrintedIsShort}
 abbrev IsWeek : List (List ℕ) → Type 0
 IsWeek week = AllByRecursion IsPrinted week × (has_some week ≡ true)
 
-weeks_printed : (week : ℕ → List (List ℕ)) (ks : List ℕ) → AllByRecursion (λ k. IsWeek (week k)) ks → weeks_of (flat_map (λ k. join_with_byte 32 (week k) ++ 10 ∷ []) ks) ≡ map week ks
+pub weeks_printed : (week : ℕ → List (List ℕ)) (ks : List ℕ) → AllByRecursion (λ k. IsWeek (week k)) ks → weeks_of (flat_map (λ k. join_with_byte 32 (week k) ++ 10 ∷ []) ks) ≡ map week ks
 weeks_printed week [] h = refl
 weeks_printed week (k ∷ ks) h =
     let rest = flat_map (λ i. join_with_byte 32 (week i) ++ 10 ∷ []) ks in

@@ -1,5 +1,5 @@
 -- What holds for all texts and rosters.
-use Rattle.std.specs.Prelude.{◌≡◌, ℕ, ◌≤◌, List, length, MatchOption}
+use Rattle.std.specs.Prelude.{◌≡◌, ◌↔◌, ℕ, ◌≤◌, List, length, Some, MatchOption}
 use Rattle.rwsp_terms.specs.declared.limits.TheConstants.{LONGEST_FILE}
 use Rattle.rwsp_terms.specs.Instance.{Instance}
 use Rattle.rwsp_terms.specs.Roster.{IsRoster}
@@ -7,6 +7,8 @@ use Rattle.rwsp_terms.specs.declared.data.Symbol.{Symbol}
 use Rattle.rwsp_model.specs.Validity.{IsValid}
 use Rattle.roster_print.specs.RosterText.{SpellsRoster, roster_text}
 use Rattle.roster_print.specs.Refusal.{refusal_of_roster}
+use Rattle.roster_print.specs.FirstFailures.{IsFirstFailure}
+use Rattle.roster_print.specs.declared.refusal.RosterRefusal.{RosterRefusal}
 
 -- a text spells one roster at most
 abbrev pub TextSpellsOneRoster : Type 0
@@ -32,3 +34,9 @@ PrintedIsSpelled = (P : Instance) (s : List Symbol) → IsValid P → IsRoster P
 -- and is short enough to be read
 abbrev pub PrintedIsShort : Type 0
 PrintedIsShort = (P : Instance) (s : List Symbol) → IsValid P → IsRoster P s → length (roster_text P s) ≤ LONGEST_FILE
+
+-- where weeks have days, a text is refused for exactly what fails first in it
+abbrev pub RefusalsAreFirst : Type 0
+RefusalsAreFirst =
+    (P : Instance) (bytes : List ℕ) (why : RosterRefusal)
+    → 1 ≤ P.days → (refusal_of_roster P bytes ≡ Some why) ↔ IsFirstFailure P bytes why

@@ -1,5 +1,6 @@
 pub mod RosterText
 pub mod Refusal
+pub mod FirstFailures
 pub mod Reading
 pub mod RuleText
 pub mod Laws

@@ -10,8 +10,8 @@ mod refusal_text;
 mod rule;
 
 pub use laws::{
-    printed_is_short, printed_is_spelled, refusals_decide_spelling, spelled_is_roster,
-    text_spells_one_roster,
+    printed_is_short, printed_is_spelled, refusals_are_first, refusals_decide_spelling,
+    spelled_is_roster, text_spells_one_roster,
 };
 pub use names::put_after_blanks;
 pub use print::print_roster;
