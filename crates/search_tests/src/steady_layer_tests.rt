@@ -2,9 +2,7 @@
 ghost use Rattle.std.specs.Prelude.{◌≡◌, ◌<◌, length, IfOk};
 ghost use Rattle.roster_finder.specs.ByStep.{IsByStep};
 
-use roster_finder::{
-    Demand, ONE_USE, Quota, Setting, SteadyLayer, Table, add_cuts, met_roster,
-};
+use roster_finder::{Demand, ONE_USE, Quota, Setting, SteadyLayer, Table, add_cuts, met_roster};
 use rwsp_model::Problem;
 use std::alloc::{AllocError, Global};
 use std::test::Fail;
