@@ -117,53 +117,62 @@ fn fill_logs_come_back(rt: HostRuntime) -> Result<(), Fail> {
     Ok(())
 }
 
-const REFUSALS: [(&[u8], LogRefusal); 18] = [
-    (b"", LogRefusal::Ends),
-    (b"rwsp-fill 1", LogRefusal::Form(1)),
-    (b"rwsp-fill 2\nrules\ncells\n", LogRefusal::Form(1)),
-    (b"rwsp-log 3\nrules\nturn\n", LogRefusal::Form(1)),
-    (b"rwsp-fill 1\n", LogRefusal::Ends),
-    (b"rwsp-fill 1\nrules 8\ncells\n", LogRefusal::Form(2)),
-    (b"rwsp-fill 1\ncells\n", LogRefusal::Form(2)),
-    (b"rwsp-fill 1\nrules\n", LogRefusal::Ends),
-    (b"rwsp-fill 1\nrules\nturn\n", LogRefusal::Form(3)),
-    (b"rwsp-fill 1\nrules\ncells", LogRefusal::Form(3)),
-    (b"rwsp-fill 1\nrules\ncells \n", LogRefusal::Form(3)),
-    (b"rwsp-fill 1\nrules\ncells 1 1\n", LogRefusal::Form(3)),
-    (b"rwsp-fill 1\nrules\ncells 1 2 D\n", LogRefusal::Form(3)),
-    (b"rwsp-fill 1\nrules\ncells 7 1 D\n", LogRefusal::Form(3)),
-    (
-        b"rwsp-fill 1\nrules\ncells 1 1 D 1 1 D\n",
-        LogRefusal::Form(3),
-    ),
-    (
-        b"rwsp-fill 1\nrules\ncells 2 1 Q 1 1 D\n",
-        LogRefusal::Form(3),
-    ),
-    (
-        b"rwsp-fill 1\nrules\ncells 1 1 Q 2 1\n",
-        LogRefusal::Form(3),
-    ),
-    (
-        b"rwsp-fill 1\nrules\ncells 1 1 Q 2 1 D\n",
-        LogRefusal::Name(3),
-    ),
-];
+// Why a header is refused, with the line. Reading one finds no other causes than these three.
+#[derive(Clone, Copy, PartialEq)]
+enum Cause {
+    Form(u32),
+    Name(u32),
+    Ends,
+}
 
-// Whether it is this cause on this line. The reading of a header finds no others than these three.
-fn is_cause(why: &LogRefusal, wanted: &LogRefusal) -> bool {
-    match (why, wanted) {
-        (LogRefusal::Form(line), LogRefusal::Form(other)) => line == other,
-        (LogRefusal::Name(line), LogRefusal::Name(other)) => line == other,
-        (LogRefusal::Ends, LogRefusal::Ends) => true,
-        _ => false,
+use Cause::{Ends, Form, Name};
+
+fn cause_of(why: &LogRefusal) -> Option<Cause> {
+    match why {
+        LogRefusal::Form(line) => Some(Form(*line)),
+        LogRefusal::Name(line) => Some(Name(*line)),
+        LogRefusal::Ends => Some(Ends),
+        _ => None,
     }
 }
 
+const REFUSALS: [(&[u8], Cause); 18] = [
+    (b"", Ends),
+    (b"rwsp-fill 1", Form(1)),
+    (b"rwsp-fill 2\nrules\ncells\n", Form(1)),
+    (b"rwsp-log 3\nrules\nturn\n", Form(1)),
+    (b"rwsp-fill 1\n", Ends),
+    (b"rwsp-fill 1\nrules 8\ncells\n", Form(2)),
+    (b"rwsp-fill 1\ncells\n", Form(2)),
+    (b"rwsp-fill 1\nrules\n", Ends),
+    (b"rwsp-fill 1\nrules\nturn\n", Form(3)),
+    (b"rwsp-fill 1\nrules\ncells", Form(3)),
+    (b"rwsp-fill 1\nrules\ncells \n", Form(3)),
+    (b"rwsp-fill 1\nrules\ncells 1 1\n", Form(3)),
+    (b"rwsp-fill 1\nrules\ncells 1 2 D\n", Form(3)),
+    (b"rwsp-fill 1\nrules\ncells 7 1 D\n", Form(3)),
+    (
+        b"rwsp-fill 1\nrules\ncells 1 1 D 1 1 D\n",
+        Form(3),
+    ),
+    (
+        b"rwsp-fill 1\nrules\ncells 2 1 Q 1 1 D\n",
+        Form(3),
+    ),
+    (
+        b"rwsp-fill 1\nrules\ncells 1 1 Q 2 1\n",
+        Form(3),
+    ),
+    (
+        b"rwsp-fill 1\nrules\ncells 1 1 Q 2 1 D\n",
+        Name(3),
+    ),
+];
+
 // Whether the header of the text is refused for this cause.
-fn is_refused_for(alloc: Global, problem: &Problem, text: &[u8], wanted: &LogRefusal) -> bool {
+fn is_refused_for(alloc: Global, problem: &Problem, text: &[u8], wanted: Cause) -> bool {
     match read_fill_header(alloc, problem, text) {
-        Err(Failure::Refused(why)) => is_cause(&why, wanted),
+        Err(Failure::Refused(why)) => cause_of(&why) == Some(wanted),
         _ => false,
     }
 }
@@ -171,9 +180,9 @@ fn is_refused_for(alloc: Global, problem: &Problem, text: &[u8], wanted: &LogRef
 #[test]
 fn other_headers_are_refused(rt: HostRuntime) -> Result<(), Fail> {
     let problem = problem_of(rt.alloc(), TWOS_IN_SIX)?;
-    for (text, wanted) in REFUSALS.iter() {
+    for (text, wanted) in &REFUSALS {
         assert!(rt;
-            is_refused_for(rt.alloc(), &problem, text, wanted),
+            is_refused_for(rt.alloc(), &problem, text, *wanted),
             "{text:?}"
         );
     }
