@@ -29,4 +29,5 @@ pub mod Reached
 pub mod LexemeFailures
 pub mod NameFailures
 pub mod RowFailures
+pub mod TextSplits
 pub mod FirstFailures
