@@ -50,7 +50,7 @@ number_reader awaited limit = word_reader awaited NumberField (limited_gives awa
 abbrev pub AreWeeks : ℕ → ℕ → Type 0
 AreWeeks days n = ((1 ≤ n) × (n ≤ MOST_WEEKS)) × (n * days ≤ MOST_CELLS)
 
-weeks_gives : (days : ℕ) (w : Lexeme) → Gives (λ n. AreWeeks days n × (number_of w.text ≡ Some n)) (limited_weeks days w)
+pub weeks_gives : (days : ℕ) (w : Lexeme) → Gives (λ n. AreWeeks days n × (number_of w.text ≡ Some n)) (limited_weeks days w)
 unfolding limited_weeks
 weeks_gives days w =
     gives_like (λ n h. ((h.0.0, (Decides-leb (n * days) MOST_CELLS).0 h.1.0), h.0.1)) (λ n h. ((h.0.0, h.1), ((Decides-leb (n * days) MOST_CELLS).1 h.0.1, refl)))
@@ -139,7 +139,7 @@ range_only text b r =
           ∙ ap (λ o. option_map (λ m. record { least = b.least; greatest = m }) o) r.to,
     )
 
-demand_found : (text : List ℕ) (b : Bounds) → written_demand text ≡ Some b → IsDemand b text
+pub demand_found : (text : List ℕ) (b : Bounds) → written_demand text ≡ Some b → IsDemand b text
 demand_found text b e = at (number_of text) refl e where
   at : (o : Option ℕ) → number_of text ≡ o → range_or (range_of text) o ≡ Some b → IsDemand b text
   at None n h = inr (range_found text b h)
@@ -147,13 +147,13 @@ demand_found text b e = at (number_of text) refl e where
       let same : range_between k k ≡ b = same_Some (range_between k k) b h in
       inl (n ∙ ap (λ (r : Bounds). Some r.least) same, sym (ap (λ (r : Bounds). r.greatest) same) ∙ ap (λ (r : Bounds). r.least) same)
 
-demand_only : (text : List ℕ) (b : Bounds) → IsDemand b text → written_demand text ≡ Some b
+pub demand_only : (text : List ℕ) (b : Bounds) → IsDemand b text → written_demand text ≡ Some b
 demand_only text b (inl h) = ap (range_or (range_of text)) h.0 ∙ ap (λ k. Some (range_between b.least k)) (sym h.1)
 demand_only text b (inr r) =
     let both : (number_of text ≡ None) × (range_of text ≡ Some b) = range_only text b r in
     ap (range_or (range_of text)) both.0 ∙ both.1
 
-demand_gives : (awaited : Place) (w : Lexeme) → Gives (λ b. IsSmallRange b × IsDemand b w.text) (limited_demand awaited w)
+pub demand_gives : (awaited : Place) (w : Lexeme) → Gives (λ b. IsSmallRange b × IsDemand b w.text) (limited_demand awaited w)
 unfolding limited_demand
 demand_gives awaited w =
     gives_like (λ b h. (h.0, demand_found w.text b h.1)) (λ b h. (h.0, demand_only w.text b h.1))

@@ -19,3 +19,15 @@ pub mod Lengths
 pub mod TextSteps
 pub mod Pieces
 pub mod Explained
+pub mod Awaited
+pub mod SoundParts
+pub mod SoundText
+pub mod FreshName
+pub mod RowLines
+pub mod Completions
+pub mod Reached
+pub mod LexemeFailures
+pub mod NameFailures
+pub mod RowFailures
+pub mod TextSplits
+pub mod FirstFailures

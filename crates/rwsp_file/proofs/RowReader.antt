@@ -70,13 +70,13 @@ numbers_gives shift words =
 abbrev row_of : List ℕ → Numbers → ShiftRow
 row_of name n = record { name = name; start = n.0; length = n.1; bounds = n.2 }
 
-name_gives : (earlier : List ShiftRow) (w : Lexeme) → Gives (λ name. (is_new_name earlier name ≡ true) × (w.text ≡ name)) (new_name earlier w)
+pub name_gives : (earlier : List ShiftRow) (w : Lexeme) → Gives (λ name. (is_new_name earlier name ≡ true) × (w.text ≡ name)) (new_name earlier w)
 unfolding new_name
 name_gives earlier w =
     gives_like (λ name h. (ap (is_new_name earlier) h.1 ∙ h.0, sym h.1)) (λ name h. (ap (is_new_name earlier) h.1 ∙ h.0, sym h.1))
     (gives_tested (is_new_name earlier w.text) w.text (BadWord (ShiftName (length earlier + 1)) w (name_fault earlier w.text)))
 
-shift_gives : (earlier : List ShiftRow) (words : RowWords) → Gives (λ row. IsGoodRow earlier row × AreWordsOf row words) (shift_of earlier words)
+pub shift_gives : (earlier : List ShiftRow) (words : RowWords) → Gives (λ row. IsGoodRow earlier row × AreWordsOf row words) (shift_of earlier words)
 unfolding shift_of
 shift_gives earlier words =
     gives_like
@@ -93,17 +93,17 @@ shift_gives earlier words =
     then_gives (λ (row : ShiftRow). (row.start, row.length, row.bounds)) (numbers_gives (length earlier + 1) words) (λ n _. gives_value (row_of name n))
     (λ n row c. ap (λ (q : ShiftRow). (q.start, q.length, q.bounds)) c)) (λ name row c. ap (λ (q : ShiftRow). q.name) c.1))
 
-abbrev after_row : Lexeme → Unread → Unread
+abbrev pub after_row : Lexeme → Unread → Unread
 after_row w u = record { lexemes = past_line w.line u.lexemes; end = u.end }
 
-abbrev line_of : Lexeme → Unread → List Lexeme
+abbrev pub line_of : Lexeme → Unread → List Lexeme
 line_of w u = w ∷ on_line w.line u.lexemes
 
 -- the line has another count of words
-abbrev odd_row : ℕ → Lexeme → Unread → Misfit
+abbrev pub odd_row : ℕ → Lexeme → Unread → Misfit
 odd_row shift w u = BadWord (ShiftLine shift) w (WordCount (length (on_line w.line u.lexemes) + 1))
 
-row_found : (shift : ℕ) (u v : Unread) (r : RowWords) → row_words_at shift u ≡ Ok (r, v) → (w : Lexeme) × (m : Unread) × (u.lexemes ≡ w ∷ m.lexemes) × (words_of_row (line_of w m) ≡ Some r) × (after_row w m ≡ v)
+pub row_found : (shift : ℕ) (u v : Unread) (r : RowWords) → row_words_at shift u ≡ Ok (r, v) → (w : Lexeme) × (m : Unread) × (u.lexemes ≡ w ∷ m.lexemes) × (words_of_row (line_of w m) ≡ Some r) × (after_row w m ≡ v)
 unfolding row_words_at
 row_found shift u v r e =
     let a : (n : Lexeme × Unread) × (next_at (ShiftLine shift) u ≡ Ok n) × ((or_refuse (words_of_row (line_of n.0 n.1)) (odd_row shift n.0 n.1) >>= (λ words. Ok (words, after_row n.0 n.1))) ≡ Ok (r, v)) =
@@ -118,10 +118,10 @@ row_found shift u v r e =
       ap (λ (p : RowWords × Unread). p.1) same,
     )
 
-abbrev rest_of : Unread → List Lexeme → Unread
+abbrev pub rest_of : Unread → List Lexeme → Unread
 rest_of u ws = record { lexemes = ws; end = u.end }
 
-row_only : (shift : ℕ) (u : Unread) (w : Lexeme) (ws : List Lexeme) (r : RowWords) → u.lexemes ≡ w ∷ ws → words_of_row (w ∷ on_line w.line ws) ≡ Some r → row_words_at shift u ≡ Ok (r, rest_of u (past_line w.line ws))
+pub row_only : (shift : ℕ) (u : Unread) (w : Lexeme) (ws : List Lexeme) (r : RowWords) → u.lexemes ≡ w ∷ ws → words_of_row (w ∷ on_line w.line ws) ≡ Some r → row_words_at shift u ≡ Ok (r, rest_of u (past_line w.line ws))
 unfolding row_words_at
 row_only shift u w ws r e h =
     then_ok (next_at (ShiftLine shift) u) (λ n. or_refuse (words_of_row (line_of n.0 n.1)) (odd_row shift n.0 n.1) >>= (λ words. Ok (words, after_row n.0 n.1))) (w, rest_of u ws) (r, rest_of u (past_line w.line ws)) (next_only (ShiftLine shift) u w ws e)

@@ -23,7 +23,7 @@ IsWordField f = Unit {0}
 abbrev pub AreWords : List Lexeme → Type 0
 AreWords ws = AllByRecursion (λ w. IsWord w.text) ws
 
-first_word : (row : ShiftRow) (w : Lexeme) (words : List Lexeme) → IsRow row (w ∷ words) → w.text ≡ row.name
+pub first_word : (row : ShiftRow) (w : Lexeme) (words : List Lexeme) → IsRow row (w ∷ words) → w.text ≡ row.name
 first_word row w [] h = absurd h
 first_word row w (b ∷ []) h = absurd h
 first_word row w (b ∷ c ∷ []) h = absurd h

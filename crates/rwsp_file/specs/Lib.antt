@@ -7,4 +7,5 @@ pub mod LikelyCauses
 pub mod RefusalWords
 pub mod LongNumbers
 pub mod Laws
+pub mod FirstFailures
 pub mod Reads

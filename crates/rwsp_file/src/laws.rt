@@ -1,5 +1,6 @@
 // Laws of texts, instances and refusals. Each function's contract is the law.
 ghost use Rattle.rwsp_file.specs.Laws.{CanonicalTextsAreShort, CanonicalTextsSpell, RefusalsAreExplained, TextsSpellOne, TextsSpellOrFail};
+ghost use Rattle.rwsp_file.specs.FirstFailures.{RefusalsAreFirst};
 
 /// A text spells at most one instance.
 #[tactic(auto, using(crate::proofs::TextLaws::texts_spell_one))]
@@ -29,4 +30,11 @@ pub fn canonical_texts_are_short()
 #[tactic(auto, using(crate::proofs::Explained::refusals_are_explained))]
 pub fn refusals_are_explained()
     ensures { RefusalsAreExplained }
+{}
+
+/// The failure for which a text is refused is the first: what stands before it can be gone on with to a text of an
+/// instance, and what stands up to its end cannot.
+#[tactic(auto, using(crate::proofs::FirstFailures::refusals_are_first))]
+pub fn refusals_are_first()
+    ensures { RefusalsAreFirst }
 {}

@@ -1,0 +1,341 @@
+-- Why the row of a shift is refused, and that the refused word is the first of the row that fails.
+use Rattle.std.proofs.Common.{◌≡◌, ◌≢◌, ℕ, suc, ◌+◌, ◌≤◌, List, [], ◌∷◌, ◌++◌, length, true, Option, Some, None, Result, Ok, Err, refl, ap, sym, ◌∙◌, subst, arith, inl, inr, ◌⊎◌, append_assoc, append-nil}
+use Rattle.std.specs.List.{AllByRecursion}
+use Rattle.std.proofs.lemmas.Option.{same_Some}
+use Rattle.rwsp_text.specs.Lexemes.{Lexeme}
+use Rattle.rwsp_text.specs.Numbers.{number_of}
+use Rattle.rwsp_terms.specs.Instance.{Instance}
+use Rattle.rwsp_terms.specs.declared.data.Bounds.{Bounds}
+use Rattle.rwsp_terms.specs.declared.data.ShiftRow.{ShiftRow}
+use Rattle.rwsp_terms.proofs.Elements.{all_joined}
+use Rattle.rwsp_model.proofs.Names.{IsWord}
+use Rattle.rwsp_file.specs.Spelling.{IsRow, on_line, past_line}
+use Rattle.rwsp_file.specs.Reading.{Unread, ◌>>=◌, or_refuse, next_at, limit_of, limited, words_of_row, row_words, row_words_at, is_new_name, new_name, numbers_of_row, shift_of, shift_at}
+use Rattle.rwsp_file.specs.FirstFailures.{IsNoLongName, RestsOn, HasFault}
+use Rattle.rwsp_file.specs.declared.row.RowWords.{RowWords}
+use Rattle.rwsp_file.specs.declared.misfit.Misfit.{Misfit}
+use Rattle.rwsp_file.specs.declared.misfit.Misfit.TheVariants.{TextEnds, BadWord}
+use Rattle.rwsp_file.specs.declared.misfit.Fault.{Fault}
+use Rattle.rwsp_file.specs.declared.misfit.Fault.TheVariants.{WordCount}
+use Rattle.rwsp_file.specs.declared.misfit.Place.{Place}
+use Rattle.rwsp_file.specs.declared.misfit.Place.TheVariants.{ShiftLine, ShiftName, Start, Minutes, LeastBlock, GreatestBlock}
+use Rattle.rwsp_file.proofs.Readers.{bind_ok}
+use Rattle.rwsp_file.proofs.FieldReaders.{limited_gives}
+use Rattle.rwsp_file.proofs.Lines.{unread}
+use Rattle.rwsp_file.proofs.RowReader.{IsGoodRow, name_gives}
+use Rattle.rwsp_file.proofs.WordForms.{all_front, first_word}
+use Rattle.rwsp_file.proofs.Awaited.{Awaited, read_on}
+use Rattle.rwsp_file.proofs.Awaited.Awaited.{Row}
+use Rattle.rwsp_file.proofs.SoundParts.{lexeme_on, IsSound, IsRefused, IsNumberPlace, IsRefusedAt, limited_refused, failed, err_same, bind_err, zero_word, zero_is_word}
+use Rattle.rwsp_file.proofs.RowLines.{AllOn, Off, first_line, cut_line, off_line, joined_line, first_joined, ReadRow, shift_read, row_in_front}
+use Rattle.rwsp_file.proofs.Completions.{on_one, on_fresh, starts_fresh, off_later, on_one_line, Numbered, zero_numbered, GoodRow, five_words, six_words, fresh_row, fresh_row_words, fresh_row_good, Completion, complete}
+use Rattle.rwsp_file.proofs.Reached.{read_row}
+use Rattle.rwsp_file.proofs.LexemeFailures.{GoesOn, FailsAt, Fails, reads_lead, ends_clash}
+use Rattle.rwsp_file.proofs.NameFailures.{BeginsWith, name_refused}
+
+-- what the words of a row are
+
+second : (row : ShiftRow) (a b : Lexeme) (ys : List Lexeme) → IsRow row (a ∷ b ∷ ys) → number_of b.text ≡ Some row.start
+second row a b [] h = absurd h
+second row a b (c ∷ []) h = absurd h
+second row a b (c ∷ d ∷ []) h = absurd h
+second row a b (c ∷ d ∷ f ∷ []) h = h.starts
+second row a b (c ∷ d ∷ f ∷ g ∷ []) h = h.starts
+second row a b (c ∷ d ∷ f ∷ g ∷ i ∷ ys) h = absurd h
+
+third : (row : ShiftRow) (a b c : Lexeme) (ys : List Lexeme) → IsRow row (a ∷ b ∷ c ∷ ys) → number_of c.text ≡ Some row.length
+third row a b c [] h = absurd h
+third row a b c (d ∷ []) h = absurd h
+third row a b c (d ∷ f ∷ []) h = h.long
+third row a b c (d ∷ f ∷ g ∷ []) h = h.long
+third row a b c (d ∷ f ∷ g ∷ i ∷ ys) h = absurd h
+
+fourth : (row : ShiftRow) (a b c d : Lexeme) (ys : List Lexeme) → length ys ≢ 2 → IsRow row (a ∷ b ∷ c ∷ d ∷ ys) → number_of d.text ≡ Some row.bounds.least
+fourth row a b c d [] ne h = absurd h
+fourth row a b c d (f ∷ []) ne h = h.from
+fourth row a b c d (f ∷ g ∷ []) ne h = absurd (ne refl)
+fourth row a b c d (f ∷ g ∷ i ∷ ys) ne h = absurd h
+
+fifth : (row : ShiftRow) (a b c d f : Lexeme) (ys : List Lexeme) → IsRow row (a ∷ b ∷ c ∷ d ∷ f ∷ ys) → (number_of f.text ≡ Some row.bounds.greatest) ⊎ (number_of f.text ≡ Some row.bounds.least)
+fifth row a b c d f [] h = inl h.to
+fifth row a b c d f (g ∷ []) h = inr h.from
+fifth row a b c d f (g ∷ i ∷ ys) h = absurd h
+
+sixth : (row : ShiftRow) (a b c d f g : Lexeme) (ys : List Lexeme) → IsRow row (a ∷ b ∷ c ∷ d ∷ f ∷ g ∷ ys) → number_of g.text ≡ Some row.bounds.greatest
+sixth row a b c d f g [] h = h.to
+sixth row a b c d f g (i ∷ ys) h = absurd h
+
+pub row_length : (row : ShiftRow) (words : List Lexeme) → IsRow row words → (length words ≡ 5) ⊎ (length words ≡ 6)
+row_length row [] h = absurd h
+row_length row (a ∷ []) h = absurd h
+row_length row (a ∷ b ∷ []) h = absurd h
+row_length row (a ∷ b ∷ c ∷ []) h = absurd h
+row_length row (a ∷ b ∷ c ∷ d ∷ []) h = absurd h
+row_length row (a ∷ b ∷ c ∷ d ∷ f ∷ []) h = inl refl
+row_length row (a ∷ b ∷ c ∷ d ∷ f ∷ g ∷ []) h = inr refl
+row_length row (a ∷ b ∷ c ∷ d ∷ f ∷ g ∷ i ∷ ys) h = absurd h
+
+words_none : (words : List Lexeme) → words_of_row words ≡ None → (length words ≢ 5) × (length words ≢ 6)
+words_none [] e = (λ n. omega (arith, n), λ n. omega (arith, n))
+words_none (a ∷ []) e = (λ n. omega (arith, n), λ n. omega (arith, n))
+words_none (a ∷ b ∷ []) e = (λ n. omega (arith, n), λ n. omega (arith, n))
+words_none (a ∷ b ∷ c ∷ []) e = (λ n. omega (arith, n), λ n. omega (arith, n))
+words_none (a ∷ b ∷ c ∷ d ∷ []) e = (λ n. omega (arith, n), λ n. omega (arith, n))
+words_none (a ∷ b ∷ c ∷ d ∷ f ∷ []) e = absurd (cc)
+words_none (a ∷ b ∷ c ∷ d ∷ f ∷ g ∷ []) e = absurd (cc)
+words_none (a ∷ b ∷ c ∷ d ∷ f ∷ g ∷ i ∷ ys) e = (λ n. omega (arith, n), λ n. omega (arith, n))
+
+-- the words are five, or six
+abbrev IsFive : List Lexeme → RowWords → Type 0
+IsFive words r = words ≡ r.name ∷ r.start ∷ r.minutes ∷ r.least ∷ r.greatest ∷ []
+
+abbrev IsSix : List Lexeme → RowWords → Type 0
+IsSix words r = (long_name : Lexeme) × (words ≡ r.name ∷ r.start ∷ r.minutes ∷ long_name ∷ r.least ∷ r.greatest ∷ [])
+
+words_are : (words : List Lexeme) (r : RowWords) → words_of_row words ≡ Some r → IsFive words r ⊎ IsSix words r
+words_are [] r e = absurd (cc)
+words_are (a ∷ []) r e = absurd (cc)
+words_are (a ∷ b ∷ []) r e = absurd (cc)
+words_are (a ∷ b ∷ c ∷ []) r e = absurd (cc)
+words_are (a ∷ b ∷ c ∷ d ∷ []) r e = absurd (cc)
+words_are (a ∷ b ∷ c ∷ d ∷ f ∷ []) r e = inl (ap (λ (q : RowWords). q.name ∷ q.start ∷ q.minutes ∷ q.least ∷ q.greatest ∷ []) (same_Some (row_words a b c None d f) r e))
+words_are (a ∷ b ∷ c ∷ d ∷ f ∷ g ∷ []) r e = inr (d, ap (λ (q : RowWords). q.name ∷ q.start ∷ q.minutes ∷ d ∷ q.least ∷ q.greatest ∷ []) (same_Some (row_words a b c (Some d) f g) r e))
+words_are (a ∷ b ∷ c ∷ d ∷ f ∷ g ∷ i ∷ ys) r e = absurd (cc)
+
+-- a number that keeps the limits of a row is taken
+number_bad : (awaited : Place) (k : ℕ) (w : Lexeme) (why : Misfit) → limited awaited (limit_of k 0 10000) w ≡ Err why → Numbered w → ⊥
+number_bad awaited k w why e n = ends_clash ℕ n.0 why (sym e ∙ (limited_gives awaited (limit_of k 0 10000) w).only n.0 ((omega arith, n.1), n.2))
+
+numbered : (awaited : Place) (k : ℕ) (w : Lexeme) (n : ℕ) → limited awaited (limit_of k 0 10000) w ≡ Ok n → Numbered w
+numbered awaited k w n e = let f = (limited_gives awaited (limit_of k 0 10000) w).found n e in (n, f.0.1, f.1)
+
+-- what is wrong with a row: its count of words, or one of its words
+row_stuck : (earlier : List ShiftRow) (v : Lexeme) (vs : List Lexeme) (end : ℕ) (why : Misfit) → shift_at earlier (unread (v ∷ vs) end) ≡ Err why →
+    ((words_of_row (v ∷ on_line v.line vs) ≡ None) × (why ≡ BadWord (ShiftLine (length earlier + 1)) v (WordCount (length (on_line v.line vs) + 1)))) ⊎ ((r : RowWords) × (words_of_row (v ∷ on_line v.line vs) ≡ Some r) × (shift_of earlier r ≡ Err why))
+unfolding shift_at row_words_at next_at
+row_stuck earlier v vs end why e = at (words_of_row (v ∷ on_line v.line vs)) refl e where
+  of_row : (r : RowWords) (x : Result ShiftRow Misfit) → words_of_row (v ∷ on_line v.line vs) ≡ Some r → shift_of earlier r ≡ x → ◌>>=◌ {A = ShiftRow} {B = ShiftRow × Unread} x (λ row. Ok (row, unread (past_line v.line vs) end)) ≡ Err why →
+      ((words_of_row (v ∷ on_line v.line vs) ≡ None) × (why ≡ BadWord (ShiftLine (length earlier + 1)) v (WordCount (length (on_line v.line vs) + 1)))) ⊎ ((r : RowWords) × (words_of_row (v ∷ on_line v.line vs) ≡ Some r) × (shift_of earlier r ≡ Err why))
+  of_row r (Ok row) h g i = absurd (ends_clash (ShiftRow × Unread) (row, unread (past_line v.line vs) end) why (sym i))
+  of_row r (Err a) h g i = inr (r, h, g ∙ ap failed (err_same {X = ShiftRow × Unread} a why i))
+
+  at : (o : Option RowWords) → words_of_row (v ∷ on_line v.line vs) ≡ o →
+      ◌>>=◌ {A = RowWords × Unread} {B = ShiftRow × Unread} (◌>>=◌ {A = RowWords} {B = RowWords × Unread} (or_refuse o (BadWord (ShiftLine (length earlier + 1)) v (WordCount (length (on_line v.line vs) + 1)))) (λ words. Ok (words, unread (past_line v.line vs) end)))
+      (λ words. shift_of earlier words.0 >>= (λ row. Ok (row, words.1))) ≡ Err why →
+      ((words_of_row (v ∷ on_line v.line vs) ≡ None) × (why ≡ BadWord (ShiftLine (length earlier + 1)) v (WordCount (length (on_line v.line vs) + 1)))) ⊎ ((r : RowWords) × (words_of_row (v ∷ on_line v.line vs) ≡ Some r) × (shift_of earlier r ≡ Err why))
+  at None h g = inl (h, sym (err_same {X = ShiftRow × Unread} (BadWord (ShiftLine (length earlier + 1)) v (WordCount (length (on_line v.line vs) + 1))) why g))
+  at (Some r) h g = of_row r (shift_of earlier r) h refl g
+
+-- which number of a row is the first that fails
+abbrev NumbersStuck : ℕ → RowWords → Misfit → Type 0
+NumbersStuck shift r why =
+    (limited (Start shift) (limit_of 6 0 10000) r.start ≡ Err why)
+    ⊎ (Numbered r.start × ((limited (Minutes shift) (limit_of 6 0 10000) r.minutes ≡ Err why)
+    ⊎ (Numbered r.minutes × ((limited (LeastBlock shift) (limit_of 7 0 10000) r.least ≡ Err why)
+    ⊎ (Numbered r.least × (limited (GreatestBlock shift) (limit_of 7 0 10000) r.greatest ≡ Err why))))))
+
+abbrev Numbers : Type 0
+Numbers = ℕ × ℕ × Bounds
+
+abbrev numbers : ℕ → ℕ → ℕ → ℕ → Numbers
+numbers start minutes least greatest = (start, minutes, record { least = least; greatest = greatest })
+
+abbrev after_least : ℕ → RowWords → ℕ → ℕ → ℕ → Result Numbers Misfit
+after_least shift r start minutes least = limited (GreatestBlock shift) (limit_of 7 0 10000) r.greatest >>= (λ greatest. Ok (numbers start minutes least greatest))
+
+abbrev after_minutes : ℕ → RowWords → ℕ → ℕ → Result Numbers Misfit
+after_minutes shift r start minutes = limited (LeastBlock shift) (limit_of 7 0 10000) r.least >>= (λ least. after_least shift r start minutes least)
+
+abbrev after_start : ℕ → RowWords → ℕ → Result Numbers Misfit
+after_start shift r start = limited (Minutes shift) (limit_of 6 0 10000) r.minutes >>= (λ minutes. after_minutes shift r start minutes)
+
+numbers_stuck : (shift : ℕ) (r : RowWords) (why : Misfit) → numbers_of_row shift r ≡ Err why → NumbersStuck shift r why
+unfolding numbers_of_row
+numbers_stuck shift r why e =
+    of_start (bind_err (limited (Start shift) (limit_of 6 0 10000) r.start) (after_start shift r) why e) where
+      of_greatest : (start minutes least : ℕ) → Numbered r.least → (limited (GreatestBlock shift) (limit_of 7 0 10000) r.greatest ≡ Err why) ⊎ ((n : ℕ) × (limited (GreatestBlock shift) (limit_of 7 0 10000) r.greatest ≡ Ok n) × (Ok (numbers start minutes least n) ≡ Err why)) →
+          Numbered r.least × (limited (GreatestBlock shift) (limit_of 7 0 10000) r.greatest ≡ Err why)
+      of_greatest start minutes least h (inl f) = (h, f)
+      of_greatest start minutes least h (inr f) = absurd (ends_clash Numbers (numbers start minutes least f.0) why (sym f.2))
+
+      of_least : (start minutes : ℕ) → Numbered r.minutes → (limited (LeastBlock shift) (limit_of 7 0 10000) r.least ≡ Err why) ⊎ ((n : ℕ) × (limited (LeastBlock shift) (limit_of 7 0 10000) r.least ≡ Ok n) × (after_least shift r start minutes n ≡ Err why)) →
+          Numbered r.minutes × ((limited (LeastBlock shift) (limit_of 7 0 10000) r.least ≡ Err why) ⊎ (Numbered r.least × (limited (GreatestBlock shift) (limit_of 7 0 10000) r.greatest ≡ Err why)))
+      of_least start minutes h (inl f) = (h, inl f)
+      of_least start minutes h (inr f) =
+          (h, inr (of_greatest start minutes f.0 (numbered (LeastBlock shift) 7 r.least f.0 f.1) (bind_err (limited (GreatestBlock shift) (limit_of 7 0 10000) r.greatest) (λ greatest. Ok (numbers start minutes f.0 greatest)) why f.2)))
+
+      of_minutes : (start : ℕ) → Numbered r.start → (limited (Minutes shift) (limit_of 6 0 10000) r.minutes ≡ Err why) ⊎ ((n : ℕ) × (limited (Minutes shift) (limit_of 6 0 10000) r.minutes ≡ Ok n) × (after_minutes shift r start n ≡ Err why)) →
+          Numbered r.start × ((limited (Minutes shift) (limit_of 6 0 10000) r.minutes ≡ Err why) ⊎ (Numbered r.minutes × ((limited (LeastBlock shift) (limit_of 7 0 10000) r.least ≡ Err why) ⊎ (Numbered r.least × (limited (GreatestBlock shift) (limit_of 7 0 10000) r.greatest ≡ Err why)))))
+      of_minutes start h (inl f) = (h, inl f)
+      of_minutes start h (inr f) = (h, inr (of_least start f.0 (numbered (Minutes shift) 6 r.minutes f.0 f.1) (bind_err (limited (LeastBlock shift) (limit_of 7 0 10000) r.least) (λ least. after_least shift r start f.0 least) why f.2)))
+
+      of_start : (limited (Start shift) (limit_of 6 0 10000) r.start ≡ Err why) ⊎ ((n : ℕ) × (limited (Start shift) (limit_of 6 0 10000) r.start ≡ Ok n) × (after_start shift r n ≡ Err why)) → NumbersStuck shift r why
+      of_start (inl f) = inl f
+      of_start (inr f) = inr (of_minutes f.0 (numbered (Start shift) 6 r.start f.0 f.1) (bind_err (limited (Minutes shift) (limit_of 6 0 10000) r.minutes) (λ minutes. after_minutes shift r f.0 minutes) why f.2))
+
+abbrev row_of : List ℕ → Numbers → ShiftRow
+row_of name n = record { name = name; start = n.0; length = n.1; bounds = n.2 }
+
+-- a shift is refused for its name, or for one of its numbers
+shift_stuck : (earlier : List ShiftRow) (r : RowWords) (why : Misfit) → shift_of earlier r ≡ Err why → (new_name earlier r.name ≡ Err why) ⊎ ((is_new_name earlier r.name.text ≡ true) × NumbersStuck (length earlier + 1) r why)
+unfolding shift_of
+shift_stuck earlier r why e =
+    of_name (bind_err (new_name earlier r.name) (λ name. numbers_of_row (length earlier + 1) r >>= (λ n. Ok (row_of name n))) why e) where
+      of_numbers : (name : List ℕ) → (numbers_of_row (length earlier + 1) r ≡ Err why) ⊎ ((n : Numbers) × (numbers_of_row (length earlier + 1) r ≡ Ok n) × (Ok (row_of name n) ≡ Err why)) → NumbersStuck (length earlier + 1) r why
+      of_numbers name (inl f) = numbers_stuck (length earlier + 1) r why f
+      of_numbers name (inr f) = absurd (ends_clash ShiftRow (row_of name f.0) why (sym f.2))
+
+      of_name : (new_name earlier r.name ≡ Err why) ⊎ ((name : List ℕ) × (new_name earlier r.name ≡ Ok name) × ((numbers_of_row (length earlier + 1) r >>= (λ n. Ok (row_of name n))) ≡ Err why)) →
+          (new_name earlier r.name ≡ Err why) ⊎ ((is_new_name earlier r.name.text ≡ true) × NumbersStuck (length earlier + 1) r why)
+      of_name (inl f) = inl f
+      of_name (inr f) =
+          let is : (is_new_name earlier f.0 ≡ true) × (r.name.text ≡ f.0) = (name_gives earlier r.name).found f.0 f.1 in
+          inr (ap (is_new_name earlier) is.1 ∙ is.0, of_numbers f.0 (bind_err (numbers_of_row (length earlier + 1) r) (λ n. Ok (row_of f.0 n)) why f.2))
+
+module _ (earlier : List ShiftRow) (next : ShiftRow → Awaited) (v : Lexeme) (vs : List Lexeme) (sound : IsSound (Row earlier next)) where
+  -- a word of the row fails, where all in front of it can be gone on with
+  row_part : (pre : List Lexeme) (w : Lexeme) (post : List Lexeme) (awaited : Place) (fault : Fault) → v ∷ on_line v.line vs ≡ pre ++ w ∷ post → RestsOn awaited fault (length post) →
+      (words : List (List ℕ)) → AllByRecursion IsWord words → GoodRow earlier (pre ++ on_one v.line words) →
+      ((ys : List Lexeme) → RestsOn awaited fault (length ys) → (row : ShiftRow) → IsGoodRow earlier row → IsRow row (pre ++ w ∷ ys) → ⊥) →
+      ((P : Instance) → BeginsWith earlier P → HasFault P awaited w.text fault) → FailsAt (Row earlier next) (v ∷ vs) awaited w fault
+  unfolding read_on
+  row_part pre w post awaited fault split rests words are_words good bad broken =
+      let cut : AllOn v.line (on_line v.line vs) × Off v.line (past_line v.line vs) × (vs ≡ on_line v.line vs ++ past_line v.line vs) = cut_line v.line vs in
+      let parts : AllOn v.line pre × AllOn v.line (w ∷ post) = all_front (λ (x : Lexeme). x.line ≡ v.line) pre (w ∷ post) (subst (AllOn v.line) split (refl, cut.0)) in
+      let same_line : w.line ≡ v.line = parts.1.0 in
+      let line : on_line v.line (post ++ past_line v.line vs) ≡ post = (joined_line v.line post (past_line v.line vs) parts.1.1).0 ∙ ap (λ (zs : List Lexeme). post ++ zs) (off_line v.line (past_line v.line vs) cut.1).0 ∙ append-nil post in
+      let c : Completion (next good.0) v.line = complete (next good.0) (sound.2 good.0) v.line in
+      let can : GoesOn (Row earlier next) pre v.line = record {
+        words = words;
+        lines = c.lines;
+        are_words = are_words;
+        are_lines = c.words;
+        P = c.P;
+        reads = λ g.
+            ap (λ (zs : List Lexeme). read_on (Row earlier next) (unread zs g)) (sym (append_assoc pre (on_one v.line words) (on_fresh v.line c.lines)))
+            ∙ read_row earlier next ((pre ++ on_one v.line words) ++ on_fresh v.line c.lines) g good.0 (unread (on_fresh v.line c.lines) g)
+            (row_in_front earlier v.line (pre ++ on_one v.line words) (on_fresh v.line c.lines) g good.0 (all_joined (λ (x : Lexeme). x.line ≡ v.line) pre (on_one v.line words) parts.0 (on_one_line v.line words))
+            (off_later v.line (v.line + 1) (on_fresh v.line c.lines) (omega arith) (starts_fresh (v.line + 1) v.line c.lines (omega arith))) good.1 good.2)
+            ∙ c.reads g;
+      } in
+      record {
+        before = pre;
+        after = post ++ past_line v.line vs;
+        whole = ap (λ (zs : List Lexeme). v ∷ zs) cut.2 ∙ ap (λ (zs : List Lexeme). zs ++ past_line v.line vs) split ∙ append_assoc pre (w ∷ post) (past_line v.line vs);
+        rests = subst (λ l. RestsOn awaited fault (length (on_line l (post ++ past_line v.line vs)))) (sym same_line) (subst (λ (zs : List Lexeme). RestsOn awaited fault (length zs)) (sym line) rests);
+        can = subst (GoesOn (Row earlier next) pre) (sym same_line) can;
+        cannot = λ more g P on h.
+            let a : (p : ShiftRow × Unread) × (shift_at earlier (unread (pre ++ w ∷ more) g) ≡ Ok p) × (read_on (next p.0) p.1 ≡ Ok P) = bind_ok (shift_at earlier (unread (pre ++ w ∷ more) g)) (λ p. read_on (next p.0) p.1) P h in
+            let r : ReadRow earlier (pre ++ w ∷ more) a.0.0 = shift_read earlier (pre ++ w ∷ more) g a.0.0 a.0.1 a.1 in
+            bad (on_line v.line more) (subst (λ l. RestsOn awaited fault (length (on_line l more))) same_line on) a.0.0 r.good
+            (subst (IsRow a.0.0) (first_joined v.line pre w more parts.0 same_line) r.text);
+        broken = λ more g P _ h. broken P (sound.1 P (reads_lead (Row earlier next) (unread (pre ++ more) g) P h));
+      }
+
+  -- a number of the row fails
+  number_fails : (end : ℕ) (why : Misfit) (pre : List Lexeme) (w : Lexeme) (post : List Lexeme) (awaited : Place) (k : ℕ) → v ∷ on_line v.line vs ≡ pre ++ w ∷ post → IsNumberPlace awaited → limited awaited (limit_of k 0 10000) w ≡ Err why →
+      IsNoLongName awaited (length post) → (words : List (List ℕ)) → AllByRecursion IsWord words → GoodRow earlier (pre ++ on_one v.line words) →
+      ((ys : List Lexeme) → IsNoLongName awaited (length ys) → (row : ShiftRow) → IsGoodRow earlier row → IsRow row (pre ++ w ∷ ys) → Numbered w) → Fails (Row earlier next) (v ∷ vs) end why
+  number_fails end why pre w post awaited k split place e alone words are_words good takes =
+      let r : IsRefusedAt awaited w why = limited_refused awaited (limit_of k 0 10000) w why place e in
+      subst (Fails (Row earlier next) (v ∷ vs) end) (sym r.same)
+      (row_part pre w post awaited r.fault split (r.rests (length post) alone) words are_words good
+      (λ ys on row is text. number_bad awaited k w why e (takes ys (r.alone (length ys) on) row is text)) (λ P _. r.broken P))
+
+  -- the row has another count of words
+  count_fails : (end : ℕ) (why : Misfit) → words_of_row (v ∷ on_line v.line vs) ≡ None → why ≡ BadWord (ShiftLine (length earlier + 1)) v (WordCount (length (on_line v.line vs) + 1)) → Fails (Row earlier next) (v ∷ vs) end why
+  count_fails end why none same =
+      let not_so : (length (v ∷ on_line v.line vs) ≢ 5) × (length (v ∷ on_line v.line vs) ≢ 6) = words_none (v ∷ on_line v.line vs) none in
+      subst (Fails (Row earlier next) (v ∷ vs) end) (sym same)
+      (row_part [] v (on_line v.line vs) (ShiftLine (length earlier + 1)) (WordCount (length (on_line v.line vs) + 1)) refl refl (fresh_row earlier) (fresh_row_words earlier) (fresh_row_good earlier v.line sound.0)
+      (λ ys long row is text. counted ys long not_so (row_length row (v ∷ ys) text))
+      (λ P _. (λ five. not_so.0 (omega (arith, five)), λ six. not_so.1 (omega (arith, six))))) where
+        counted : (ys : List Lexeme) → length ys + 1 ≡ length (on_line v.line vs) + 1 → (length (v ∷ on_line v.line vs) ≢ 5) × (length (v ∷ on_line v.line vs) ≢ 6) → (length (v ∷ ys) ≡ 5) ⊎ (length (v ∷ ys) ≡ 6) → ⊥
+        counted ys long not_so (inl five) = not_so.0 (omega (arith, long, five))
+        counted ys long not_so (inr six) = not_so.1 (omega (arith, long, six))
+
+  -- the first three words of a row
+  begins_row : (r : RowWords) → IsFive (v ∷ on_line v.line vs) r ⊎ IsSix (v ∷ on_line v.line vs) r → (post : List Lexeme) × (v ∷ on_line v.line vs ≡ r.name ∷ r.start ∷ r.minutes ∷ post)
+  begins_row r (inl five) = (r.least ∷ r.greatest ∷ [], five)
+  begins_row r (inr six) = (six.0 ∷ r.least ∷ r.greatest ∷ [], six.1)
+
+  name_fails : (end : ℕ) (why : Misfit) (r : RowWords) (post : List Lexeme) → v ∷ on_line v.line vs ≡ r.name ∷ post → new_name earlier r.name ≡ Err why → Fails (Row earlier next) (v ∷ vs) end why
+  name_fails end why r post split e =
+      let f : IsRefused (ShiftName (length earlier + 1)) r.name why (BeginsWith earlier) = name_refused earlier r.name why e in
+      subst (Fails (Row earlier next) (v ∷ vs) end) (sym f.same)
+      (row_part [] r.name post (ShiftName (length earlier + 1)) f.fault split (f.rests (length post)) (fresh_row earlier) (fresh_row_words earlier) (fresh_row_good earlier v.line sound.0)
+      (λ ys _ row is text.
+      ends_clash (List ℕ) row.name why (sym e ∙ (name_gives earlier r.name).only row.name (is.name, first_word row r.name ys text)))
+      f.broken)
+
+  start_fails : (end : ℕ) (why : Misfit) (r : RowWords) (post : List Lexeme) → v ∷ on_line v.line vs ≡ r.name ∷ r.start ∷ post → is_new_name earlier r.name.text ≡ true → limited (Start (length earlier + 1)) (limit_of 6 0 10000) r.start ≡ Err why →
+      Fails (Row earlier next) (v ∷ vs) end why
+  start_fails end why r post split name e =
+      number_fails end why (r.name ∷ []) r.start post (Start (length earlier + 1)) 6 split (record { none = λ text n. n; beyond = λ limit text n h out. (n, h, out) }) e tt
+      (zero_word ∷ zero_word ∷ zero_word ∷ zero_word ∷ []) (zero_is_word, (zero_is_word, (zero_is_word, (zero_is_word, tt))))
+      (five_words earlier r.name (lexeme_on v.line zero_word) (lexeme_on v.line zero_word) (lexeme_on v.line zero_word) (lexeme_on v.line zero_word) name (zero_numbered v.line) (zero_numbered v.line) (zero_numbered v.line) (zero_numbered v.line))
+      (λ ys _ row is text. (row.start, is.times.0, second row r.name r.start ys text))
+
+  minutes_fails : (end : ℕ) (why : Misfit) (r : RowWords) (post : List Lexeme) → v ∷ on_line v.line vs ≡ r.name ∷ r.start ∷ r.minutes ∷ post → is_new_name earlier r.name.text ≡ true → Numbered r.start →
+      limited (Minutes (length earlier + 1)) (limit_of 6 0 10000) r.minutes ≡ Err why → Fails (Row earlier next) (v ∷ vs) end why
+  minutes_fails end why r post split name start e =
+      number_fails end why (r.name ∷ r.start ∷ []) r.minutes post (Minutes (length earlier + 1)) 6 split (record { none = λ text n. n; beyond = λ limit text n h out. (n, h, out) }) e tt
+      (zero_word ∷ zero_word ∷ zero_word ∷ []) (zero_is_word, (zero_is_word, (zero_is_word, tt)))
+      (five_words earlier r.name r.start (lexeme_on v.line zero_word) (lexeme_on v.line zero_word) (lexeme_on v.line zero_word) name start (zero_numbered v.line) (zero_numbered v.line) (zero_numbered v.line))
+      (λ ys _ row is text. (row.length, is.times.1, third row r.name r.start r.minutes ys text))
+
+  either_bound : (row : ShiftRow) (w : Lexeme) → IsGoodRow earlier row → (number_of w.text ≡ Some row.bounds.greatest) ⊎ (number_of w.text ≡ Some row.bounds.least) → Numbered w
+  either_bound row w is (inl g) = (row.bounds.greatest, is.blocks.1, g)
+  either_bound row w is (inr l) = (row.bounds.least, is.blocks.0, l)
+
+  least_fails : (end : ℕ) (why : Misfit) (r : RowWords) → IsFive (v ∷ on_line v.line vs) r ⊎ IsSix (v ∷ on_line v.line vs) r → is_new_name earlier r.name.text ≡ true → Numbered r.start → Numbered r.minutes →
+      limited (LeastBlock (length earlier + 1)) (limit_of 7 0 10000) r.least ≡ Err why → Fails (Row earlier next) (v ∷ vs) end why
+  least_fails end why r (inl five) name start minutes e =
+      number_fails end why (r.name ∷ r.start ∷ r.minutes ∷ []) r.least (r.greatest ∷ []) (LeastBlock (length earlier + 1)) 7 five (record { none = λ text n. n; beyond = λ limit text n h out. (n, h, out) }) e (λ two. omega (arith, two))
+      (zero_word ∷ zero_word ∷ []) (zero_is_word, (zero_is_word, tt))
+      (five_words earlier r.name r.start r.minutes (lexeme_on v.line zero_word) (lexeme_on v.line zero_word) name start minutes (zero_numbered v.line) (zero_numbered v.line))
+      (λ ys alone row is text. (row.bounds.least, is.blocks.0, fourth row r.name r.start r.minutes r.least ys alone text))
+  least_fails end why r (inr six) name start minutes e =
+      number_fails end why (r.name ∷ r.start ∷ r.minutes ∷ six.0 ∷ []) r.least (r.greatest ∷ []) (LeastBlock (length earlier + 1)) 7 six.1 (record { none = λ text n. n; beyond = λ limit text n h out. (n, h, out) }) e (λ two. omega (arith, two))
+      (zero_word ∷ zero_word ∷ []) (zero_is_word, (zero_is_word, tt))
+      (six_words earlier r.name r.start r.minutes (lexeme_on v.line zero_word) (lexeme_on v.line zero_word) name start minutes (zero_numbered v.line) (zero_numbered v.line) six.0)
+      (λ ys _ row is text. either_bound row r.least is (fifth row r.name r.start r.minutes six.0 r.least ys text))
+
+  greatest_fails : (end : ℕ) (why : Misfit) (r : RowWords) → IsFive (v ∷ on_line v.line vs) r ⊎ IsSix (v ∷ on_line v.line vs) r → is_new_name earlier r.name.text ≡ true → Numbered r.start → Numbered r.minutes → Numbered r.least →
+      limited (GreatestBlock (length earlier + 1)) (limit_of 7 0 10000) r.greatest ≡ Err why → Fails (Row earlier next) (v ∷ vs) end why
+  greatest_fails end why r (inl five) name start minutes least e =
+      number_fails end why (r.name ∷ r.start ∷ r.minutes ∷ r.least ∷ []) r.greatest [] (GreatestBlock (length earlier + 1)) 7 five (record { none = λ text n. n; beyond = λ limit text n h out. (n, h, out) }) e tt
+      (zero_word ∷ []) (zero_is_word, tt)
+      (five_words earlier r.name r.start r.minutes r.least (lexeme_on v.line zero_word) name start minutes least (zero_numbered v.line))
+      (λ ys _ row is text. either_bound row r.greatest is (fifth row r.name r.start r.minutes r.least r.greatest ys text))
+  greatest_fails end why r (inr six) name start minutes least e =
+      number_fails end why (r.name ∷ r.start ∷ r.minutes ∷ six.0 ∷ r.least ∷ []) r.greatest [] (GreatestBlock (length earlier + 1)) 7 six.1 (record { none = λ text n. n; beyond = λ limit text n h out. (n, h, out) }) e tt
+      (zero_word ∷ []) (zero_is_word, tt)
+      (six_words earlier r.name r.start r.minutes r.least (lexeme_on v.line zero_word) name start minutes least (zero_numbered v.line) six.0)
+      (λ ys _ row is text. (row.bounds.greatest, is.blocks.1, sixth row r.name r.start r.minutes six.0 r.least r.greatest ys text))
+
+  numbers_fail : (end : ℕ) (why : Misfit) (r : RowWords) → IsFive (v ∷ on_line v.line vs) r ⊎ IsSix (v ∷ on_line v.line vs) r → is_new_name earlier r.name.text ≡ true → NumbersStuck (length earlier + 1) r why → Fails (Row earlier next) (v ∷ vs) end why
+  numbers_fail end why r shape name (inl e) = let front = begins_row r shape in start_fails end why r (r.minutes ∷ front.0) front.1 name e
+  numbers_fail end why r shape name (inr (start, inl e)) = let front = begins_row r shape in minutes_fails end why r front.0 front.1 name start e
+  numbers_fail end why r shape name (inr (start, inr (minutes, inl e))) = least_fails end why r shape name start minutes e
+  numbers_fail end why r shape name (inr (start, inr (minutes, inr (least, e)))) = greatest_fails end why r shape name start minutes least e
+
+  shift_fails : (end : ℕ) (why : Misfit) (r : RowWords) → IsFive (v ∷ on_line v.line vs) r ⊎ IsSix (v ∷ on_line v.line vs) r →
+      (new_name earlier r.name ≡ Err why) ⊎ ((is_new_name earlier r.name.text ≡ true) × NumbersStuck (length earlier + 1) r why) → Fails (Row earlier next) (v ∷ vs) end why
+  shift_fails end why r shape (inl e) = let front = begins_row r shape in name_fails end why r (r.start ∷ r.minutes ∷ front.0) front.1 e
+  shift_fails end why r shape (inr f) = numbers_fail end why r shape f.0 f.1
+
+  line_fails : (end : ℕ) (why : Misfit) → shift_at earlier (unread (v ∷ vs) end) ≡ Err why → Fails (Row earlier next) (v ∷ vs) end why
+  line_fails end why e = at (row_stuck earlier v vs end why e) where
+    at : ((words_of_row (v ∷ on_line v.line vs) ≡ None) × (why ≡ BadWord (ShiftLine (length earlier + 1)) v (WordCount (length (on_line v.line vs) + 1)))) ⊎ ((r : RowWords) × (words_of_row (v ∷ on_line v.line vs) ≡ Some r) × (shift_of earlier r ≡ Err why)) →
+        Fails (Row earlier next) (v ∷ vs) end why
+    at (inl f) = count_fails end why f.0 f.1
+    at (inr f) = shift_fails end why f.0 (words_are (v ∷ on_line v.line vs) f.0 f.1) (shift_stuck earlier f.0 why f.2)
+
+-- a row that is refused, or is not there
+pub row_fails : (earlier : List ShiftRow) (next : ShiftRow → Awaited) (vs : List Lexeme) (end : ℕ) (why : Misfit) → IsSound (Row earlier next) → shift_at earlier (unread vs end) ≡ Err why → Fails (Row earlier next) vs end why
+unfolding shift_at row_words_at next_at
+row_fails earlier next [] end why sound e =
+    let c : Completion (Row earlier next) end = complete (Row earlier next) sound end in
+    subst (Fails (Row earlier next) [] end) (err_same {X = ShiftRow × Unread} (TextEnds (ShiftLine (length earlier + 1)) end) why e) (refl, record { lines = c.lines; are_lines = c.words; P = c.P; reads = c.reads })
+row_fails earlier next (v ∷ vs) end why sound e = line_fails earlier next v vs sound end why e
