@@ -20,7 +20,8 @@ mod shifts;
 
 pub use explain::explain_refusal;
 pub use laws::{
-    canonical_texts_spell, refusals_are_explained, texts_spell_one, texts_spell_or_fail,
+    canonical_texts_spell, refusals_are_explained, refusals_are_first, texts_spell_one,
+    texts_spell_or_fail,
 };
 pub use long_numbers::{LongNumber, numeric_long_names};
 pub use print::print_problem;
