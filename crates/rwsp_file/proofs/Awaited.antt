@@ -5,7 +5,7 @@ use Rattle.rwsp_terms.specs.Instance.{Instance}
 use Rattle.rwsp_terms.specs.declared.data.Bounds.{Bounds}
 use Rattle.rwsp_terms.specs.declared.data.ShiftRow.{ShiftRow}
 use Rattle.rwsp_terms.specs.declared.data.Symbol.{Symbol}
-use Rattle.rwsp_file.specs.Reading.{Unread, ◌>>=◌, or_refuse, next_at, limit_of, limited, limited_weeks, limited_demand, number_at, weeks_at, demand_at, symbol_at, shift_at, many, each, nothing_of, size_at, demand_row_at, demand_rows_at, shift_rows_at, bounds_at, frame_at, pair_at, triple_at, pairs_at, triples_at, sequences_at, reading, instance_from}
+use Rattle.rwsp_file.specs.Reading.{Unread, ◌>>=◌, or_refuse, limit_of, limited, limited_weeks, limited_demand, number_at, weeks_at, demand_at, symbol_at, shift_at, many, each, nothing_of, size_at, demand_rows_at, shift_rows_at, bounds_at, frame_at, pair_at, triple_at, pairs_at, triples_at, sequences_at, reading, instance_from}
 use Rattle.rwsp_terms.specs.Instance.{symbol_among}
 use Rattle.rwsp_file.specs.declared.fields.Size.{Size}
 use Rattle.rwsp_file.specs.declared.fields.Frame.{Frame}

@@ -1,5 +1,5 @@
 -- Why the row of a shift is refused, and that the refused word is the first of the row that fails.
-use Rattle.std.proofs.Common.{◌≡◌, ◌≢◌, ℕ, suc, ◌+◌, ◌≤◌, List, [], ◌∷◌, ◌++◌, length, true, Option, Some, None, Result, Ok, Err, refl, ap, sym, ◌∙◌, subst, arith, inl, inr, ◌⊎◌, append_assoc, append-nil}
+use Rattle.std.proofs.Common.{◌≡◌, ◌≢◌, ℕ, ◌+◌, List, [], ◌∷◌, ◌++◌, length, true, Option, Some, None, Result, Ok, Err, refl, ap, sym, ◌∙◌, subst, arith, inl, inr, ◌⊎◌, append_assoc, append-nil}
 use Rattle.std.specs.List.{AllByRecursion}
 use Rattle.std.proofs.lemmas.Option.{same_Some}
 use Rattle.rwsp_text.specs.Lexemes.{Lexeme}
@@ -27,7 +27,7 @@ use Rattle.rwsp_file.proofs.WordForms.{all_front, first_word}
 use Rattle.rwsp_file.proofs.Awaited.{Awaited, read_on}
 use Rattle.rwsp_file.proofs.Awaited.Awaited.{Row}
 use Rattle.rwsp_file.proofs.SoundParts.{lexeme_on, IsSound, IsRefused, IsNumberPlace, IsRefusedAt, limited_refused, failed, err_same, bind_err, zero_word, zero_is_word}
-use Rattle.rwsp_file.proofs.RowLines.{AllOn, Off, first_line, cut_line, off_line, joined_line, first_joined, ReadRow, shift_read, row_in_front}
+use Rattle.rwsp_file.proofs.RowLines.{AllOn, Off, cut_line, off_line, joined_line, first_joined, ReadRow, shift_read, row_in_front}
 use Rattle.rwsp_file.proofs.Completions.{on_one, on_fresh, starts_fresh, off_later, on_one_line, Numbered, zero_numbered, GoodRow, five_words, six_words, fresh_row, fresh_row_words, fresh_row_good, Completion, complete}
 use Rattle.rwsp_file.proofs.Reached.{read_row}
 use Rattle.rwsp_file.proofs.LexemeFailures.{GoesOn, FailsAt, Fails, reads_lead, ends_clash}

@@ -12,7 +12,6 @@ use Rattle.rwsp_terms.specs.declared.data.Symbol.{Symbol}
 use Rattle.rwsp_terms.proofs.Elements.{all_from}
 use Rattle.rwsp_model.specs.Validity.{is_between, is_small_range, breaks_name}
 use Rattle.rwsp_model.proofs.Names.{IsWord}
-use Rattle.rwsp_file.specs.Spelling.{IsDemand}
 use Rattle.rwsp_file.specs.Reading.{◌>>=◌, or_refuse, limit_of, limited, limited_weeks, limited_demand, written_demand}
 use Rattle.rwsp_file.specs.FirstFailures.{IsNoNumber, IsOutside, IsBeyond, IsNoLongName, RestsOn, HasFault}
 use Rattle.rwsp_file.specs.declared.limits.Limit.{Limit}

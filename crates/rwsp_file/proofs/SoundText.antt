@@ -1,5 +1,5 @@
 -- All that is awaited of a text fails for the reasons that are given, and can be written.
-use Rattle.std.proofs.Common.{◌≡◌, ℕ, zero, suc, ◌+◌, ◌≤◌, List, [], ◌∷◌, ◌++◌, length, refl, ap, sym, ◌∙◌, arith, append_assoc, append-nil}
+use Rattle.std.proofs.Common.{◌≡◌, ℕ, zero, suc, ◌+◌, ◌≤◌, List, [], ◌∷◌, ◌++◌, length, ap, sym, ◌∙◌, arith, append_assoc, append-nil}
 use Rattle.std.proofs.lemmas.List.{length-append}
 use Rattle.rwsp_terms.specs.Instance.{Instance}
 use Rattle.rwsp_terms.specs.declared.data.Bounds.{Bounds}
@@ -11,7 +11,7 @@ use Rattle.rwsp_file.specs.declared.fields.Size.{Size}
 use Rattle.rwsp_file.specs.declared.fields.Frame.{Frame}
 use Rattle.rwsp_file.specs.declared.misfit.Place.{Place}
 use Rattle.rwsp_file.specs.declared.misfit.Place.TheVariants.{Days, Shifts, Demand, LeastOff, GreatestOff, LeastWork, GreatestWork, Pairs, Triples, InPair, InTriple}
-use Rattle.rwsp_file.proofs.Awaited.{Awaited, many_part, each_part, number_part, weeks_part, symbol_part, make_bounds, size_part, demand_part, demand_row_part, demand_rows_part, shift_rows_part, bounds_part, frame_part, pair_part, triple_part, pairs_part, triples_part, behind_frame, behind_shifts, behind_demand, behind_size, whole_text}
+use Rattle.rwsp_file.proofs.Awaited.{Awaited, many_part, each_part, number_part, weeks_part, symbol_part, make_bounds, demand_part, demand_row_part, demand_rows_part, bounds_part, frame_part, pair_part, triple_part, pairs_part, triples_part, behind_frame, behind_shifts, behind_demand, behind_size, whole_text}
 use Rattle.rwsp_file.proofs.Awaited.Awaited.{End, Row}
 use Rattle.rwsp_file.proofs.PartReaders.{make_size, make_frame}
 use Rattle.rwsp_file.proofs.SoundParts.{Leads, IsSound, IsNumberPlace, sound_from_zero, sound_from_one, sound_weeks, sound_demand, sound_symbol}

@@ -1,5 +1,5 @@
 -- A text is cut at a lexeme, and gone on with behind its end or in front of the lexeme.
-use Rattle.std.proofs.Common.{◌≡◌, ℕ, zero, suc, ◌+◌, ◌≤◌, List, [], ◌∷◌, ◌++◌, length, Bool, true, false, refl, ap, sym, ◌∙◌, subst, arith, ◌==◌, ◌||◌, cond, map, inl, inr, append_assoc, append-nil, ◌⊎◌}
+use Rattle.std.proofs.Common.{◌≡◌, ℕ, zero, suc, ◌+◌, ◌≤◌, List, [], ◌∷◌, ◌++◌, length, Bool, true, false, refl, ap, sym, ◌∙◌, subst, arith, ◌==◌, ◌||◌, cond, map, inl, inr, append_assoc, append-nil}
 use Rattle.std.specs.Prelude.{IsTrue}
 use Rattle.std.specs.List.{AllByRecursion, flat_map, enumerate_from, onto_first}
 use Rattle.std.proofs.lemmas.Bool.{eqb-true, or_from, or_left}
