@@ -151,22 +151,10 @@ const REFUSALS: [(&[u8], Cause); 18] = [
     (b"rwsp-fill 1\nrules\ncells 1 1\n", Form(3)),
     (b"rwsp-fill 1\nrules\ncells 1 2 D\n", Form(3)),
     (b"rwsp-fill 1\nrules\ncells 7 1 D\n", Form(3)),
-    (
-        b"rwsp-fill 1\nrules\ncells 1 1 D 1 1 D\n",
-        Form(3),
-    ),
-    (
-        b"rwsp-fill 1\nrules\ncells 2 1 Q 1 1 D\n",
-        Form(3),
-    ),
-    (
-        b"rwsp-fill 1\nrules\ncells 1 1 Q 2 1\n",
-        Form(3),
-    ),
-    (
-        b"rwsp-fill 1\nrules\ncells 1 1 Q 2 1 D\n",
-        Name(3),
-    ),
+    (b"rwsp-fill 1\nrules\ncells 1 1 D 1 1 D\n", Form(3)),
+    (b"rwsp-fill 1\nrules\ncells 2 1 Q 1 1 D\n", Form(3)),
+    (b"rwsp-fill 1\nrules\ncells 1 1 Q 2 1\n", Form(3)),
+    (b"rwsp-fill 1\nrules\ncells 1 1 Q 2 1 D\n", Name(3)),
 ];
 
 // Whether the header of the text is refused for this cause.

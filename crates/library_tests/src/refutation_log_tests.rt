@@ -105,15 +105,9 @@ const REFUSALS: [(&[u8], Cause); 41] = [
     (b"rwsp-log 3\nrules\nturn D\n", Form(3)),
     (b"rwsp-log 3\nrules\nturn\n", Ends),
     (b"rwsp-log 1\nrules\nblocks D\n", Form(3)),
-    (
-        b"rwsp-log 2\nrules\nturn D 1\nblocks D\n",
-        Form(4),
-    ),
+    (b"rwsp-log 2\nrules\nturn D 1\nblocks D\n", Form(4)),
     (b"rwsp-log 3\nrules\nturn\nblocks Q\n", Name(4)),
-    (
-        b"rwsp-log 3\nrules\nturn\nblocks D D\n",
-        Form(4),
-    ),
+    (b"rwsp-log 3\nrules\nturn\nblocks D D\n", Form(4)),
     (b"rwsp-log 2\nrules\nopen\n", Form(3)),
     (b"rwsp-log 2\nrules\nturn Q 1\n", Name(3)),
     (b"rwsp-log 2\nrules\nturn D 2\n", Form(3)),
@@ -167,16 +161,10 @@ const REFUSALS: [(&[u8], Cause); 41] = [
         b"rwsp-log 1\nrules\nbound 1 1 1 rules weights 1 D 1 1 - 1 1 Q\n",
         Form(3),
     ),
-    (
-        b"rwsp-log 1\nrules\nwindow 1 1 1 16801\n",
-        Form(3),
-    ),
+    (b"rwsp-log 1\nrules\nwindow 1 1 1 16801\n", Form(3)),
     (b"rwsp-log 1\nrules\nopened\n", Form(3)),
     (b"rwsp-log 1\nrules\nfew\n", Form(3)),
-    (
-        b"rwsp-log 1\nrules\nfree 1 1 rules weights\n",
-        Form(3),
-    ),
+    (b"rwsp-log 1\nrules\nfree 1 1 rules weights\n", Form(3)),
 ];
 
 // Whether the text is refused for this cause.

@@ -40,14 +40,6 @@ const PASSING: [(&[u8], &[u8], &[u32]); 3] = [
     ),
 ];
 
-// A log without a goal.
-fn plain(text: &[u8]) -> UncheckedLog<'_> {
-    UncheckedLog {
-        kind: LogKind::WithoutGoal,
-        bytes: text,
-    }
-}
-
 // The rules that a log names, if it passes.
 fn passed_rules<R: Threads + Sync>(
     rt: &R,
@@ -58,7 +50,11 @@ fn passed_rules<R: Threads + Sync>(
     if text.len() > 1_000 {
         return None;
     }
-    match check_with(rt, alloc, problem, plain(text), 1, &NoGate) {
+    let log = UncheckedLog {
+        kind: LogKind::WithoutGoal,
+        bytes: text,
+    };
+    match check_with(rt, alloc, problem, log, 1, &NoGate) {
         Ok(passed) => Some(passed.named),
         Err(_) => None,
     }
@@ -82,7 +78,10 @@ fn passes_by<R: Threads + Sync>(
 fn logs_that_pass(rt: HostRuntime) -> Result<(), Fail> {
     for (problem, text, rules) in PASSING {
         let problem = problem_of(rt.alloc(), problem)?;
-        assert!(rt; passes_by(&rt, rt.alloc(), &problem, text, rules), "{rules:?}");
+        assert!(rt;
+            passes_by(&rt, rt.alloc(), &problem, text, rules),
+            "{rules:?}"
+        );
     }
     Ok(())
 }
@@ -97,7 +96,11 @@ fn unfinished_line<R: Threads + Sync>(
     if text.len() > 1_000 {
         return None;
     }
-    match check_with(rt, alloc, problem, plain(text), 1, &NoGate) {
+    let log = UncheckedLog {
+        kind: LogKind::WithoutGoal,
+        bytes: text,
+    };
+    match check_with(rt, alloc, problem, log, 1, &NoGate) {
         Err(Refused(LogRefusal::Unfinished(line))) => Some(line),
         _ => None,
     }
