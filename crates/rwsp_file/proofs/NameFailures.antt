@@ -57,18 +57,18 @@ name_refused earlier w why e = at (nat_le (length w.text) LONGEST_NAME) refl (by
     fault = LongName;
     same = sym (err_same {X = List ℕ} (BadWord (ShiftName (length earlier + 1)) w LongName) why g);
     rests = λ left. tt;
-    broken = λ P begins. grind (arith, nat_tests);
+    broken = λ front P begins. grind (arith, nat_tests);
   }
   at true h true i old j g = record {
     fault = OffName;
     same = sym (err_same {X = List ℕ} (BadWord (ShiftName (length earlier + 1)) w OffName) why g);
     rests = λ left. tt;
-    broken = λ P begins. (bytes_eq-Decides w.text off_name).0 i;
+    broken = λ front P begins. (bytes_eq-Decides w.text off_name).0 i;
   }
   at true h false i true j g = record {
     fault = TakenName (holder earlier w.text);
     same = sym (err_same {X = List ℕ} (BadWord (ShiftName (length earlier + 1)) w (TakenName (holder earlier w.text))) why g);
     rests = λ left. tt;
-    broken = λ P begins. taken earlier w.text P j begins;
+    broken = λ front P begins. taken earlier w.text P j begins;
   }
   at true h false i false j g = absurd (cc)

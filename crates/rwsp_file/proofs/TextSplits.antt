@@ -137,6 +137,10 @@ lexemes_behind bytes (words ∷ lines) h =
     ∙ ap (λ k. lexemes bytes ++ lexemes_from k (spread words ++ spread_lines lines)) next
     ∙ ap (λ ws. lexemes bytes ++ ws) (lexemes_written (last_line bytes + 1) words lines h.0 h.1)
 
+pub lines_end_word : (lines : List (List (List ℕ))) → EndsWord (spread_lines lines)
+lines_end_word [] = tt
+lines_end_word (words ∷ lines) = refl
+
 -- a text is cut in front of one of its lexemes
 pub record Split (n : ℕ) (bytes : List ℕ) (before : List Lexeme) (w : Lexeme) (after : List Lexeme) : Type 0 where
   pub front : List ℕ
