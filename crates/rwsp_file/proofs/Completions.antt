@@ -1,5 +1,5 @@
 -- What is awaited of a text can be written, on new lines.
-use Rattle.std.proofs.Common.{◌≡◌, ℕ, ◌+◌, ◌<◌, ◌≤◌, List, [], ◌∷◌, ◌++◌, length, Bool, true, false, Some, Result, Ok, refl, ap, sym, ◌∙◌, arith, map, ◌==◌}
+use Rattle.std.proofs.Common.{◌≡◌, ℕ, ◌+◌, ◌<◌, ◌≤◌, List, [], ◌∷◌, ◌++◌, length, true, Some, Result, Ok, refl, ap, arith, map}
 use Rattle.std.specs.List.{AllByRecursion}
 use Rattle.std.proofs.lemmas.Bool.{ne_eqb}
 use Rattle.rwsp_text.specs.Lexemes.{Lexeme}
@@ -7,8 +7,8 @@ use Rattle.rwsp_text.specs.Numbers.{number_of}
 use Rattle.rwsp_terms.specs.Instance.{Instance}
 use Rattle.rwsp_terms.specs.declared.data.ShiftRow.{ShiftRow}
 use Rattle.rwsp_model.proofs.Names.{IsWord}
-use Rattle.rwsp_file.specs.Spelling.{IsRow, is_on_line}
-use Rattle.rwsp_file.specs.Reading.{Unread, ◌>>=◌, next_at, shift_at, is_new_name}
+use Rattle.rwsp_file.specs.Spelling.{IsRow}
+use Rattle.rwsp_file.specs.Reading.{◌>>=◌, next_at, shift_at, is_new_name}
 use Rattle.rwsp_file.specs.declared.misfit.Misfit.{Misfit}
 use Rattle.rwsp_file.specs.declared.misfit.Place.{Place}
 use Rattle.rwsp_file.proofs.Readers.{one_word, then_ok}
@@ -63,6 +63,7 @@ abbrev pub GoodRow : List ShiftRow → List Lexeme → Type 0
 GoodRow earlier ws = (row : ShiftRow) × IsGoodRow earlier row × IsRow row ws
 
 module _ (earlier : List ShiftRow) (a b c d f : Lexeme) (name : is_new_name earlier a.text ≡ true) (p : Numbered b) (q : Numbered c) (r : Numbered d) (s : Numbered f) where
+  -- the row that five words spell
   abbrev made : ShiftRow
   made = record { name = a.text; start = p.0; length = q.0; bounds = record { least = r.0; greatest = s.0 } }
 

@@ -1,5 +1,5 @@
 -- The first failure among the lexemes of a text.
-use Rattle.std.proofs.Common.{◌≡◌, ℕ, ◌+◌, ◌≤◌, List, [], ◌∷◌, ◌++◌, length, Result, Ok, Err, refl, ap, sym, ◌∙◌, subst, arith, append_assoc, append-nil}
+use Rattle.std.proofs.Common.{◌≡◌, ℕ, ◌+◌, List, [], ◌∷◌, ◌++◌, length, Result, Ok, Err, refl, ap, sym, ◌∙◌, subst, arith, append_assoc, append-nil}
 use Rattle.std.specs.List.{AllByRecursion}
 use Rattle.rwsp_text.specs.Lexemes.{Lexeme}
 use Rattle.rwsp_terms.specs.Instance.{Instance}
@@ -151,8 +151,8 @@ module _ (p q : Awaited) (us vs : List Lexeme) (end : ℕ) (r : Reach p q us vs 
   word_lifted awaited w fault f =
       let same : (more : List Lexeme) (g : ℕ) → StartsFrom w.line more → read_on p (unread ((r.before ++ f.before) ++ more) g) ≡ read_on q (unread (f.before ++ more) g) =
       λ more g starts.
-          ap (λ (zs : List Lexeme). read_on p (unread zs g)) (append_assoc r.before f.before more)
-          ∙ r.same (f.before ++ more) g (starts_at end vs f.before f.after more w f.whole starts) in
+      ap (λ (zs : List Lexeme). read_on p (unread zs g)) (append_assoc r.before f.before more)
+      ∙ r.same (f.before ++ more) g (starts_at end vs f.before f.after more w f.whole starts) in
       record {
         before = r.before ++ f.before;
         after = f.after;

@@ -1,5 +1,5 @@
 -- Where reading fails: what is read before it is read so whatever stands behind.
-use Rattle.std.proofs.Common.{◌≡◌, ℕ, ◌+◌, ◌<◌, ◌≤◌, List, [], ◌∷◌, ◌++◌, Bool, true, false, Result, Ok, Err, refl, ap, sym, ◌∙◌, subst, arith, append_assoc}
+use Rattle.std.proofs.Common.{◌≡◌, ℕ, ◌+◌, ◌<◌, ◌≤◌, List, [], ◌∷◌, ◌++◌, false, Result, Ok, Err, refl, ap, sym, ◌∙◌, subst, arith, append_assoc}
 use Rattle.std.proofs.lemmas.Bool.Decides.{nat_tests}
 use Rattle.rwsp_text.specs.Lexemes.{Lexeme}
 use Rattle.rwsp_terms.specs.Instance.{Instance}
@@ -14,7 +14,7 @@ use Rattle.rwsp_file.proofs.Lines.{unread}
 use Rattle.rwsp_file.proofs.Awaited.{Awaited, read_on}
 use Rattle.rwsp_file.proofs.Awaited.Awaited.{End, Word, Row}
 use Rattle.rwsp_file.proofs.SoundParts.{IsSound, failed, err_same}
-use Rattle.rwsp_file.proofs.RowLines.{AllOn, Off, first_line, cut_line, ReadRow, shift_read, shift_left, row_in_front}
+use Rattle.rwsp_file.proofs.RowLines.{AllOn, Off, cut_line, ReadRow, shift_read, shift_left, row_in_front}
 use Rattle.rwsp_file.proofs.Completions.{StartsFrom, off_later, word_reads}
 
 -- the lines of the lexemes rise from a first one on up to a last one

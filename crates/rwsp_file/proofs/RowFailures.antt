@@ -1,5 +1,5 @@
 -- Why the row of a shift is refused, and that the refused word is the first of the row that fails.
-use Rattle.std.proofs.Common.{◌≡◌, ◌≢◌, ℕ, suc, ◌+◌, ◌≤◌, List, [], ◌∷◌, ◌++◌, length, true, Option, Some, None, Result, Ok, Err, refl, ap, sym, ◌∙◌, subst, arith, inl, inr, ◌⊎◌, append_assoc, append-nil}
+use Rattle.std.proofs.Common.{◌≡◌, ◌≢◌, ℕ, ◌+◌, List, [], ◌∷◌, ◌++◌, length, true, Option, Some, None, Result, Ok, Err, refl, ap, sym, ◌∙◌, subst, arith, inl, inr, ◌⊎◌, append_assoc, append-nil}
 use Rattle.std.specs.List.{AllByRecursion}
 use Rattle.std.proofs.lemmas.Option.{same_Some}
 use Rattle.rwsp_text.specs.Lexemes.{Lexeme}
@@ -27,7 +27,7 @@ use Rattle.rwsp_file.proofs.WordForms.{all_front, first_word}
 use Rattle.rwsp_file.proofs.Awaited.{Awaited, read_on}
 use Rattle.rwsp_file.proofs.Awaited.Awaited.{Row}
 use Rattle.rwsp_file.proofs.SoundParts.{lexeme_on, IsSound, IsRefused, IsNumberPlace, IsRefusedAt, limited_refused, failed, err_same, bind_err, zero_word, zero_is_word}
-use Rattle.rwsp_file.proofs.RowLines.{AllOn, Off, first_line, cut_line, off_line, joined_line, first_joined, ReadRow, shift_read, row_in_front}
+use Rattle.rwsp_file.proofs.RowLines.{AllOn, Off, cut_line, off_line, joined_line, first_joined, ReadRow, shift_read, row_in_front}
 use Rattle.rwsp_file.proofs.Completions.{on_one, on_fresh, starts_fresh, off_later, on_one_line, Numbered, zero_numbered, GoodRow, five_words, six_words, fresh_row, fresh_row_words, fresh_row_good, Completion, complete}
 use Rattle.rwsp_file.proofs.Reached.{read_row}
 use Rattle.rwsp_file.proofs.LexemeFailures.{GoesOn, FailsAt, Fails, reads_lead, ends_clash}
@@ -85,10 +85,11 @@ words_none (a ∷ b ∷ c ∷ d ∷ f ∷ []) e = absurd (cc)
 words_none (a ∷ b ∷ c ∷ d ∷ f ∷ g ∷ []) e = absurd (cc)
 words_none (a ∷ b ∷ c ∷ d ∷ f ∷ g ∷ i ∷ ys) e = (λ n. omega (arith, n), λ n. omega (arith, n))
 
--- the words are five, or six
+-- the words are five
 abbrev IsFive : List Lexeme → RowWords → Type 0
 IsFive words r = words ≡ r.name ∷ r.start ∷ r.minutes ∷ r.least ∷ r.greatest ∷ []
 
+-- the words are six, of which the fourth is the long name
 abbrev IsSix : List Lexeme → RowWords → Type 0
 IsSix words r = (long_name : Lexeme) × (words ≡ r.name ∷ r.start ∷ r.minutes ∷ long_name ∷ r.least ∷ r.greatest ∷ [])
 
@@ -134,18 +135,23 @@ NumbersStuck shift r why =
     ⊎ (Numbered r.minutes × ((limited (LeastBlock shift) (limit_of 7 0 10000) r.least ≡ Err why)
     ⊎ (Numbered r.least × (limited (GreatestBlock shift) (limit_of 7 0 10000) r.greatest ≡ Err why))))))
 
+-- the numbers of a row: its start, its length and the bounds of its blocks
 abbrev Numbers : Type 0
 Numbers = ℕ × ℕ × Bounds
 
+-- these numbers
 abbrev numbers : ℕ → ℕ → ℕ → ℕ → Numbers
 numbers start minutes least greatest = (start, minutes, record { least = least; greatest = greatest })
 
+-- the numbers from the greatest length of blocks on
 abbrev after_least : ℕ → RowWords → ℕ → ℕ → ℕ → Result Numbers Misfit
 after_least shift r start minutes least = limited (GreatestBlock shift) (limit_of 7 0 10000) r.greatest >>= (λ greatest. Ok (numbers start minutes least greatest))
 
+-- the numbers from the least length of blocks on
 abbrev after_minutes : ℕ → RowWords → ℕ → ℕ → Result Numbers Misfit
 after_minutes shift r start minutes = limited (LeastBlock shift) (limit_of 7 0 10000) r.least >>= (λ least. after_least shift r start minutes least)
 
+-- the numbers from the length on
 abbrev after_start : ℕ → RowWords → ℕ → Result Numbers Misfit
 after_start shift r start = limited (Minutes shift) (limit_of 6 0 10000) r.minutes >>= (λ minutes. after_minutes shift r start minutes)
 
@@ -173,6 +179,7 @@ numbers_stuck shift r why e =
       of_start (inl f) = inl f
       of_start (inr f) = inr (of_minutes f.0 (numbered (Start shift) 6 r.start f.0 f.1) (bind_err (limited (Minutes shift) (limit_of 6 0 10000) r.minutes) (λ minutes. after_minutes shift r f.0 minutes) why f.2))
 
+-- the row with the name and the numbers
 abbrev row_of : List ℕ → Numbers → ShiftRow
 row_of name n = record { name = name; start = n.0; length = n.1; bounds = n.2 }
 

@@ -1,17 +1,15 @@
 -- The row of a shift takes its line, whatever stands on the lines behind it.
-use Rattle.std.proofs.Common.{◌≡◌, ◌≢◌, ℕ, suc, ◌+◌, ◌<◌, ◌≤◌, List, [], ◌∷◌, ◌++◌, length, Bool, true, false, cond, Option, Some, None, Result, Ok, Err, refl, ap, sym, ◌∙◌, subst, arith, take, drop, ◌==◌, append-nil, map}
+use Rattle.std.proofs.Common.{◌≡◌, ℕ, suc, ◌+◌, List, [], ◌∷◌, ◌++◌, length, Bool, true, false, cond, Some, Ok, refl, ap, sym, ◌∙◌, subst, arith, take, drop, append-nil}
 use Rattle.std.specs.List.{prefix_len, AllByRecursion}
 use Rattle.std.proofs.lemmas.Bool.{eq-eqb, eqb-true}
-use Rattle.std.proofs.lemmas.List.{take-append-drop}
 use Rattle.rwsp_text.specs.Lexemes.{Lexeme}
 use Rattle.rwsp_terms.specs.declared.data.ShiftRow.{ShiftRow}
 use Rattle.rwsp_file.specs.Spelling.{IsRow, is_on_line, on_line, past_line}
 use Rattle.rwsp_file.specs.Reading.{Unread, ◌>>=◌, row_words_at, words_of_row, shift_of, shift_at}
 use Rattle.rwsp_file.specs.declared.row.RowWords.{RowWords}
-use Rattle.rwsp_file.specs.declared.misfit.Misfit.{Misfit}
 use Rattle.rwsp_file.proofs.Readers.{bind_ok, then_ok, ok_same, given}
 use Rattle.rwsp_file.proofs.Lines.{unread}
-use Rattle.rwsp_file.proofs.RowReader.{AreWordsOf, words_found, words_only, IsGoodRow, shift_gives, row_found, row_only, rest_of, after_row, line_of}
+use Rattle.rwsp_file.proofs.RowReader.{AreWordsOf, words_found, words_only, IsGoodRow, shift_gives, row_found, row_only, after_row, line_of}
 
 -- all lexemes are on the line
 abbrev pub AllOn : ℕ → List Lexeme → Type 0

@@ -12,7 +12,6 @@ use Rattle.rwsp_terms.specs.declared.data.Symbol.{Symbol}
 use Rattle.rwsp_terms.proofs.Elements.{all_from}
 use Rattle.rwsp_model.specs.Validity.{is_between, is_small_range, breaks_name}
 use Rattle.rwsp_model.proofs.Names.{IsWord}
-use Rattle.rwsp_file.specs.Spelling.{IsDemand}
 use Rattle.rwsp_file.specs.Reading.{◌>>=◌, or_refuse, limit_of, limited, limited_weeks, limited_demand, written_demand}
 use Rattle.rwsp_file.specs.FirstFailures.{limit_at, IsNoNumber, IsOutside, IsBeyond, IsNoLongName, RestsOn, HasFault}
 use Rattle.rwsp_file.specs.declared.limits.Limit.{Limit}
@@ -61,6 +60,7 @@ IsSound (Row earlier next) =
     × ((P : Instance) → (row : ShiftRow) × Leads (next row) P → (rest : List ShiftRow) × (P.shifts ≡ earlier ++ rest))
     × ((row : ShiftRow) → IsSound (next row))
 
+-- a failure, in place of a value
 abbrev pub failed : {X : Type 0} → Misfit → Result X Misfit
 failed why = Err why
 
@@ -116,13 +116,15 @@ limited_refused awaited limit w why place e = at (number_of w.text) refl e where
   }
   at (Some n) h f = tested n (is_between limit.least limit.greatest n) h refl f
 
--- the words `0` and `1`
+-- the word `0`
 abbrev pub zero_word : List ℕ
 zero_word = 48 ∷ []
 
-abbrev pub one_word : List ℕ
-one_word = 49 ∷ []
+-- the word `1`
+abbrev pub unit_word : List ℕ
+unit_word = 49 ∷ []
 
+-- the word `-`, the name of the day off
 abbrev pub off_word : List ℕ
 off_word = 45 ∷ []
 
@@ -132,8 +134,8 @@ short_word b e ne = record { some = omega arith; unbroken = all_from (λ c. brea
 pub zero_is_word : IsWord zero_word
 zero_is_word = short_word 48 refl (λ e. let no : 48 ≡ 35 = e in omega (arith, no))
 
-pub one_is_word : IsWord one_word
-one_is_word = short_word 49 refl (λ e. let no : 49 ≡ 35 = e in omega (arith, no))
+pub unit_is_word : IsWord unit_word
+unit_is_word = short_word 49 refl (λ e. let no : 49 ≡ 35 = e in omega (arith, no))
 
 pub off_is_word : IsWord off_word
 off_is_word = short_word 45 refl (λ e. let no : 45 ≡ 35 = e in omega (arith, no))
@@ -152,7 +154,7 @@ pub sound_from_zero : (awaited : Place) (number greatest : ℕ) (next : ℕ → 
 sound_from_zero awaited number greatest next place alone more = sound_number awaited (limit_of number 0 greatest) 0 zero_word next place alone zero_is_word refl (omega arith, omega arith) (λ m _. more m)
 
 pub sound_from_one : (awaited : Place) (number greatest : ℕ) (next : ℕ → Awaited) → 1 ≤ greatest → IsNumberPlace awaited (limit_of number 1 greatest) → ((left : ℕ) → IsNoLongName awaited left) → ((m : ℕ) → m ≤ greatest → IsSound (next m)) → IsSound (number_part awaited (limit_of number 1 greatest) next)
-sound_from_one awaited number greatest next some place alone more = sound_number awaited (limit_of number 1 greatest) 1 one_word next place alone one_is_word refl (omega arith, some) more
+sound_from_one awaited number greatest next some place alone more = sound_number awaited (limit_of number 1 greatest) 1 unit_word next place alone unit_is_word refl (omega arith, some) more
 
 -- weeks: 1 is never too many
 weeks_refused : (days : ℕ) (w : Lexeme) (why : Misfit) (Here : Instance → Type 0) → ((P : Instance) → Here P → days ≡ P.days) → limited_weeks days w ≡ Err why → IsRefused Weeks w why Here
@@ -176,7 +178,7 @@ weeks_refused days w why Here kept e =
 
 pub sound_weeks : (days : ℕ) (next : ℕ → Awaited) → days ≤ 28 → ((P : Instance) → (n : ℕ) × Leads (next n) P → days ≡ P.days) → ((n : ℕ) → IsSound (next n)) → IsSound (weeks_part days next)
 sound_weeks days next few kept more = (
-  record { text = one_word; word = one_is_word; gives = λ line. (1, (weeks_gives days (lexeme_on line one_word)).only 1 (((omega arith, omega arith), omega (arith, few)), refl)) },
+  record { text = unit_word; word = unit_is_word; gives = λ line. (1, (weeks_gives days (lexeme_on line unit_word)).only 1 (((omega arith, omega arith), omega (arith, few)), refl)) },
   λ w why e. weeks_refused days w why (λ P. (n : ℕ) × Leads (next n) P) kept e,
   λ w n e. more n,
 )

@@ -11,7 +11,7 @@ use Rattle.rwsp_file.specs.declared.fields.Size.{Size}
 use Rattle.rwsp_file.specs.declared.fields.Frame.{Frame}
 use Rattle.rwsp_file.specs.declared.misfit.Place.{Place}
 use Rattle.rwsp_file.specs.declared.misfit.Place.TheVariants.{Days, Shifts, Demand, LeastOff, GreatestOff, LeastWork, GreatestWork, Pairs, Triples, InPair, InTriple}
-use Rattle.rwsp_file.proofs.Awaited.{Awaited, many_part, each_part, number_part, weeks_part, symbol_part, make_bounds, size_part, demand_part, demand_row_part, demand_rows_part, shift_rows_part, bounds_part, frame_part, pair_part, triple_part, pairs_part, triples_part, behind_frame, behind_shifts, behind_demand, behind_size, whole_text}
+use Rattle.rwsp_file.proofs.Awaited.{Awaited, many_part, each_part, number_part, weeks_part, symbol_part, make_bounds, demand_part, demand_row_part, demand_rows_part, bounds_part, frame_part, pair_part, triple_part, pairs_part, triples_part, behind_frame, behind_shifts, behind_demand, behind_size, whole_text}
 use Rattle.rwsp_file.proofs.Awaited.Awaited.{End, Row}
 use Rattle.rwsp_file.proofs.PartReaders.{make_size, make_frame}
 use Rattle.rwsp_file.proofs.SoundParts.{Leads, IsSound, IsNumberPlace, sound_from_zero, sound_from_one, sound_weeks, sound_demand, sound_symbol}
@@ -62,6 +62,7 @@ sound_shifts (suc n) earlier next few kept more = (
 
 -- the other parts
 
+-- any instance
 abbrev IsFree : Instance → Type 0
 IsFree P = Unit {0}
 
@@ -85,6 +86,7 @@ pair_leads rows pair next P h = ((h.0, h.1.0), h.1.1)
 triple_leads : (rows : List ShiftRow) (triple : ℕ) → IsLeading (triple_part rows triple)
 triple_leads rows triple next P h = ((h.0, h.1.0, h.1.1.0), h.1.1.1)
 
+-- the instance has just these shifts
 abbrev HasRows : List ShiftRow → Instance → Type 0
 HasRows rows P = P.shifts ≡ rows
 

@@ -1,5 +1,5 @@
 -- A text is cut at a lexeme, and gone on with behind its end or in front of the lexeme.
-use Rattle.std.proofs.Common.{◌≡◌, ℕ, zero, suc, ◌+◌, ◌≤◌, List, [], ◌∷◌, ◌++◌, length, Bool, true, false, refl, ap, sym, ◌∙◌, subst, arith, ◌==◌, ◌||◌, cond, map, inl, inr, append_assoc, append-nil, ◌⊎◌}
+use Rattle.std.proofs.Common.{◌≡◌, ℕ, zero, suc, ◌+◌, ◌≤◌, List, [], ◌∷◌, ◌++◌, length, Bool, true, false, refl, ap, sym, ◌∙◌, subst, arith, ◌==◌, ◌||◌, cond, map, inl, inr, append_assoc, append-nil}
 use Rattle.std.specs.Prelude.{IsTrue}
 use Rattle.std.specs.List.{AllByRecursion, flat_map, enumerate_from, onto_first}
 use Rattle.std.proofs.lemmas.Bool.{eqb-true, or_from, or_left}
@@ -27,6 +27,7 @@ lines_joined n (l ∷ ls) ms =
 
 -- there is always a first line
 
+-- there is a first line
 abbrev HasLine : List (List ℕ) → Type 0
 HasLine ls = (first : List ℕ) × (rest : List (List ℕ)) × (ls ≡ first ∷ rest)
 
@@ -89,10 +90,12 @@ last_joined (b ∷ t) bytes h = last_by b (lines_of (t ++ bytes)) (b == 10) h.0 
 
 -- words that are written on a line, each with a blank behind it, and on new lines
 
+-- words on a line, each with a blank behind it
 abbrev pub spread : List (List ℕ) → List ℕ
 spread [] = []
 spread (word ∷ words) = word ++ 32 ∷ spread words
 
+-- lines of such words, each behind a line feed
 abbrev pub spread_lines : List (List (List ℕ)) → List ℕ
 spread_lines [] = []
 spread_lines (words ∷ lines) = 10 ∷ (spread words ++ spread_lines lines)

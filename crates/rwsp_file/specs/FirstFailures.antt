@@ -1,5 +1,5 @@
 -- That the word at which a text is refused is the first that fails.
-use Rattle.std.specs.Prelude.{◌≡◌, ◌≢◌, ℕ, ◌+◌, ◌*◌, ◌<◌, ◌≤◌, List, [], ◌∷◌, ◌++◌, length, ◌⊎◌, Option, Some, None, IsTrue, ◌||◌, ◌==◌}
+use Rattle.std.specs.Prelude.{◌≡◌, ◌≢◌, ℕ, ◌+◌, ◌*◌, ◌<◌, ◌≤◌, List, [], ◌∷◌, ◌++◌, length, ◌⊎◌, Some, None, IsTrue, ◌||◌, ◌==◌}
 use Rattle.rwsp_text.specs.Lexemes.{Lexeme, lexemes, lexemes_from, last_line, is_space}
 use Rattle.rwsp_text.specs.Numbers.{number_of}
 use Rattle.rwsp_terms.specs.declared.limits.TheConstants.{MOST_DAYS, MOST_WEEKS, MOST_CELLS, MOST_SHIFTS, GREATEST_BOUND, MOST_SEQUENCES, LONGEST_NAME}
@@ -9,7 +9,7 @@ use Rattle.rwsp_file.specs.Spelling.{SpellsProblem, IsDemand, on_line}
 use Rattle.rwsp_file.specs.Reading.{first_misfit, limit_of}
 use Rattle.rwsp_file.specs.declared.limits.Limit.{Limit}
 use Rattle.rwsp_file.specs.declared.misfit.Place.{Place}
-use Rattle.rwsp_file.specs.declared.misfit.Place.TheVariants.{Days, Weeks, Shifts, Demand, Start, Minutes, LeastBlock, Pairs, Triples}
+use Rattle.rwsp_file.specs.declared.misfit.Place.TheVariants.{Days, Weeks, Shifts, Demand, ShiftName, Start, Minutes, LeastBlock, Pairs, Triples}
 use Rattle.rwsp_file.specs.declared.misfit.Fault.{Fault}
 use Rattle.rwsp_file.specs.declared.misfit.Fault.TheVariants.{NoNumber, Beyond, TooManyDays, WordCount, LongName, OffName, TakenName, NoSymbol, NotEnd}
 use Rattle.rwsp_file.specs.declared.misfit.Misfit.{Misfit}
@@ -79,6 +79,11 @@ IsBeyond (Demand shift day) limit text =
     (range : Bounds) × IsDemand range text × (IsOutside limit range.least ⊎ IsOutside limit range.greatest)
 IsBeyond awaited limit text = (n : ℕ) × (number_of text ≡ Some n) × IsOutside limit n
 
+-- the number is that of a shift before the one whose name is awaited
+abbrev pub IsEarlier : Place → ℕ → Type 0
+IsEarlier (ShiftName shift) k = (1 ≤ k) × (k < shift)
+IsEarlier awaited k = ⊥
+
 -- what a fault says of the word is so, where a text of the instance begins with `front`, the bytes before the word:
 -- the instance has the days, the earlier shift and the symbols that are spelled there, and it is whole where the text
 -- should have ended
@@ -90,7 +95,8 @@ HasFault front P awaited text (TooManyDays n days) =
 HasFault front P awaited text (WordCount n) = (n ≢ 5) × (n ≢ 6)
 HasFault front P awaited text LongName = LONGEST_NAME < length text
 HasFault front P awaited text OffName = text ≡ off_name
-HasFault front P awaited text (TakenName k) = (1 ≤ k) × (k ≤ shift_count P) × (text ≡ name_numbered P k)
+HasFault front P awaited text (TakenName k) =
+    IsEarlier awaited k × (k ≤ shift_count P) × (text ≡ name_numbered P k)
 HasFault front P awaited text NoSymbol = symbol_of P text ≡ None
 HasFault front P awaited text NotEnd = SpellsProblem front P
 
