@@ -78,11 +78,13 @@ many_read part read one (suc n) earlier = record {
       step.goes next u ∙ ap (λ r. r >>= (λ p. read_on (next p.0) p.1)) (sym (many_suc read n earlier u));
 }
 
+-- parts of one kind, by their numbers from 1 on
 abbrev pub each_part : {X : Type 0} → (ℕ → (X → Awaited) → Awaited) → List X → (X → Awaited) → Awaited
 each_part part earlier = part (length earlier + 1)
 
 -- the parts of a text
 
+-- a number is awaited
 abbrev pub number_part : Place → Limit → (ℕ → Awaited) → Awaited
 number_part awaited limit next = Word ℕ awaited (limited awaited limit) next
 
@@ -90,6 +92,7 @@ pub number_read : (awaited : Place) (limit : Limit) → IsReadAs (number_part aw
 unfolding number_at read_on
 number_read awaited limit = record { goes = λ next u. refl }
 
+-- the weeks are awaited, of so many days
 abbrev pub weeks_part : ℕ → (ℕ → Awaited) → Awaited
 weeks_part days next = Word ℕ Weeks (limited_weeks days) next
 
@@ -97,6 +100,7 @@ weeks_read : (days : ℕ) → IsReadAs (weeks_part days) (weeks_at days)
 unfolding weeks_at read_on
 weeks_read days = record { goes = λ next u. refl }
 
+-- the days, the weeks and the shifts
 abbrev pub size_part : (Size → Awaited) → Awaited
 size_part next =
     number_part Days (limit_of 1 1 28) (λ days. weeks_part days (λ weeks. number_part Shifts (limit_of 4 1 8) (λ shifts. next (make_size days weeks shifts))))
@@ -108,6 +112,7 @@ size_read =
     then_read (weeks_read days) (λ weeks.
     then_read (number_read Shifts (limit_of 4 1 8)) (λ shifts. gives_read (make_size days weeks shifts))))
 
+-- a demand
 abbrev pub demand_part : Place → (Bounds → Awaited) → Awaited
 demand_part awaited next = Word Bounds awaited (limited_demand awaited) next
 
@@ -115,9 +120,11 @@ demand_read : (awaited : Place) → IsReadAs (demand_part awaited) (demand_at aw
 unfolding demand_at read_on
 demand_read awaited = record { goes = λ next u. refl }
 
+-- the demands of a shift, one for each day
 abbrev pub demand_row_part : ℕ → ℕ → (List Bounds → Awaited) → Awaited
 demand_row_part days shift next = many_part (each_part (λ day. demand_part (Demand shift day))) days [] next
 
+-- the demands of all shifts
 abbrev pub demand_rows_part : Size → (List (List Bounds) → Awaited) → Awaited
 demand_rows_part size next = many_part (each_part (demand_row_part size.days)) size.shifts [] next
 
@@ -127,6 +134,7 @@ demand_rows_read size =
     many_read (each_part (λ day. demand_part (Demand (length rows + 1) day))) (each (λ day. demand_at (Demand (length rows + 1) day))) (λ days.
     demand_read (Demand (length rows + 1) (length days + 1))) size.days []) size.shifts []
 
+-- the rows of all shifts
 abbrev pub shift_rows_part : ℕ → (List ShiftRow → Awaited) → Awaited
 shift_rows_part count next = many_part Row count [] next
 
@@ -137,9 +145,11 @@ row_read earlier = record { goes = λ next u. refl }
 shift_rows_read : (count : ℕ) → IsReadAs (shift_rows_part count) (shift_rows_at count)
 shift_rows_read count = many_read Row shift_at row_read count []
 
+-- a least and a greatest number
 abbrev pub make_bounds : ℕ → ℕ → Bounds
 make_bounds least greatest = record { least = least; greatest = greatest }
 
+-- bounds of blocks
 abbrev pub bounds_part : (least greatest : Place) → (Bounds → Awaited) → Awaited
 bounds_part low high next = number_part low (limit_of 7 0 10000) (λ least. number_part high (limit_of 7 0 10000) (λ greatest. next (make_bounds least greatest)))
 
@@ -149,6 +159,7 @@ bounds_read low high =
     then_read (number_read low (limit_of 7 0 10000)) (λ least.
     then_read (number_read high (limit_of 7 0 10000)) (λ greatest. gives_read (make_bounds least greatest)))
 
+-- the bounds of blocks of days off and of work, and the counts of pairs and triples
 abbrev pub frame_part : (Frame → Awaited) → Awaited
 frame_part next =
     bounds_part LeastOff GreatestOff (λ off. bounds_part LeastWork GreatestWork (λ work.
@@ -166,6 +177,7 @@ frame_read =
 abbrev pub named_symbol : Place → List ShiftRow → Lexeme → Result Symbol Misfit
 named_symbol awaited rows w = or_refuse (symbol_among rows w.text) (BadWord awaited w NoSymbol)
 
+-- a symbol of these shifts
 abbrev pub symbol_part : Place → List ShiftRow → (Symbol → Awaited) → Awaited
 symbol_part awaited rows next = Word Symbol awaited (named_symbol awaited rows) next
 
@@ -173,6 +185,7 @@ symbol_read : (awaited : Place) (rows : List ShiftRow) → IsReadAs (symbol_part
 unfolding symbol_at read_on
 symbol_read awaited rows = record { goes = λ next u. refl }
 
+-- a forbidden pair
 abbrev pub pair_part : List ShiftRow → ℕ → (Symbol × Symbol → Awaited) → Awaited
 pair_part rows pair next = symbol_part (InPair pair 1) rows (λ x. symbol_part (InPair pair 2) rows (λ y. next (x, y)))
 
@@ -182,6 +195,7 @@ pair_read rows pair =
     then_read (symbol_read (InPair pair 1) rows) (λ x.
     then_read (symbol_read (InPair pair 2) rows) (λ y. gives_read (x, y)))
 
+-- a forbidden triple
 abbrev pub triple_part : List ShiftRow → ℕ → (Symbol × Symbol × Symbol → Awaited) → Awaited
 triple_part rows triple next =
     symbol_part (InTriple triple 1) rows (λ x. symbol_part (InTriple triple 2) rows (λ y. symbol_part (InTriple triple 3) rows (λ z. next (x, y, z))))
@@ -193,9 +207,11 @@ triple_read rows triple =
     then_read (symbol_read (InTriple triple 2) rows) (λ y.
     then_read (symbol_read (InTriple triple 3) rows) (λ z. gives_read (x, y, z))))
 
+-- all forbidden pairs
 abbrev pub pairs_part : List ShiftRow → ℕ → (List (Symbol × Symbol) → Awaited) → Awaited
 pairs_part rows count next = many_part (each_part (pair_part rows)) count [] next
 
+-- all forbidden triples
 abbrev pub triples_part : List ShiftRow → ℕ → (List (Symbol × Symbol × Symbol) → Awaited) → Awaited
 triples_part rows count next = many_part (each_part (triple_part rows)) count [] next
 
@@ -205,21 +221,24 @@ pairs_read rows count = many_read (each_part (pair_part rows)) (each (pair_at ro
 triples_read : (rows : List ShiftRow) (count : ℕ) → IsReadAs (triples_part rows count) (triples_at rows count)
 triples_read rows count = many_read (each_part (triple_part rows)) (each (triple_at rows)) (λ earlier. triple_read rows (length earlier + 1)) count []
 
--- what is awaited behind the frame, the shifts, the demand, the size, and in the whole text
-
+-- what is awaited behind the frame: the forbidden pairs and triples, and then the end
 abbrev pub behind_frame : Size → List (List Bounds) → List ShiftRow → Frame → Awaited
 behind_frame size demand shifts frame =
     pairs_part shifts frame.pairs (λ pairs. triples_part shifts frame.triples (λ triples. End (instance_from size demand shifts frame (pairs, triples))))
 
+-- the same behind the shifts
 abbrev pub behind_shifts : Size → List (List Bounds) → List ShiftRow → Awaited
 behind_shifts size demand shifts = frame_part (behind_frame size demand shifts)
 
+-- behind the demands
 abbrev pub behind_demand : Size → List (List Bounds) → Awaited
 behind_demand size demand = shift_rows_part size.shifts (behind_shifts size demand)
 
+-- behind the size
 abbrev pub behind_size : Size → Awaited
 behind_size size = demand_rows_part size (behind_demand size)
 
+-- all that is awaited of a text
 abbrev pub whole_text : Awaited
 whole_text = size_part behind_size
 

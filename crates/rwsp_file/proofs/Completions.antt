@@ -63,6 +63,7 @@ abbrev pub GoodRow : List ShiftRow → List Lexeme → Type 0
 GoodRow earlier ws = (row : ShiftRow) × IsGoodRow earlier row × IsRow row ws
 
 module _ (earlier : List ShiftRow) (a b c d f : Lexeme) (name : is_new_name earlier a.text ≡ true) (p : Numbered b) (q : Numbered c) (r : Numbered d) (s : Numbered f) where
+  -- the row that five words spell
   abbrev made : ShiftRow
   made = record { name = a.text; start = p.0; length = q.0; bounds = record { least = r.0; greatest = s.0 } }
 

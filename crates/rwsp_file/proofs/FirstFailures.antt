@@ -5,7 +5,7 @@ use Rattle.rwsp_text.specs.Lexemes.{Lexeme, lexemes, lexemes_from, last_line}
 use Rattle.rwsp_terms.specs.Instance.{Instance}
 use Rattle.rwsp_file.specs.Spelling.{SpellsProblem, on_line}
 use Rattle.rwsp_file.specs.Reading.{reading, unread_of, misfit_in}
-use Rattle.rwsp_file.specs.FirstFailures.{EndsWord, CanGoOn, RestsOn, IsFirstBad, IsFirst, RefusalsAreFirst}
+use Rattle.rwsp_file.specs.FirstFailures.{EndsWord, CanGoOnBehind, RestsOn, IsFirstBad, IsFirst, RefusalsAreFirst}
 use Rattle.rwsp_file.specs.declared.misfit.Misfit.{Misfit}
 use Rattle.rwsp_file.specs.declared.misfit.Misfit.TheVariants.{TextEnds, BadWord}
 use Rattle.rwsp_file.specs.declared.misfit.Fault.{Fault}
@@ -20,7 +20,7 @@ use Rattle.rwsp_file.proofs.Completions.{on_one, on_fresh}
 use Rattle.rwsp_file.proofs.Reached.{Rising, Stuck, Found, find}
 use Rattle.rwsp_file.proofs.LexemeFailures.{FailsAt, CanEnd, Fails, end_fails, word_fails, lifted}
 use Rattle.rwsp_file.proofs.RowFailures.{row_fails}
-use Rattle.rwsp_file.proofs.TextSplits.{Split, split_text, spread, spread_lines, lexemes_written, lexemes_behind, word_front, ends_to, ends_from, rising_text, text_starts}
+use Rattle.rwsp_file.proofs.TextSplits.{Split, split_text, spread, spread_lines, lexemes_written, lexemes_behind, lines_end_word, word_front, ends_to, ends_from, rising_text, text_starts}
 
 -- what is stuck fails there
 stuck_fails : (q : Awaited) (vs : List Lexeme) (end : ℕ) (why : Misfit) → IsSound q → Stuck q vs end why → Fails q vs end why
@@ -44,9 +44,10 @@ spelled_read : (bytes : List ℕ) (ws : List Lexeme) (P : Instance) → lexemes 
 spelled_read bytes ws P e s = ap (λ (zs : List Lexeme). read_on whole_text (unread zs (last_line bytes))) (sym e) ∙ whole_read (unread_of bytes) ∙ spells_reading bytes P s
 
 -- a text that ends too early can be gone on with
-ends_first : (bytes : List ℕ) → CanEnd whole_text (lexemes bytes) (last_line bytes) → CanGoOn bytes
+ends_first : (bytes : List ℕ) → CanEnd whole_text (lexemes bytes) (last_line bytes) → CanGoOnBehind bytes
 ends_first bytes c = (
   spread_lines c.lines,
+  lines_end_word c.lines,
   c.P,
   read_text (bytes ++ spread_lines c.lines) (last_line (bytes ++ spread_lines c.lines)) (lexemes bytes ++ on_fresh (last_line bytes) c.lines) c.P (lexemes_behind bytes c.lines c.are_lines) (c.reads (last_line (bytes ++ spread_lines c.lines))) refl,
 )
@@ -80,7 +81,8 @@ word_first bytes awaited w fault f =
           (subst (λ (bs : List ℕ). SpellsProblem bs P) (append_assoc s.front w.text more) spells));
       broken = λ more P spells.
           f.broken (lexemes_from w.line more) (last_line (s.front ++ more)) P (text_starts w.line more)
-          (spelled_read (s.front ++ more) (f.before ++ lexemes_from w.line more) P (s.same more) spells);
+          (spelled_read (s.front ++ more) (f.before ++ lexemes_from w.line more) P (s.same more) spells) s.front
+          (λ reads. read_text s.front (last_line s.front) f.before P front (reads (last_line s.front)) refl);
     }
 
 text_fails : (bytes : List ℕ) (why : Misfit) → Fails whole_text (lexemes bytes) (last_line bytes) why → IsFirst bytes why

@@ -1,11 +1,11 @@
 -- The first failure among the lexemes of a text.
-use Rattle.std.proofs.Common.{◌≡◌, ℕ, ◌+◌, List, [], ◌∷◌, ◌++◌, length, Result, Ok, Err, refl, ap, sym, ◌∙◌, subst, arith, append_assoc}
+use Rattle.std.proofs.Common.{◌≡◌, ℕ, ◌+◌, List, [], ◌∷◌, ◌++◌, length, Result, Ok, Err, refl, ap, sym, ◌∙◌, subst, arith, append_assoc, append-nil}
 use Rattle.std.specs.List.{AllByRecursion}
 use Rattle.rwsp_text.specs.Lexemes.{Lexeme}
 use Rattle.rwsp_terms.specs.Instance.{Instance}
 use Rattle.rwsp_terms.specs.declared.data.ShiftRow.{ShiftRow}
 use Rattle.rwsp_model.proofs.Names.{IsWord}
-use Rattle.rwsp_file.specs.Spelling.{on_line}
+use Rattle.rwsp_file.specs.Spelling.{SpellsProblem, on_line}
 use Rattle.rwsp_file.specs.Reading.{Unread, ◌>>=◌, next_at, shift_at, nothing_of}
 use Rattle.rwsp_file.specs.FirstFailures.{RestsOn, HasFault}
 use Rattle.rwsp_file.specs.declared.misfit.Misfit.{Misfit}
@@ -14,7 +14,7 @@ use Rattle.rwsp_file.specs.declared.misfit.Fault.{Fault}
 use Rattle.rwsp_file.specs.declared.misfit.Fault.TheVariants.{NotEnd}
 use Rattle.rwsp_file.specs.declared.misfit.Place.{Place}
 use Rattle.rwsp_file.specs.declared.misfit.Place.TheVariants.{TextEnd}
-use Rattle.rwsp_file.proofs.Readers.{one_word, bind_ok, then_ok, ok_same}
+use Rattle.rwsp_file.proofs.Readers.{one_word, bind_ok, then_ok, ok_same, given}
 use Rattle.rwsp_file.proofs.Lines.{unread}
 use Rattle.rwsp_file.proofs.Awaited.{Awaited, read_on}
 use Rattle.rwsp_file.proofs.Awaited.Awaited.{End, Word, Row}
@@ -39,7 +39,8 @@ pub record FailsAt (p : Awaited) (us : List Lexeme) (awaited : Place) (w : Lexem
   pub rests : RestsOn awaited fault (length (on_line w.line after))
   pub can : GoesOn p before w.line
   pub cannot : (more : List Lexeme) (end : ℕ) (P : Instance) → RestsOn awaited fault (length (on_line w.line more)) → read_on p (unread (before ++ w ∷ more) end) ≡ Ok P → ⊥
-  pub broken : (more : List Lexeme) (end : ℕ) (P : Instance) → StartsFrom w.line more → read_on p (unread (before ++ more) end) ≡ Ok P → HasFault P awaited w.text fault
+  pub broken : (more : List Lexeme) (end : ℕ) (P : Instance) → StartsFrom w.line more → read_on p (unread (before ++ more) end) ≡ Ok P →
+      (front : List ℕ) → (((e : ℕ) → read_on p (unread before e) ≡ Ok P) → SpellsProblem front P) → HasFault front P awaited w.text fault
 
 -- lexemes that end on a line where more was awaited can be gone on with behind it
 pub record CanEnd (p : Awaited) (us : List Lexeme) (end : ℕ) : Type 0 where
@@ -82,7 +83,7 @@ end_fails P (w ∷ ws) end why e =
       rests = tt;
       can = record { words = []; lines = []; are_words = tt; are_lines = tt; P = P; reads = λ g. refl };
       cannot = λ more g Q _ h. ends_clash Instance Q (BadWord TextEnd w NotEnd) h;
-      broken = λ more g Q _ h. tt;
+      broken = λ more g Q _ h front spells. spells (λ k. ap given (sym (reads_lead (End P) (unread more g) Q h)));
     })
 
 word_refused : (X : Type 0) (awaited : Place) (give : Lexeme → Result X Misfit) (w : Lexeme) (ws : List Lexeme) (end : ℕ) (why : Misfit) → one_word awaited give (unread (w ∷ ws) end) ≡ Err why → give w ≡ Err why
@@ -128,7 +129,7 @@ word_fails X awaited give next (w ∷ ws) end why sound e =
           let a : (p : X × Unread) × (one_word awaited give (unread (w ∷ more) g) ≡ Ok p) × (read_on (next p.0) p.1 ≡ Ok P) = bind_ok (one_word awaited give (unread (w ∷ more) g)) (λ p. read_on (next p.0) p.1) P h in
           let t : (y : X) × (give w ≡ Ok y) = word_taken X awaited give w more g a.0 a.1 in
           ends_clash X t.0 why (sym bad ∙ t.1);
-      broken = λ more g P _ h. r.broken P (reads_lead (Word X awaited give next) (unread more g) P h);
+      broken = λ more g P _ h front _. r.broken front P (reads_lead (Word X awaited give next) (unread more g) P h);
     })
 
 -- a failure where reading goes on is one of the whole
@@ -166,7 +167,11 @@ module _ (p q : Awaited) (us vs : List Lexeme) (end : ℕ) (r : Reach p q us vs 
           reads = λ g. same (on_one w.line f.can.words ++ on_fresh w.line f.can.lines) g (starts_on w.line f.can.words f.can.lines) ∙ f.can.reads g;
         };
         cannot = λ more g P rests h. f.cannot more g P rests (sym (same (w ∷ more) g (omega arith)) ∙ h);
-        broken = λ more g P starts h. f.broken more g P starts (sym (same more g starts) ∙ h);
+        broken = λ more g P starts h front spells.
+            f.broken more g P starts (sym (same more g starts) ∙ h) front
+            (λ reads. spells (λ k.
+            ap (λ (zs : List Lexeme). read_on p (unread zs k)) (sym (append-nil (r.before ++ f.before))) ∙ same [] k tt
+            ∙ ap (λ (zs : List Lexeme). read_on q (unread zs k)) (append-nil f.before) ∙ reads k));
       }
 
   end_lifted : CanEnd q vs end → CanEnd p us end

@@ -85,10 +85,11 @@ words_none (a ∷ b ∷ c ∷ d ∷ f ∷ []) e = absurd (cc)
 words_none (a ∷ b ∷ c ∷ d ∷ f ∷ g ∷ []) e = absurd (cc)
 words_none (a ∷ b ∷ c ∷ d ∷ f ∷ g ∷ i ∷ ys) e = (λ n. omega (arith, n), λ n. omega (arith, n))
 
--- the words are five, or six
+-- the words are five
 abbrev IsFive : List Lexeme → RowWords → Type 0
 IsFive words r = words ≡ r.name ∷ r.start ∷ r.minutes ∷ r.least ∷ r.greatest ∷ []
 
+-- the words are six, of which the fourth is the long name
 abbrev IsSix : List Lexeme → RowWords → Type 0
 IsSix words r = (long_name : Lexeme) × (words ≡ r.name ∷ r.start ∷ r.minutes ∷ long_name ∷ r.least ∷ r.greatest ∷ [])
 
@@ -134,18 +135,23 @@ NumbersStuck shift r why =
     ⊎ (Numbered r.minutes × ((limited (LeastBlock shift) (limit_of 7 0 10000) r.least ≡ Err why)
     ⊎ (Numbered r.least × (limited (GreatestBlock shift) (limit_of 7 0 10000) r.greatest ≡ Err why))))))
 
+-- the numbers of a row: its start, its length and the bounds of its blocks
 abbrev Numbers : Type 0
 Numbers = ℕ × ℕ × Bounds
 
+-- these numbers
 abbrev numbers : ℕ → ℕ → ℕ → ℕ → Numbers
 numbers start minutes least greatest = (start, minutes, record { least = least; greatest = greatest })
 
+-- the numbers from the greatest length of blocks on
 abbrev after_least : ℕ → RowWords → ℕ → ℕ → ℕ → Result Numbers Misfit
 after_least shift r start minutes least = limited (GreatestBlock shift) (limit_of 7 0 10000) r.greatest >>= (λ greatest. Ok (numbers start minutes least greatest))
 
+-- the numbers from the least length of blocks on
 abbrev after_minutes : ℕ → RowWords → ℕ → ℕ → Result Numbers Misfit
 after_minutes shift r start minutes = limited (LeastBlock shift) (limit_of 7 0 10000) r.least >>= (λ least. after_least shift r start minutes least)
 
+-- the numbers from the length on
 abbrev after_start : ℕ → RowWords → ℕ → Result Numbers Misfit
 after_start shift r start = limited (Minutes shift) (limit_of 6 0 10000) r.minutes >>= (λ minutes. after_minutes shift r start minutes)
 
@@ -173,6 +179,7 @@ numbers_stuck shift r why e =
       of_start (inl f) = inl f
       of_start (inr f) = inr (of_minutes f.0 (numbered (Start shift) 6 r.start f.0 f.1) (bind_err (limited (Minutes shift) (limit_of 6 0 10000) r.minutes) (λ minutes. after_minutes shift r f.0 minutes) why f.2))
 
+-- the row with the name and the numbers
 abbrev row_of : List ℕ → Numbers → ShiftRow
 row_of name n = record { name = name; start = n.0; length = n.1; bounds = n.2 }
 
@@ -197,7 +204,7 @@ module _ (earlier : List ShiftRow) (next : ShiftRow → Awaited) (v : Lexeme) (v
   row_part : (pre : List Lexeme) (w : Lexeme) (post : List Lexeme) (awaited : Place) (fault : Fault) → v ∷ on_line v.line vs ≡ pre ++ w ∷ post → RestsOn awaited fault (length post) →
       (words : List (List ℕ)) → AllByRecursion IsWord words → GoodRow earlier (pre ++ on_one v.line words) →
       ((ys : List Lexeme) → RestsOn awaited fault (length ys) → (row : ShiftRow) → IsGoodRow earlier row → IsRow row (pre ++ w ∷ ys) → ⊥) →
-      ((P : Instance) → BeginsWith earlier P → HasFault P awaited w.text fault) → FailsAt (Row earlier next) (v ∷ vs) awaited w fault
+      ((front : List ℕ) (P : Instance) → BeginsWith earlier P → HasFault front P awaited w.text fault) → FailsAt (Row earlier next) (v ∷ vs) awaited w fault
   unfolding read_on
   row_part pre w post awaited fault split rests words are_words good bad broken =
       let cut : AllOn v.line (on_line v.line vs) × Off v.line (past_line v.line vs) × (vs ≡ on_line v.line vs ++ past_line v.line vs) = cut_line v.line vs in
@@ -229,18 +236,18 @@ module _ (earlier : List ShiftRow) (next : ShiftRow → Awaited) (v : Lexeme) (v
             let r : ReadRow earlier (pre ++ w ∷ more) a.0.0 = shift_read earlier (pre ++ w ∷ more) g a.0.0 a.0.1 a.1 in
             bad (on_line v.line more) (subst (λ l. RestsOn awaited fault (length (on_line l more))) same_line on) a.0.0 r.good
             (subst (IsRow a.0.0) (first_joined v.line pre w more parts.0 same_line) r.text);
-        broken = λ more g P _ h. broken P (sound.1 P (reads_lead (Row earlier next) (unread (pre ++ more) g) P h));
+        broken = λ more g P _ h front _. broken front P (sound.1 P (reads_lead (Row earlier next) (unread (pre ++ more) g) P h));
       }
 
   -- a number of the row fails
-  number_fails : (end : ℕ) (why : Misfit) (pre : List Lexeme) (w : Lexeme) (post : List Lexeme) (awaited : Place) (k : ℕ) → v ∷ on_line v.line vs ≡ pre ++ w ∷ post → IsNumberPlace awaited → limited awaited (limit_of k 0 10000) w ≡ Err why →
+  number_fails : (end : ℕ) (why : Misfit) (pre : List Lexeme) (w : Lexeme) (post : List Lexeme) (awaited : Place) (k : ℕ) → v ∷ on_line v.line vs ≡ pre ++ w ∷ post → IsNumberPlace awaited (limit_of k 0 10000) → limited awaited (limit_of k 0 10000) w ≡ Err why →
       IsNoLongName awaited (length post) → (words : List (List ℕ)) → AllByRecursion IsWord words → GoodRow earlier (pre ++ on_one v.line words) →
       ((ys : List Lexeme) → IsNoLongName awaited (length ys) → (row : ShiftRow) → IsGoodRow earlier row → IsRow row (pre ++ w ∷ ys) → Numbered w) → Fails (Row earlier next) (v ∷ vs) end why
   number_fails end why pre w post awaited k split place e alone words are_words good takes =
       let r : IsRefusedAt awaited w why = limited_refused awaited (limit_of k 0 10000) w why place e in
       subst (Fails (Row earlier next) (v ∷ vs) end) (sym r.same)
       (row_part pre w post awaited r.fault split (r.rests (length post) alone) words are_words good
-      (λ ys on row is text. number_bad awaited k w why e (takes ys (r.alone (length ys) on) row is text)) (λ P _. r.broken P))
+      (λ ys on row is text. number_bad awaited k w why e (takes ys (r.alone (length ys) on) row is text)) (λ front P _. r.broken front P))
 
   -- the row has another count of words
   count_fails : (end : ℕ) (why : Misfit) → words_of_row (v ∷ on_line v.line vs) ≡ None → why ≡ BadWord (ShiftLine (length earlier + 1)) v (WordCount (length (on_line v.line vs) + 1)) → Fails (Row earlier next) (v ∷ vs) end why
@@ -249,7 +256,7 @@ module _ (earlier : List ShiftRow) (next : ShiftRow → Awaited) (v : Lexeme) (v
       subst (Fails (Row earlier next) (v ∷ vs) end) (sym same)
       (row_part [] v (on_line v.line vs) (ShiftLine (length earlier + 1)) (WordCount (length (on_line v.line vs) + 1)) refl refl (fresh_row earlier) (fresh_row_words earlier) (fresh_row_good earlier v.line sound.0)
       (λ ys long row is text. counted ys long not_so (row_length row (v ∷ ys) text))
-      (λ P _. (λ five. not_so.0 (omega (arith, five)), λ six. not_so.1 (omega (arith, six))))) where
+      (λ front P _. (λ five. not_so.0 (omega (arith, five)), λ six. not_so.1 (omega (arith, six))))) where
         counted : (ys : List Lexeme) → length ys + 1 ≡ length (on_line v.line vs) + 1 → (length (v ∷ on_line v.line vs) ≢ 5) × (length (v ∷ on_line v.line vs) ≢ 6) → (length (v ∷ ys) ≡ 5) ⊎ (length (v ∷ ys) ≡ 6) → ⊥
         counted ys long not_so (inl five) = not_so.0 (omega (arith, long, five))
         counted ys long not_so (inr six) = not_so.1 (omega (arith, long, six))
@@ -271,7 +278,7 @@ module _ (earlier : List ShiftRow) (next : ShiftRow → Awaited) (v : Lexeme) (v
   start_fails : (end : ℕ) (why : Misfit) (r : RowWords) (post : List Lexeme) → v ∷ on_line v.line vs ≡ r.name ∷ r.start ∷ post → is_new_name earlier r.name.text ≡ true → limited (Start (length earlier + 1)) (limit_of 6 0 10000) r.start ≡ Err why →
       Fails (Row earlier next) (v ∷ vs) end why
   start_fails end why r post split name e =
-      number_fails end why (r.name ∷ []) r.start post (Start (length earlier + 1)) 6 split (record { none = λ text n. n; beyond = λ limit text n h out. (n, h, out) }) e tt
+      number_fails end why (r.name ∷ []) r.start post (Start (length earlier + 1)) 6 split (record { right = refl; none = λ text n. n; beyond = λ text n h out. (n, h, out) }) e tt
       (zero_word ∷ zero_word ∷ zero_word ∷ zero_word ∷ []) (zero_is_word, (zero_is_word, (zero_is_word, (zero_is_word, tt))))
       (five_words earlier r.name (lexeme_on v.line zero_word) (lexeme_on v.line zero_word) (lexeme_on v.line zero_word) (lexeme_on v.line zero_word) name (zero_numbered v.line) (zero_numbered v.line) (zero_numbered v.line) (zero_numbered v.line))
       (λ ys _ row is text. (row.start, is.times.0, second row r.name r.start ys text))
@@ -279,7 +286,7 @@ module _ (earlier : List ShiftRow) (next : ShiftRow → Awaited) (v : Lexeme) (v
   minutes_fails : (end : ℕ) (why : Misfit) (r : RowWords) (post : List Lexeme) → v ∷ on_line v.line vs ≡ r.name ∷ r.start ∷ r.minutes ∷ post → is_new_name earlier r.name.text ≡ true → Numbered r.start →
       limited (Minutes (length earlier + 1)) (limit_of 6 0 10000) r.minutes ≡ Err why → Fails (Row earlier next) (v ∷ vs) end why
   minutes_fails end why r post split name start e =
-      number_fails end why (r.name ∷ r.start ∷ []) r.minutes post (Minutes (length earlier + 1)) 6 split (record { none = λ text n. n; beyond = λ limit text n h out. (n, h, out) }) e tt
+      number_fails end why (r.name ∷ r.start ∷ []) r.minutes post (Minutes (length earlier + 1)) 6 split (record { right = refl; none = λ text n. n; beyond = λ text n h out. (n, h, out) }) e tt
       (zero_word ∷ zero_word ∷ zero_word ∷ []) (zero_is_word, (zero_is_word, (zero_is_word, tt)))
       (five_words earlier r.name r.start (lexeme_on v.line zero_word) (lexeme_on v.line zero_word) (lexeme_on v.line zero_word) name start (zero_numbered v.line) (zero_numbered v.line) (zero_numbered v.line))
       (λ ys _ row is text. (row.length, is.times.1, third row r.name r.start r.minutes ys text))
@@ -291,12 +298,12 @@ module _ (earlier : List ShiftRow) (next : ShiftRow → Awaited) (v : Lexeme) (v
   least_fails : (end : ℕ) (why : Misfit) (r : RowWords) → IsFive (v ∷ on_line v.line vs) r ⊎ IsSix (v ∷ on_line v.line vs) r → is_new_name earlier r.name.text ≡ true → Numbered r.start → Numbered r.minutes →
       limited (LeastBlock (length earlier + 1)) (limit_of 7 0 10000) r.least ≡ Err why → Fails (Row earlier next) (v ∷ vs) end why
   least_fails end why r (inl five) name start minutes e =
-      number_fails end why (r.name ∷ r.start ∷ r.minutes ∷ []) r.least (r.greatest ∷ []) (LeastBlock (length earlier + 1)) 7 five (record { none = λ text n. n; beyond = λ limit text n h out. (n, h, out) }) e (λ two. omega (arith, two))
+      number_fails end why (r.name ∷ r.start ∷ r.minutes ∷ []) r.least (r.greatest ∷ []) (LeastBlock (length earlier + 1)) 7 five (record { right = refl; none = λ text n. n; beyond = λ text n h out. (n, h, out) }) e (λ two. omega (arith, two))
       (zero_word ∷ zero_word ∷ []) (zero_is_word, (zero_is_word, tt))
       (five_words earlier r.name r.start r.minutes (lexeme_on v.line zero_word) (lexeme_on v.line zero_word) name start minutes (zero_numbered v.line) (zero_numbered v.line))
       (λ ys alone row is text. (row.bounds.least, is.blocks.0, fourth row r.name r.start r.minutes r.least ys alone text))
   least_fails end why r (inr six) name start minutes e =
-      number_fails end why (r.name ∷ r.start ∷ r.minutes ∷ six.0 ∷ []) r.least (r.greatest ∷ []) (LeastBlock (length earlier + 1)) 7 six.1 (record { none = λ text n. n; beyond = λ limit text n h out. (n, h, out) }) e (λ two. omega (arith, two))
+      number_fails end why (r.name ∷ r.start ∷ r.minutes ∷ six.0 ∷ []) r.least (r.greatest ∷ []) (LeastBlock (length earlier + 1)) 7 six.1 (record { right = refl; none = λ text n. n; beyond = λ text n h out. (n, h, out) }) e (λ two. omega (arith, two))
       (zero_word ∷ zero_word ∷ []) (zero_is_word, (zero_is_word, tt))
       (six_words earlier r.name r.start r.minutes (lexeme_on v.line zero_word) (lexeme_on v.line zero_word) name start minutes (zero_numbered v.line) (zero_numbered v.line) six.0)
       (λ ys _ row is text. either_bound row r.least is (fifth row r.name r.start r.minutes six.0 r.least ys text))
@@ -304,12 +311,12 @@ module _ (earlier : List ShiftRow) (next : ShiftRow → Awaited) (v : Lexeme) (v
   greatest_fails : (end : ℕ) (why : Misfit) (r : RowWords) → IsFive (v ∷ on_line v.line vs) r ⊎ IsSix (v ∷ on_line v.line vs) r → is_new_name earlier r.name.text ≡ true → Numbered r.start → Numbered r.minutes → Numbered r.least →
       limited (GreatestBlock (length earlier + 1)) (limit_of 7 0 10000) r.greatest ≡ Err why → Fails (Row earlier next) (v ∷ vs) end why
   greatest_fails end why r (inl five) name start minutes least e =
-      number_fails end why (r.name ∷ r.start ∷ r.minutes ∷ r.least ∷ []) r.greatest [] (GreatestBlock (length earlier + 1)) 7 five (record { none = λ text n. n; beyond = λ limit text n h out. (n, h, out) }) e tt
+      number_fails end why (r.name ∷ r.start ∷ r.minutes ∷ r.least ∷ []) r.greatest [] (GreatestBlock (length earlier + 1)) 7 five (record { right = refl; none = λ text n. n; beyond = λ text n h out. (n, h, out) }) e tt
       (zero_word ∷ []) (zero_is_word, tt)
       (five_words earlier r.name r.start r.minutes r.least (lexeme_on v.line zero_word) name start minutes least (zero_numbered v.line))
       (λ ys _ row is text. either_bound row r.greatest is (fifth row r.name r.start r.minutes r.least r.greatest ys text))
   greatest_fails end why r (inr six) name start minutes least e =
-      number_fails end why (r.name ∷ r.start ∷ r.minutes ∷ six.0 ∷ r.least ∷ []) r.greatest [] (GreatestBlock (length earlier + 1)) 7 six.1 (record { none = λ text n. n; beyond = λ limit text n h out. (n, h, out) }) e tt
+      number_fails end why (r.name ∷ r.start ∷ r.minutes ∷ six.0 ∷ r.least ∷ []) r.greatest [] (GreatestBlock (length earlier + 1)) 7 six.1 (record { right = refl; none = λ text n. n; beyond = λ text n h out. (n, h, out) }) e tt
       (zero_word ∷ []) (zero_is_word, tt)
       (six_words earlier r.name r.start r.minutes r.least (lexeme_on v.line zero_word) name start minutes least (zero_numbered v.line) six.0)
       (λ ys _ row is text. (row.bounds.greatest, is.blocks.1, sixth row r.name r.start r.minutes six.0 r.least r.greatest ys text))

@@ -13,7 +13,7 @@ use Rattle.rwsp_terms.proofs.Elements.{all_from}
 use Rattle.rwsp_model.specs.Validity.{is_between, is_small_range, breaks_name}
 use Rattle.rwsp_model.proofs.Names.{IsWord}
 use Rattle.rwsp_file.specs.Reading.{◌>>=◌, or_refuse, limit_of, limited, limited_weeks, limited_demand, written_demand}
-use Rattle.rwsp_file.specs.FirstFailures.{IsNoNumber, IsOutside, IsBeyond, IsNoLongName, RestsOn, HasFault}
+use Rattle.rwsp_file.specs.FirstFailures.{limit_at, IsNoNumber, IsOutside, IsBeyond, IsNoLongName, RestsOn, HasFault}
 use Rattle.rwsp_file.specs.declared.limits.Limit.{Limit}
 use Rattle.rwsp_file.specs.declared.misfit.Misfit.{Misfit}
 use Rattle.rwsp_file.specs.declared.misfit.Misfit.TheVariants.{BadWord}
@@ -40,7 +40,7 @@ pub record IsRefused (awaited : Place) (w : Lexeme) (why : Misfit) (Here : Insta
   pub fault : Fault
   pub same : why ≡ BadWord awaited w fault
   pub rests : (left : ℕ) → RestsOn awaited fault left
-  pub broken : (P : Instance) → Here P → HasFault P awaited w.text fault
+  pub broken : (front : List ℕ) (P : Instance) → Here P → HasFault front P awaited w.text fault
 
 -- a word that can be written and is taken on each line
 pub record IsGoodWord {X : Type 0} (give : Lexeme → Result X Misfit) : Type 0 where
@@ -60,6 +60,7 @@ IsSound (Row earlier next) =
     × ((P : Instance) → (row : ShiftRow) × Leads (next row) P → (rest : List ShiftRow) × (P.shifts ≡ earlier ++ rest))
     × ((row : ShiftRow) → IsSound (next row))
 
+-- a failure, in place of a value
 abbrev pub failed : {X : Type 0} → Misfit → Result X Misfit
 failed why = Err why
 
@@ -73,9 +74,10 @@ bind_err {A} {B} (Err a) f why e = inl (ap failed (err_same {X = B} a why e))
 -- numbers
 
 -- a place that awaits a number
-pub record IsNumberPlace (awaited : Place) : Type 0 where
+pub record IsNumberPlace (awaited : Place) (limit : Limit) : Type 0 where
+  pub right : limit ≡ limit_at awaited
   pub none : (text : List ℕ) → number_of text ≡ None → IsNoNumber awaited text
-  pub beyond : (limit : Limit) (text : List ℕ) (n : ℕ) → number_of text ≡ Some n → IsOutside limit n → IsBeyond awaited limit text
+  pub beyond : (text : List ℕ) (n : ℕ) → number_of text ≡ Some n → IsOutside limit n → IsBeyond awaited limit text
 
 -- a word is refused for a fault that it has, which may rest on the place
 pub record IsRefusedAt (awaited : Place) (w : Lexeme) (why : Misfit) : Type 0 where
@@ -83,7 +85,7 @@ pub record IsRefusedAt (awaited : Place) (w : Lexeme) (why : Misfit) : Type 0 wh
   pub same : why ≡ BadWord awaited w fault
   pub rests : (left : ℕ) → IsNoLongName awaited left → RestsOn awaited fault left
   pub alone : (left : ℕ) → RestsOn awaited fault left → IsNoLongName awaited left
-  pub broken : (P : Instance) → HasFault P awaited w.text fault
+  pub broken : (front : List ℕ) (P : Instance) → HasFault front P awaited w.text fault
 
 outside : (limit : Limit) (n : ℕ) → is_between limit.least limit.greatest n ≡ false → IsOutside limit n
 outside limit n e = at (nat_le limit.least n) refl e where
@@ -91,7 +93,7 @@ outside limit n e = at (nat_le limit.least n) refl e where
   at true h g = inr (grind (arith, nat_tests))
   at false h g = inl (grind (arith, nat_tests))
 
-pub limited_refused : (awaited : Place) (limit : Limit) (w : Lexeme) (why : Misfit) → IsNumberPlace awaited → limited awaited limit w ≡ Err why → IsRefusedAt awaited w why
+pub limited_refused : (awaited : Place) (limit : Limit) (w : Lexeme) (why : Misfit) → IsNumberPlace awaited limit → limited awaited limit w ≡ Err why → IsRefusedAt awaited w why
 unfolding limited
 limited_refused awaited limit w why place e = at (number_of w.text) refl e where
   tested : (n : ℕ) (b : Bool) → number_of w.text ≡ Some n → is_between limit.least limit.greatest n ≡ b → (if b then Ok n else failed (BadWord awaited w (Beyond limit))) ≡ Err why → IsRefusedAt awaited w why
@@ -101,7 +103,7 @@ limited_refused awaited limit w why place e = at (number_of w.text) refl e where
     same = sym (err_same {X = ℕ} (BadWord awaited w (Beyond limit)) why f);
     rests = λ left h. h;
     alone = λ left h. h;
-    broken = λ P. place.beyond limit w.text n h (outside limit n t);
+    broken = λ front P. (place.right, place.beyond w.text n h (outside limit n t));
   }
 
   at : (o : Option ℕ) → number_of w.text ≡ o → (or_refuse o (BadWord awaited w NoNumber) >>= (λ n. if is_between limit.least limit.greatest n then Ok n else failed (BadWord awaited w (Beyond limit)))) ≡ Err why → IsRefusedAt awaited w why
@@ -110,17 +112,19 @@ limited_refused awaited limit w why place e = at (number_of w.text) refl e where
     same = sym (err_same {X = ℕ} (BadWord awaited w NoNumber) why f);
     rests = λ left h. h;
     alone = λ left h. h;
-    broken = λ P. place.none w.text h;
+    broken = λ front P. place.none w.text h;
   }
   at (Some n) h f = tested n (is_between limit.least limit.greatest n) h refl f
 
--- the words `0` and `1`
+-- the word `0`
 abbrev pub zero_word : List ℕ
 zero_word = 48 ∷ []
 
-abbrev pub one_word : List ℕ
-one_word = 49 ∷ []
+-- the word `1`
+abbrev pub unit_word : List ℕ
+unit_word = 49 ∷ []
 
+-- the word `-`, the name of the day off
 abbrev pub off_word : List ℕ
 off_word = 45 ∷ []
 
@@ -130,27 +134,27 @@ short_word b e ne = record { some = omega arith; unbroken = all_from (λ c. brea
 pub zero_is_word : IsWord zero_word
 zero_is_word = short_word 48 refl (λ e. let no : 48 ≡ 35 = e in omega (arith, no))
 
-pub one_is_word : IsWord one_word
-one_is_word = short_word 49 refl (λ e. let no : 49 ≡ 35 = e in omega (arith, no))
+pub unit_is_word : IsWord unit_word
+unit_is_word = short_word 49 refl (λ e. let no : 49 ≡ 35 = e in omega (arith, no))
 
 pub off_is_word : IsWord off_word
 off_is_word = short_word 45 refl (λ e. let no : 45 ≡ 35 = e in omega (arith, no))
 
 -- a number part that can be written, at a place that awaits a number
-sound_number : (awaited : Place) (limit : Limit) (n : ℕ) (text : List ℕ) (next : ℕ → Awaited) → IsNumberPlace awaited → ((left : ℕ) → IsNoLongName awaited left) → IsWord text → number_of text ≡ Some n → (limit.least ≤ n) × (n ≤ limit.greatest) →
+sound_number : (awaited : Place) (limit : Limit) (n : ℕ) (text : List ℕ) (next : ℕ → Awaited) → IsNumberPlace awaited limit → ((left : ℕ) → IsNoLongName awaited left) → IsWord text → number_of text ≡ Some n → (limit.least ≤ n) × (n ≤ limit.greatest) →
     ((m : ℕ) → m ≤ limit.greatest → IsSound (next m)) → IsSound (number_part awaited limit next)
 sound_number awaited limit n text next place alone word is within more = (
   record { text = text; word = word; gives = λ line. (n, (limited_gives awaited limit (lexeme_on line text)).only n (within, is)) },
-  λ w why e. let r = limited_refused awaited limit w why place e in record { fault = r.fault; same = r.same; rests = λ left. r.rests left (alone left); broken = λ P _. r.broken P },
+  λ w why e. let r = limited_refused awaited limit w why place e in record { fault = r.fault; same = r.same; rests = λ left. r.rests left (alone left); broken = λ front P _. r.broken front P },
   λ w m e. more m ((limited_gives awaited limit w).found m e).0.1,
 )
 
 -- one of which the least number is 0, and one of which it is 1
-pub sound_from_zero : (awaited : Place) (number greatest : ℕ) (next : ℕ → Awaited) → IsNumberPlace awaited → ((left : ℕ) → IsNoLongName awaited left) → ((m : ℕ) → IsSound (next m)) → IsSound (number_part awaited (limit_of number 0 greatest) next)
+pub sound_from_zero : (awaited : Place) (number greatest : ℕ) (next : ℕ → Awaited) → IsNumberPlace awaited (limit_of number 0 greatest) → ((left : ℕ) → IsNoLongName awaited left) → ((m : ℕ) → IsSound (next m)) → IsSound (number_part awaited (limit_of number 0 greatest) next)
 sound_from_zero awaited number greatest next place alone more = sound_number awaited (limit_of number 0 greatest) 0 zero_word next place alone zero_is_word refl (omega arith, omega arith) (λ m _. more m)
 
-pub sound_from_one : (awaited : Place) (number greatest : ℕ) (next : ℕ → Awaited) → 1 ≤ greatest → IsNumberPlace awaited → ((left : ℕ) → IsNoLongName awaited left) → ((m : ℕ) → m ≤ greatest → IsSound (next m)) → IsSound (number_part awaited (limit_of number 1 greatest) next)
-sound_from_one awaited number greatest next some place alone more = sound_number awaited (limit_of number 1 greatest) 1 one_word next place alone one_is_word refl (omega arith, some) more
+pub sound_from_one : (awaited : Place) (number greatest : ℕ) (next : ℕ → Awaited) → 1 ≤ greatest → IsNumberPlace awaited (limit_of number 1 greatest) → ((left : ℕ) → IsNoLongName awaited left) → ((m : ℕ) → m ≤ greatest → IsSound (next m)) → IsSound (number_part awaited (limit_of number 1 greatest) next)
+sound_from_one awaited number greatest next some place alone more = sound_number awaited (limit_of number 1 greatest) 1 unit_word next place alone unit_is_word refl (omega arith, some) more
 
 -- weeks: 1 is never too many
 weeks_refused : (days : ℕ) (w : Lexeme) (why : Misfit) (Here : Instance → Type 0) → ((P : Instance) → Here P → days ≡ P.days) → limited_weeks days w ≡ Err why → IsRefused Weeks w why Here
@@ -163,18 +167,18 @@ weeks_refused days w why Here kept e =
         fault = TooManyDays n days;
         same = sym (err_same {X = ℕ} (BadWord Weeks w (TooManyDays n days)) why f);
         rests = λ left. tt;
-        broken = λ P here. (h, kept P here, grind (arith, nat_tests));
+        broken = λ front P here. (h, kept P here, grind (arith, nat_tests));
       }
 
       at : (limited Weeks (limit_of 2 1 MOST_WEEKS) w ≡ Err why) ⊎ ((n : ℕ) × (limited Weeks (limit_of 2 1 MOST_WEEKS) w ≡ Ok n) × ((if nat_le (n * days) MOST_CELLS then Ok n else failed (BadWord Weeks w (TooManyDays n days))) ≡ Err why)) → IsRefused Weeks w why Here
       at (inl f) =
-          let r = limited_refused Weeks (limit_of 2 1 MOST_WEEKS) w why (record { none = λ text n. n; beyond = λ limit text n h out. (n, h, out) }) f in
-          record { fault = r.fault; same = r.same; rests = λ left. r.rests left tt; broken = λ P _. r.broken P }
+          let r = limited_refused Weeks (limit_of 2 1 MOST_WEEKS) w why (record { right = refl; none = λ text n. n; beyond = λ text n h out. (n, h, out) }) f in
+          record { fault = r.fault; same = r.same; rests = λ left. r.rests left tt; broken = λ front P _. r.broken front P }
       at (inr f) = tested f.0 (nat_le (f.0 * days) MOST_CELLS) ((limited_gives Weeks (limit_of 2 1 MOST_WEEKS) w).found f.0 f.1).1 refl f.2
 
 pub sound_weeks : (days : ℕ) (next : ℕ → Awaited) → days ≤ 28 → ((P : Instance) → (n : ℕ) × Leads (next n) P → days ≡ P.days) → ((n : ℕ) → IsSound (next n)) → IsSound (weeks_part days next)
 sound_weeks days next few kept more = (
-  record { text = one_word; word = one_is_word; gives = λ line. (1, (weeks_gives days (lexeme_on line one_word)).only 1 (((omega arith, omega arith), omega (arith, few)), refl)) },
+  record { text = unit_word; word = unit_is_word; gives = λ line. (1, (weeks_gives days (lexeme_on line unit_word)).only 1 (((omega arith, omega arith), omega (arith, few)), refl)) },
   λ w why e. weeks_refused days w why (λ P. (n : ℕ) × Leads (next n) P) kept e,
   λ w n e. more n,
 )
@@ -196,7 +200,7 @@ demand_refused shift day w why Here e = at (written_demand w.text) refl e where
     fault = Beyond (limit_of 5 0 MOST_WEEKS);
     same = sym (err_same {X = Bounds} (BadWord (Demand shift day) w (Beyond (limit_of 5 0 MOST_WEEKS))) why f);
     rests = λ left. tt;
-    broken = λ P here. (b, demand_found w.text b h, large (large_range b t));
+    broken = λ front P here. (refl, (b, demand_found w.text b h, large (large_range b t)));
   } where
     large : (MOST_WEEKS < b.least) ⊎ (MOST_WEEKS < b.greatest) → IsOutside (limit_of 5 0 MOST_WEEKS) b.least ⊎ IsOutside (limit_of 5 0 MOST_WEEKS) b.greatest
     large (inl g) = inl (inr g)
@@ -210,7 +214,7 @@ demand_refused shift day w why Here e = at (written_demand w.text) refl e where
     fault = NoNumber;
     same = sym (err_same {X = Bounds} (BadWord (Demand shift day) w NoNumber) why f);
     rests = λ left. tt;
-    broken = λ P here range is. none_some range h (demand_only w.text range is);
+    broken = λ front P here range is. none_some range h (demand_only w.text range is);
   }
   at (Some b) h f = tested b (is_small_range b) h refl f
 
@@ -230,7 +234,7 @@ symbol_refused awaited rows w why Here alone kept e = at (symbol_among rows w.te
     fault = NoSymbol;
     same = sym (err_same {X = Symbol} (BadWord awaited w NoSymbol) why f);
     rests = alone;
-    broken = λ P here. ap (λ rs. symbol_among rs w.text) (kept P here) ∙ h;
+    broken = λ front P here. ap (λ rs. symbol_among rs w.text) (kept P here) ∙ h;
   }
   at (Some x) h f = absurd (cc)
 

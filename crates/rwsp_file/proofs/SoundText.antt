@@ -1,5 +1,5 @@
 -- All that is awaited of a text fails for the reasons that are given, and can be written.
-use Rattle.std.proofs.Common.{◌≡◌, ℕ, zero, suc, ◌+◌, ◌≤◌, List, [], ◌∷◌, ◌++◌, length, ap, sym, ◌∙◌, arith, append_assoc, append-nil}
+use Rattle.std.proofs.Common.{◌≡◌, ℕ, zero, suc, ◌+◌, ◌≤◌, List, [], ◌∷◌, ◌++◌, length, refl, ap, sym, ◌∙◌, arith, append_assoc, append-nil}
 use Rattle.std.proofs.lemmas.List.{length-append}
 use Rattle.rwsp_terms.specs.Instance.{Instance}
 use Rattle.rwsp_terms.specs.declared.data.Bounds.{Bounds}
@@ -62,6 +62,7 @@ sound_shifts (suc n) earlier next few kept more = (
 
 -- the other parts
 
+-- any instance
 abbrev IsFree : Instance → Type 0
 IsFree P = Unit {0}
 
@@ -85,6 +86,7 @@ pair_leads rows pair next P h = ((h.0, h.1.0), h.1.1)
 triple_leads : (rows : List ShiftRow) (triple : ℕ) → IsLeading (triple_part rows triple)
 triple_leads rows triple next P h = ((h.0, h.1.0, h.1.1.0), h.1.1.1)
 
+-- the instance has just these shifts
 abbrev HasRows : List ShiftRow → Instance → Type 0
 HasRows rows P = P.shifts ≡ rows
 
@@ -138,7 +140,7 @@ size_ends size P h =
     let shifts = leads_shifts size.shifts [] (behind_shifts size demand.0) P demand.1 in
     (shifts_end size demand.0 shifts.0 P shifts.1).0
 
-sound_bounds : (low high : Place) (next : Bounds → Awaited) → IsNumberPlace low → ((left : ℕ) → IsNoLongName low left) → IsNumberPlace high → ((left : ℕ) → IsNoLongName high left) → ((b : Bounds) → IsSound (next b)) → IsSound (bounds_part low high next)
+sound_bounds : (low high : Place) (next : Bounds → Awaited) → IsNumberPlace low (limit_of 7 0 10000) → ((left : ℕ) → IsNoLongName low left) → IsNumberPlace high (limit_of 7 0 10000) → ((left : ℕ) → IsNoLongName high left) → ((b : Bounds) → IsSound (next b)) → IsSound (bounds_part low high next)
 sound_bounds low high next place alone there lonely more =
     sound_from_zero low 7 10000 (λ least. number_part high (limit_of 7 0 10000) (λ greatest. next (make_bounds least greatest))) place alone (λ least.
     sound_from_zero high 7 10000 (λ greatest. next (make_bounds least greatest)) there lonely (λ greatest. more (make_bounds least greatest)))
@@ -149,15 +151,15 @@ counts_part off work next = number_part Pairs (limit_of 8 0 64) (λ pairs. numbe
 
 sound_counts : (off work : Bounds) (next : Frame → Awaited) → ((frame : Frame) → IsSound (next frame)) → IsSound (counts_part off work next)
 sound_counts off work next more =
-    sound_from_zero Pairs 8 64 (λ pairs. number_part Triples (limit_of 9 0 64) (λ triples. next (make_frame off work pairs triples))) (record { none = λ text n. n; beyond = λ limit text n h out. (n, h, out) }) (λ _. tt) (λ pairs.
-    sound_from_zero Triples 9 64 (λ triples. next (make_frame off work pairs triples)) (record { none = λ text n. n; beyond = λ limit text n h out. (n, h, out) }) (λ _. tt) (λ triples. more (make_frame off work pairs triples)))
+    sound_from_zero Pairs 8 64 (λ pairs. number_part Triples (limit_of 9 0 64) (λ triples. next (make_frame off work pairs triples))) (record { right = refl; none = λ text n. n; beyond = λ text n h out. (n, h, out) }) (λ _. tt) (λ pairs.
+    sound_from_zero Triples 9 64 (λ triples. next (make_frame off work pairs triples)) (record { right = refl; none = λ text n. n; beyond = λ text n h out. (n, h, out) }) (λ _. tt) (λ triples. more (make_frame off work pairs triples)))
 
 sound_frame : (next : Frame → Awaited) → ((frame : Frame) → IsSound (next frame)) → IsSound (frame_part next)
 sound_frame next more =
     sound_bounds LeastOff GreatestOff (λ off. bounds_part LeastWork GreatestWork (λ work. counts_part off work next))
-    (record { none = λ text n. n; beyond = λ limit text n h out. (n, h, out) }) (λ _. tt) (record { none = λ text n. n; beyond = λ limit text n h out. (n, h, out) }) (λ _. tt) (λ off.
+    (record { right = refl; none = λ text n. n; beyond = λ text n h out. (n, h, out) }) (λ _. tt) (record { right = refl; none = λ text n. n; beyond = λ text n h out. (n, h, out) }) (λ _. tt) (λ off.
     sound_bounds LeastWork GreatestWork (λ work. counts_part off work next)
-    (record { none = λ text n. n; beyond = λ limit text n h out. (n, h, out) }) (λ _. tt) (record { none = λ text n. n; beyond = λ limit text n h out. (n, h, out) }) (λ _. tt) (λ work.
+    (record { right = refl; none = λ text n. n; beyond = λ text n h out. (n, h, out) }) (λ _. tt) (record { right = refl; none = λ text n. n; beyond = λ text n h out. (n, h, out) }) (λ _. tt) (λ work.
     sound_counts off work next more))
 
 sound_behind_frame : (size : Size) (demand : List (List Bounds)) (shifts : List ShiftRow) (frame : Frame) → IsSound (behind_frame size demand shifts frame)
@@ -177,7 +179,7 @@ sound_behind_size size few =
 -- all of a text
 pub sound_text : IsSound whole_text
 sound_text =
-    sound_from_one Days 1 28 (λ days. weeks_part days (λ weeks. number_part Shifts (limit_of 4 1 8) (λ shifts. behind_size (make_size days weeks shifts)))) (omega arith) (record { none = λ text n. n; beyond = λ limit text n h out. (n, h, out) }) (λ _. tt) (λ days few.
+    sound_from_one Days 1 28 (λ days. weeks_part days (λ weeks. number_part Shifts (limit_of 4 1 8) (λ shifts. behind_size (make_size days weeks shifts)))) (omega arith) (record { right = refl; none = λ text n. n; beyond = λ text n h out. (n, h, out) }) (λ _. tt) (λ days few.
     sound_weeks days (λ weeks. number_part Shifts (limit_of 4 1 8) (λ shifts. behind_size (make_size days weeks shifts))) few (λ P h. sym (size_ends (make_size days h.0 h.1.0) P h.1.1)) (λ weeks.
-    sound_from_one Shifts 4 8 (λ shifts. behind_size (make_size days weeks shifts)) (omega arith) (record { none = λ text n. n; beyond = λ limit text n h out. (n, h, out) }) (λ _. tt) (λ shifts small.
+    sound_from_one Shifts 4 8 (λ shifts. behind_size (make_size days weeks shifts)) (omega arith) (record { right = refl; none = λ text n. n; beyond = λ text n h out. (n, h, out) }) (λ _. tt) (λ shifts small.
     sound_behind_size (make_size days weeks shifts) small)))

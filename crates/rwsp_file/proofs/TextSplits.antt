@@ -27,6 +27,7 @@ lines_joined n (l ∷ ls) ms =
 
 -- there is always a first line
 
+-- there is a first line
 abbrev HasLine : List (List ℕ) → Type 0
 HasLine ls = (first : List ℕ) × (rest : List (List ℕ)) × (ls ≡ first ∷ rest)
 
@@ -89,10 +90,12 @@ last_joined (b ∷ t) bytes h = last_by b (lines_of (t ++ bytes)) (b == 10) h.0 
 
 -- words that are written on a line, each with a blank behind it, and on new lines
 
+-- words on a line, each with a blank behind it
 abbrev pub spread : List (List ℕ) → List ℕ
 spread [] = []
 spread (word ∷ words) = word ++ 32 ∷ spread words
 
+-- lines of such words, each behind a line feed
 abbrev pub spread_lines : List (List (List ℕ)) → List ℕ
 spread_lines [] = []
 spread_lines (words ∷ lines) = 10 ∷ (spread words ++ spread_lines lines)
@@ -136,6 +139,10 @@ lexemes_behind bytes (words ∷ lines) h =
     behind_text 1 bytes (spread words ++ spread_lines lines)
     ∙ ap (λ k. lexemes bytes ++ lexemes_from k (spread words ++ spread_lines lines)) next
     ∙ ap (λ ws. lexemes bytes ++ ws) (lexemes_written (last_line bytes + 1) words lines h.0 h.1)
+
+pub lines_end_word : (lines : List (List (List ℕ))) → EndsWord (spread_lines lines)
+lines_end_word [] = tt
+lines_end_word (words ∷ lines) = refl
 
 -- a text is cut in front of one of its lexemes
 pub record Split (n : ℕ) (bytes : List ℕ) (before : List Lexeme) (w : Lexeme) (after : List Lexeme) : Type 0 where

@@ -7,11 +7,12 @@ use Rattle.std.specs.Str.{bytes_eq}
 use Rattle.rwsp_text.specs.Lexemes.{Lexeme}
 use Rattle.rwsp_text.specs.Numbers.{number_of}
 use Rattle.rwsp_terms.specs.declared.limits.TheConstants.{MOST_SEQUENCES}
+use Rattle.rwsp_terms.specs.declared.data.Bounds.{Bounds}
 use Rattle.rwsp_file.specs.declared.fields.Size.{Size}
 use Rattle.rwsp_file.specs.declared.misfit.Place.{Place}
-use Rattle.rwsp_file.specs.declared.misfit.Place.TheVariants.{Days, Weeks, Shifts, Demand, ShiftLine, Start, LeastOff, GreatestOff, LeastWork, GreatestWork, Pairs, Triples, InPair, InTriple}
+use Rattle.rwsp_file.specs.declared.misfit.Place.TheVariants.{Days, Weeks, Shifts, Demand, ShiftLine, ShiftName, Start, Minutes, LeastBlock, GreatestBlock, LeastOff, GreatestOff, LeastWork, GreatestWork, Pairs, Triples, InPair, InTriple, TextEnd}
 use Rattle.rwsp_file.specs.declared.misfit.Fault.{Fault}
-use Rattle.rwsp_file.specs.declared.misfit.Fault.TheVariants.{NoNumber, WordCount, NoSymbol, NotEnd}
+use Rattle.rwsp_file.specs.declared.misfit.Fault.TheVariants.{NoNumber, Beyond, TooManyDays, WordCount, LongName, OffName, TakenName, NoSymbol, NotEnd}
 use Rattle.rwsp_file.specs.declared.misfit.Misfit.{Misfit}
 use Rattle.rwsp_file.specs.declared.misfit.Misfit.TheVariants.{TextEnds, BadWord}
 use Rattle.rwsp_file.specs.declared.likely.Counts.{Counts}
