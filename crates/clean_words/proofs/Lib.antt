@@ -26,3 +26,4 @@ pub mod Stepping
 pub mod Searching
 pub mod WeightRows
 pub mod LeafWords
+pub mod OtherWeeks

@@ -1,7 +1,7 @@
 // The automaton of a list of short rules.
-ghost use Rattle.std.specs.Prelude.{◌≡◌, ◌<◌, ◌≤◌, length, slice_index_or, false, IfOk};
+ghost use Rattle.std.specs.Prelude.{◌≡◌, ◌*◌, ◌<◌, ◌≤◌, length, slice_index_or, false, IfOk};
 ghost use Rattle.rwsp_terms.specs.Rules.{NamesShortOnly, NamesShortRules};
-ghost use Rattle.rwsp_terms.specs.declared.limits.TheConstants.{MOST_SYMBOLS};
+ghost use Rattle.rwsp_terms.specs.declared.limits.TheConstants.{MOST_CELLS, MOST_SYMBOLS, MOST_WEEKS};
 ghost use Rattle.refutation_terms.specs.Ranges.{AreRules};
 ghost use Rattle.clean_words.specs.Tables.{IsReader};
 
@@ -110,6 +110,23 @@ impl Automaton {
         let alloc = *self.moves.allocator();
         Ok(Automaton {
             problem: self.problem.copy()?,
+            list: self.list.copy()?,
+            moves: Vec::from_slice(alloc, &self.moves)?,
+            offs: Vec::from_slice(alloc, &self.offs)?,
+            steps: Vec::from_slice(alloc, &self.steps)?,
+        })
+    }
+
+    /// A copy for the problem with this number of weeks, on which the states don't depend.
+    pub fn with_weeks(&self, weeks: u32) -> Result<Automaton, AllocError>
+        requires some { 1 ≤ weeks }
+        requires few { weeks ≤ MOST_WEEKS }
+        requires few_cells { weeks * self.now.problem.days ≤ MOST_CELLS }
+        ensures { IfOk result (λ a. a ≡ record self.now { problem = record self.now.problem { weeks = weeks } }) }
+    {
+        let alloc = *self.moves.allocator();
+        Ok(Automaton {
+            problem: self.problem.with_weeks(weeks)?,
             list: self.list.copy()?,
             moves: Vec::from_slice(alloc, &self.moves)?,
             offs: Vec::from_slice(alloc, &self.offs)?,

@@ -13,7 +13,7 @@ use crate::reasons::reasons_behind;
 use crate::reducing::reduce_fill;
 use clean_words::{Automaton, Told};
 use refutation_log::{Filled, GivenCells};
-use roster_finder::RosterFinder;
+use roster_finder::{Patience, RosterFinder, SteadyLayer};
 use roster_search::search_given;
 use rwsp_model::Problem;
 use rwsp_terms::limits::GREATEST_BUDGET;
@@ -69,9 +69,11 @@ fn searched(
     requires given { AreGivenIn problem.now given.now }
     ensures { IfOk result (IsFoundBehind problem.now given.now budget) }
 {
-    let finder = RosterFinder::new(alloc, problem)?;
+    let layer = SteadyLayer::of(alloc, problem)?;
+    let finder = RosterFinder::over(problem, &layer, Patience::Long);
     let found = search_with(alloc, &finder, given, budget);
     drop(finder);
+    drop(layer);
     found
 }
 

@@ -414,7 +414,7 @@ fn roster_of(problem: &Problem, cells: Vec<Symbol>) -> Option<Roster>
 #[derive(Drop)]
 pub struct RosterFinder<'a> {
     problem: &'a Problem,
-    layer: SteadyLayer,
+    layer: &'a SteadyLayer,
     // No search goes on for longer.
     most: Patience,
 }
@@ -429,31 +429,28 @@ impl<'a> Model for RosterFinder<'a> {
 
     ghost view = { λ f. f.problem.now };
 
-    ghost invariant = { λ f. f.layer.symbols ≡ shift_count f.problem.now + 1 };
+    ghost invariant = { λ f. f.layer.now.symbols ≡ shift_count f.problem.now + 1 };
 }
 
 impl<'a> RosterFinder<'a> {
-    /// A search for rosters of the problem.
-    pub fn new(alloc: Global, problem: &'a Problem) -> Result<RosterFinder<'a>, AllocError>
-        ensures { IfOk result (λ f. f ≡ problem.now) }
-    {
-        RosterFinder::up_to(alloc, problem, Patience::Long)
-    }
+    ghost use Rattle.std.specs.Prelude.{◌+◌};
+    ghost use Rattle.rwsp_terms.specs.Instance.{shift_count};
 
-    /// A search for rosters of the problem that goes on for no longer than this, whatever is asked for: for a problem
-    /// that is likely to have none.
-    pub fn up_to(
-        alloc: Global,
+    /// A search for rosters of the problem, over the layer of its words. No search goes on for longer than `most`,
+    /// whatever is asked for: a problem that is likely to have no roster gets little patience.
+    pub fn over(
         problem: &'a Problem,
+        layer: &'a SteadyLayer,
         most: Patience,
-    ) -> Result<RosterFinder<'a>, AllocError>
-        ensures { IfOk result (λ f. f ≡ problem.now) }
+    ) -> RosterFinder<'a>
+        requires { layer.now.symbols ≡ shift_count problem.now + 1 }
+        ensures { result ≡ problem.now }
     {
-        Ok(RosterFinder {
+        RosterFinder {
             problem,
-            layer: SteadyLayer::of(alloc, problem)?,
+            layer,
             most,
-        })
+        }
     }
 
     /// The problem.
@@ -480,7 +477,7 @@ impl<'a> RosterFinder<'a> {
         let demand = Demand::of(alloc, self.problem, free)?;
         let setting = Setting {
             alloc,
-            layer: &self.layer,
+            layer: self.layer,
             demand: &demand,
         };
         let domains = DayDomains::all(setting)?;
@@ -521,7 +518,7 @@ impl<'a> RosterFinder<'a> {
         let demand = Demand::of(alloc, self.problem, 0)?;
         let setting = Setting {
             alloc,
-            layer: &self.layer,
+            layer: self.layer,
             demand: &demand,
         };
         let mut domains = DayDomains::all(setting)?;

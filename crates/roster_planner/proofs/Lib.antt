@@ -6,3 +6,4 @@ mod OneLeaves
 mod Counting
 pub mod TopProofs
 pub mod Founds
+mod OtherWeeks

@@ -1,6 +1,7 @@
 // A roster for a problem, or a refutation.
-ghost use Rattle.std.specs.Prelude.{◌≡◌, ◌≤◌, false, IfOk};
+ghost use Rattle.std.specs.Prelude.{◌≡◌, ◌+◌, ◌≤◌, false, IfOk};
 ghost use Rattle.std.specs.Option.{IfSome};
+ghost use Rattle.rwsp_terms.specs.Instance.{shift_count};
 ghost use Rattle.domain_store.specs.Cycles.{AreShortRules};
 ghost use Rattle.refutation_log.specs.Planned.{IsCounted, IsPlanned};
 ghost use Rattle.roster_finder.specs.Found.{IsRosterWith};
@@ -11,7 +12,7 @@ use crate::reasons::reasons_of;
 use crate::{Effort, planner_search};
 use clean_words::{Automaton, Gate, Told};
 use refutation_log::{Found, first_turn};
-use roster_finder::{Patience, RosterFinder};
+use roster_finder::{Patience, RosterFinder, SteadyLayer};
 use roster_search::Aim;
 use rwsp_model::{Problem, Roster};
 use rwsp_terms::limits::GREATEST_BUDGET;
@@ -116,10 +117,12 @@ fn rosters_first<R: Threads + Sync, G: Gate>(
     ensures planned { IfOk result (IsPlanned problem.now budget) }
     ensures counted { IfOk result (IsCounted problem.now false) }
 {
-    let finder = RosterFinder::new(alloc, problem)?;
+    let layer = SteadyLayer::of(alloc, problem)?;
+    let finder = RosterFinder::over(problem, &layer, Patience::Long);
     let found = plan_or_find(rt, alloc, &finder, budget, gate);
     // An owned value that a generic call takes is dropped there, which keeps the proof of this body small.
     drop(finder);
+    drop(layer);
     found
 }
 
@@ -141,9 +144,11 @@ fn reasons_first<R: Threads + Sync, G: Gate>(
     } else {
         Patience::Short
     };
-    let finder = RosterFinder::up_to(alloc, problem, most)?;
+    let layer = SteadyLayer::of(alloc, problem)?;
+    let finder = RosterFinder::over(problem, &layer, most);
     let found = plan_by_cases(rt, alloc, &finder, budget, gate);
     drop(finder);
+    drop(layer);
     let found = found?;
     if budget > FEW_LINES && is_undecided(&found) {
         or_patiently(alloc, problem, budget, found)
@@ -186,9 +191,11 @@ fn or_patiently(
 fn patient_roster(alloc: Global, problem: &Problem) -> Result<Option<Roster>, AllocError>
     ensures { IfOk result (λ found. IfSome found (IsRosterWith problem.now 0)) }
 {
-    let finder = RosterFinder::new(alloc, problem)?;
+    let layer = SteadyLayer::of(alloc, problem)?;
+    let finder = RosterFinder::over(problem, &layer, Patience::Long);
     let found = finder.find(alloc, 0, Patience::Long);
     drop(finder);
+    drop(layer);
     found
 }
 
@@ -226,6 +233,54 @@ fn plan_by_cases<R: Threads + Sync, G: Gate>(
     let found = plan_cases(rt, alloc, &automaton, finder, budget, gate);
     drop(automaton);
     found
+}
+
+/// The plan that `plan_roster` makes, over the automaton of the problem's short rules and the layer of its words, which
+/// are the same for all numbers of weeks.
+pub(crate) fn plan_over<R: Threads + Sync, G: Gate>(
+    rt: &R,
+    alloc: Global,
+    automaton: &Automaton,
+    layer: &SteadyLayer,
+    effort: Effort,
+    gate: &G,
+) -> Result<Found, AllocError>
+    requires short { AreShortRules automaton.now.problem automaton.now.rules }
+    requires symbols { layer.now.symbols ≡ shift_count automaton.now.problem + 1 }
+    requires budget { (1 ≤ effort.budget) × (effort.budget ≤ GREATEST_BUDGET) }
+    ensures planned { IfOk result (IsPlanned automaton.now.problem effort.budget) }
+    ensures counted { IfOk result (IsCounted automaton.now.problem effort.counts) }
+{
+    let problem = automaton.problem();
+    if !effort.counts {
+        return search_over(rt, alloc, automaton, layer, effort.budget, gate);
+    }
+    match counted_log(alloc, problem, first_turn(problem), None)? {
+        Some(log) => Ok(Found::NoRoster(log)),
+        None => search_over(rt, alloc, automaton, layer, effort.budget, gate),
+    }
+}
+
+// The roster that is found soon, or what a search finds, over this automaton and layer.
+fn search_over<R: Threads + Sync, G: Gate>(
+    rt: &R,
+    alloc: Global,
+    automaton: &Automaton,
+    layer: &SteadyLayer,
+    budget: u32,
+    gate: &G,
+) -> Result<Found, AllocError>
+    requires short { AreShortRules automaton.now.problem automaton.now.rules }
+    requires symbols { layer.now.symbols ≡ shift_count automaton.now.problem + 1 }
+    requires budget { (1 ≤ budget) × (budget ≤ GREATEST_BUDGET) }
+    ensures planned { IfOk result (IsPlanned automaton.now.problem budget) }
+    ensures counted { IfOk result (IsCounted automaton.now.problem false) }
+{
+    let finder = RosterFinder::over(automaton.problem(), layer, Patience::Long);
+    if let Some(roster) = finder.find(alloc, 0, Patience::Short)? {
+        return Ok(Found::Roster(roster));
+    }
+    plan_cases(rt, alloc, automaton, &finder, budget, gate)
 }
 
 // What a search finds that distinguishes cases, by reasons for the turn with which it begins.

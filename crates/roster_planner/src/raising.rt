@@ -12,7 +12,7 @@ use crate::likely_most::likely_most;
 use crate::one_goal::RisingGoal;
 use clean_words::{Automaton, Told};
 use refutation_log::{BestFound, Found, Log, Opening};
-use roster_finder::RosterFinder;
+use roster_finder::{Patience, RosterFinder, SteadyLayer};
 use rwsp_model::{Problem, Roster};
 use rwsp_terms::limits::GREATEST_BUDGET;
 use std::alloc::{AllocError, Global};
@@ -49,17 +49,27 @@ fn search_best(alloc: Global, problem: &Problem, budget: u32) -> Result<BestFoun
         IsUndecided found → budget + 1 < 2 * (shift_count problem.now + 1) ^ cells problem.now) }
 {
     let automaton = Automaton::of_short_rules(alloc, problem, Told::DayOff)?;
-    let finder = RosterFinder::new(alloc, automaton.problem());
-    let found = match finder {
-        Ok(finder) => {
-            let mut rising = RisingGoal::new();
-            let found = best_by(alloc, &automaton, &finder, &mut rising, budget);
-            drop(finder);
-            found
-        }
-        Err(error) => Err(error),
-    };
+    let found = best_over(alloc, &automaton, budget);
     drop(automaton);
+    found
+}
+
+// The best roster by searches over the automaton of all short rules, with one finder for all goals.
+fn best_over(alloc: Global, automaton: &Automaton, budget: u32) -> Result<BestFound, AllocError>
+    requires short { AreShortRules automaton.now.problem automaton.now.rules }
+    requires week { automaton.now.problem.days ≡ DAYS_OF_WEEK }
+    requires budget { (1 ≤ budget) × (budget ≤ GREATEST_BUDGET) }
+    ensures found { IfOk result (IsBestFound automaton.now.problem budget) }
+    ensures counted { IfOk result (IsBestCounted automaton.now.problem false) }
+    ensures complete { IfOk result (λ found. IsUndecided found
+        → budget + 1 < 2 * (shift_count automaton.now.problem + 1) ^ cells automaton.now.problem) }
+{
+    let layer = SteadyLayer::of(alloc, automaton.problem())?;
+    let finder = RosterFinder::over(automaton.problem(), &layer, Patience::Long);
+    let mut rising = RisingGoal::new();
+    let found = best_by(alloc, automaton, &finder, &mut rising, budget);
+    drop(finder);
+    drop(layer);
     found
 }
 

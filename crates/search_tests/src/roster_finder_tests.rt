@@ -2,7 +2,7 @@ ghost use Rattle.std.specs.Prelude.{◌≤◌, length};
 ghost use Rattle.rwsp_terms.specs.declared.limits.TheConstants.{LONGEST_FILE};
 
 use refutation_log::read_cells;
-use roster_finder::{Patience, RosterFinder};
+use roster_finder::{Patience, RosterFinder, SteadyLayer};
 use rwsp_model::{Problem, Roster};
 use rwsp_terms::Symbol;
 use std::alloc::{AllocError, Global};
@@ -19,7 +19,9 @@ fn working(cells: &[Symbol], day: usize) -> usize {
 }
 
 fn find_roster(alloc: Global, problem: &Problem) -> Result<Option<Roster>, AllocError> {
-    RosterFinder::new(alloc, problem)?.find(alloc, 0, Patience::Long)
+    let layer = SteadyLayer::of(alloc, problem)?;
+    let finder = RosterFinder::over(problem, &layer, Patience::Long);
+    finder.find(alloc, 0, Patience::Long)
 }
 
 fn roster_found(alloc: Global, problem: &Problem) -> Result<Roster, Fail> {
@@ -56,7 +58,8 @@ fn none_is_found_where_there_is_none(rt: HostRuntime) -> Result<(), Fail> {
 fn weekends_are_free_where_the_demand_lets_them(rt: HostRuntime) -> Result<(), Fail> {
     let problem = problem_of(rt.alloc(), MOST_OF_FOUR_WEEKS)?;
     assert!(rt; problem.days() == 7);
-    let finder = RosterFinder::new(rt.alloc(), &problem)?;
+    let layer = SteadyLayer::of(rt.alloc(), &problem)?;
+    let finder = RosterFinder::over(&problem, &layer, Patience::Long);
     // at most two weeks have a day off
     for (free, is_found) in [(0, true), (1, true), (2, true), (3, false)] {
         let found = finder.find(rt.alloc(), free, Patience::Long)?;
@@ -72,7 +75,9 @@ fn filled(alloc: Global, problem: &Problem, text: &[u8]) -> Result<Option<Roster
     let Ok(given) = read_cells(alloc, problem, text) else {
         return Ok(None);
     };
-    RosterFinder::new(alloc, problem)?.find_given(alloc, &given, Patience::Long)
+    let layer = SteadyLayer::of(alloc, problem)?;
+    let finder = RosterFinder::over(problem, &layer, Patience::Long);
+    finder.find_given(alloc, &given, Patience::Long)
 }
 
 // D is asked for in two or three of four weeks on each day: on the first day in all that are given, and in three.
