@@ -438,11 +438,7 @@ impl<'a> RosterFinder<'a> {
 
     /// A search for rosters of the problem, over the layer of its words. No search goes on for longer than `most`,
     /// whatever is asked for: a problem that is likely to have no roster gets little patience.
-    pub fn over(
-        problem: &'a Problem,
-        layer: &'a SteadyLayer,
-        most: Patience,
-    ) -> RosterFinder<'a>
+    pub fn over(problem: &'a Problem, layer: &'a SteadyLayer, most: Patience) -> RosterFinder<'a>
         requires { layer.now.symbols ≡ shift_count problem.now + 1 }
         ensures { result ≡ problem.now }
     {

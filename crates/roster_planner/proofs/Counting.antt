@@ -141,21 +141,21 @@ if_uncounted P start goal budget leaves spent (Ok found) reasons h = uncounted P
 if_uncounted P start goal budget leaves spent (Err e) reasons h = tt
 
 -- where no leaf of blocks holds, a log that may not count is as one of a search that counts
-search_counts : (P : Instance) (counts : Bool) (g : Log) → NoBlocksHold P → g.counts ≡ false → IsCountedLog P counts g
+search_counts : (P : Instance) (counts : Bool) (g : Log) → (IsTrue counts → NoBlocksHold P) → g.counts ≡ false → IsCountedLog P counts g
 search_counts P false g none uncounts = uncounts
 search_counts P true g none uncounts = record {
-  may_count = (λ may. let never : IsTrue false = subst IsTrue uncounts may in absurd (cc never), λ h. absurd (none h.0 h.1.symbol h.1.holds));
-  no_plain = λ h. absurd (none h.0 h.1.symbol h.1.holds);
-  no_blocks = λ h. none;
+  may_count = (λ may. let never : IsTrue false = subst IsTrue uncounts may in absurd (cc never), λ h. absurd (none tt h.0 h.1.symbol h.1.holds));
+  no_plain = λ h. absurd (none tt h.0 h.1.symbol h.1.holds);
+  no_blocks = λ h. none tt;
 }
 
-pub if_found_counts : (P : Instance) (counts : Bool) (r : Result Found AllocError) → NoBlocksHold P → IfOk r (IsCounted P false) → IfOk r (IsCounted P counts)
+pub if_found_counts : (P : Instance) (counts : Bool) (r : Result Found AllocError) → (IsTrue counts → NoBlocksHold P) → IfOk r (IsCounted P false) → IfOk r (IsCounted P counts)
 if_found_counts P counts (Ok (Roster s)) none h = tt
 if_found_counts P counts (Ok (NoRoster g)) none h = search_counts P counts g none h
 if_found_counts P counts (Ok (Undecided g)) none h = search_counts P counts g none h
 if_found_counts P counts (Err e) none h = tt
 
-pub if_best_counts : (P : Instance) (counts : Bool) (r : Result BestFound AllocError) → NoBlocksHold P → IfOk r (IsBestCounted P false) → IfOk r (IsBestCounted P counts)
+pub if_best_counts : (P : Instance) (counts : Bool) (r : Result BestFound AllocError) → (IsTrue counts → NoBlocksHold P) → IfOk r (IsBestCounted P false) → IfOk r (IsBestCounted P counts)
 if_best_counts P counts (Ok (Bests.Best s g)) none h = search_counts P counts g none h
 if_best_counts P counts (Ok (Bests.NoRoster g)) none h = search_counts P counts g none h
 if_best_counts P counts (Ok (Bests.Undecided s g)) none h = search_counts P counts g none h

@@ -1,10 +1,10 @@
 // A roster for a problem, or a refutation.
-ghost use Rattle.std.specs.Prelude.{◌≡◌, ◌+◌, ◌≤◌, false, IfOk};
+ghost use Rattle.std.specs.Prelude.{◌≡◌, ◌+◌, ◌≤◌, false, None, IfOk, IsTrue};
 ghost use Rattle.std.specs.Option.{IfSome};
 ghost use Rattle.rwsp_terms.specs.Instance.{shift_count};
+ghost use Rattle.refutation_terms.specs.BlocksLeaf.{NoBlocksHold};
 ghost use Rattle.domain_store.specs.Cycles.{AreShortRules};
 ghost use Rattle.refutation_log.specs.Planned.{IsCounted, IsPlanned};
-ghost use Rattle.roster_finder.specs.Found.{IsRosterWith};
 
 use crate::counted::counted_log;
 use crate::effort::FEW_LINES;
@@ -14,7 +14,7 @@ use clean_words::{Automaton, Gate, Told};
 use refutation_log::{Found, first_turn};
 use roster_finder::{Patience, RosterFinder, SteadyLayer};
 use roster_search::Aim;
-use rwsp_model::{Problem, Roster};
+use rwsp_model::Problem;
 use rwsp_terms::limits::GREATEST_BUDGET;
 use std::alloc::{AllocError, Global};
 use std::thread::Threads;
@@ -77,162 +77,10 @@ fn plan_by<R: Threads + Sync, G: Gate>(
     ensures planned { IfOk result (IsPlanned problem.now effort.budget) }
     ensures counted { IfOk result (IsCounted problem.now effort.counts) }
 {
-    if !effort.counts {
-        return search_plan(rt, alloc, problem, effort.budget, gate, first);
-    }
-    match counted_log(alloc, problem, first_turn(problem), None)? {
-        Some(log) => Ok(Found::NoRoster(log)),
+    match counted_plan(alloc, problem, effort)? {
+        Some(found) => Ok(found),
         None => search_plan(rt, alloc, problem, effort.budget, gate, first),
     }
-}
-
-// What a search finds, whose logs may not count blocks.
-fn search_plan<R: Threads + Sync, G: Gate>(
-    rt: &R,
-    alloc: Global,
-    problem: &Problem,
-    budget: u32,
-    gate: &G,
-    first: First,
-) -> Result<Found, AllocError>
-    requires { (1 ≤ budget) × (budget ≤ GREATEST_BUDGET) }
-    ensures planned { IfOk result (IsPlanned problem.now budget) }
-    ensures counted { IfOk result (IsCounted problem.now false) }
-{
-    match first {
-        First::Rosters => rosters_first(rt, alloc, problem, budget, gate),
-        First::Reasons => reasons_first(rt, alloc, problem, budget, gate),
-    }
-}
-
-// What a search finds before which a roster is looked for.
-fn rosters_first<R: Threads + Sync, G: Gate>(
-    rt: &R,
-    alloc: Global,
-    problem: &Problem,
-    budget: u32,
-    gate: &G,
-) -> Result<Found, AllocError>
-    requires { (1 ≤ budget) × (budget ≤ GREATEST_BUDGET) }
-    ensures planned { IfOk result (IsPlanned problem.now budget) }
-    ensures counted { IfOk result (IsCounted problem.now false) }
-{
-    let layer = SteadyLayer::of(alloc, problem)?;
-    let finder = RosterFinder::over(problem, &layer, Patience::Long);
-    let found = plan_or_find(rt, alloc, &finder, budget, gate);
-    // An owned value that a generic call takes is dropped there, which keeps the proof of this body small.
-    drop(finder);
-    drop(layer);
-    found
-}
-
-// What a search finds that looks for rosters for a shorter time. Where it has spent its budget, and this isn't that of a
-// short plan, a roster is looked for with more patience.
-fn reasons_first<R: Threads + Sync, G: Gate>(
-    rt: &R,
-    alloc: Global,
-    problem: &Problem,
-    budget: u32,
-    gate: &G,
-) -> Result<Found, AllocError>
-    requires { (1 ≤ budget) × (budget ≤ GREATEST_BUDGET) }
-    ensures planned { IfOk result (IsPlanned problem.now budget) }
-    ensures counted { IfOk result (IsCounted problem.now false) }
-{
-    let most = if budget > FEW_LINES {
-        Patience::Middle
-    } else {
-        Patience::Short
-    };
-    let layer = SteadyLayer::of(alloc, problem)?;
-    let finder = RosterFinder::over(problem, &layer, most);
-    let found = plan_by_cases(rt, alloc, &finder, budget, gate);
-    drop(finder);
-    drop(layer);
-    let found = found?;
-    if budget > FEW_LINES && is_undecided(&found) {
-        or_patiently(alloc, problem, budget, found)
-    } else {
-        Ok(found)
-    }
-}
-
-// Whether the budget was spent.
-fn is_undecided(found: &Found) -> bool {
-    matches!(found, Found::Undecided(_))
-}
-
-// The roster that is found with patience, or else what was found.
-fn or_patiently(
-    alloc: Global,
-    problem: &Problem,
-    budget: u32,
-    found: Found,
-) -> Result<Found, AllocError>
-    requires planned { IsPlanned problem.now budget found }
-    requires counted { IsCounted problem.now false found }
-    ensures planned { IfOk result (IsPlanned problem.now budget) }
-    ensures counted { IfOk result (IsCounted problem.now false) }
-{
-    match patient_roster(alloc, problem) {
-        Ok(None) => Ok(found),
-        Ok(Some(roster)) => {
-            drop(found);
-            Ok(Found::Roster(roster))
-        }
-        Err(error) => {
-            drop(found);
-            Err(error)
-        }
-    }
-}
-
-// A roster that is found with patience.
-fn patient_roster(alloc: Global, problem: &Problem) -> Result<Option<Roster>, AllocError>
-    ensures { IfOk result (λ found. IfSome found (IsRosterWith problem.now 0)) }
-{
-    let layer = SteadyLayer::of(alloc, problem)?;
-    let finder = RosterFinder::over(problem, &layer, Patience::Long);
-    let found = finder.find(alloc, 0, Patience::Long);
-    drop(finder);
-    drop(layer);
-    found
-}
-
-// The roster that is found soon, or what a search finds.
-fn plan_or_find<R: Threads + Sync, G: Gate>(
-    rt: &R,
-    alloc: Global,
-    finder: &RosterFinder<'_>,
-    budget: u32,
-    gate: &G,
-) -> Result<Found, AllocError>
-    requires { (1 ≤ budget) × (budget ≤ GREATEST_BUDGET) }
-    ensures planned { IfOk result (IsPlanned finder.now budget) }
-    ensures counted { IfOk result (IsCounted finder.now false) }
-{
-    if let Some(roster) = finder.find(alloc, 0, Patience::Short)? {
-        return Ok(Found::Roster(roster));
-    }
-    plan_by_cases(rt, alloc, finder, budget, gate)
-}
-
-// What a search finds that distinguishes cases.
-fn plan_by_cases<R: Threads + Sync, G: Gate>(
-    rt: &R,
-    alloc: Global,
-    finder: &RosterFinder<'_>,
-    budget: u32,
-    gate: &G,
-) -> Result<Found, AllocError>
-    requires { (1 ≤ budget) × (budget ≤ GREATEST_BUDGET) }
-    ensures planned { IfOk result (IsPlanned finder.now budget) }
-    ensures counted { IfOk result (IsCounted finder.now false) }
-{
-    let automaton = Automaton::of_short_rules(alloc, finder.problem(), Told::DayOff)?;
-    let found = plan_cases(rt, alloc, &automaton, finder, budget, gate);
-    drop(automaton);
-    found
 }
 
 /// The plan that `plan_roster` makes, over the automaton of the problem's short rules and the layer of its words, which
@@ -251,18 +99,77 @@ pub(crate) fn plan_over<R: Threads + Sync, G: Gate>(
     ensures planned { IfOk result (IsPlanned automaton.now.problem effort.budget) }
     ensures counted { IfOk result (IsCounted automaton.now.problem effort.counts) }
 {
-    let problem = automaton.problem();
-    if !effort.counts {
-        return search_over(rt, alloc, automaton, layer, effort.budget, gate);
-    }
-    match counted_log(alloc, problem, first_turn(problem), None)? {
-        Some(log) => Ok(Found::NoRoster(log)),
-        None => search_over(rt, alloc, automaton, layer, effort.budget, gate),
+    match counted_plan(alloc, automaton.problem(), effort)? {
+        Some(found) => Ok(found),
+        None => rosters_first(rt, alloc, automaton, layer, effort.budget, gate),
     }
 }
 
-// The roster that is found soon, or what a search finds, over this automaton and layer.
-fn search_over<R: Threads + Sync, G: Gate>(
+// The plan of one leaf, where blocks are counted and one of their leaves holds.
+fn counted_plan(
+    alloc: Global,
+    problem: &Problem,
+    effort: Effort,
+) -> Result<Option<Found>, AllocError>
+    requires { 1 ≤ effort.budget }
+    ensures planned { IfOk result (λ found. IfSome found (IsPlanned problem.now effort.budget)) }
+    ensures counted { IfOk result (λ found. IfSome found (IsCounted problem.now effort.counts)) }
+    ensures none { IfOk result (λ found. found ≡ None → IsTrue effort.counts → NoBlocksHold problem.now) }
+{
+    if !effort.counts {
+        return Ok(None);
+    }
+    match counted_log(alloc, problem, first_turn(problem), None)? {
+        Some(log) => Ok(Some(Found::NoRoster(log))),
+        None => Ok(None),
+    }
+}
+
+// What a search finds that begins so, and whose logs may not count blocks.
+fn search_plan<R: Threads + Sync, G: Gate>(
+    rt: &R,
+    alloc: Global,
+    problem: &Problem,
+    budget: u32,
+    gate: &G,
+    first: First,
+) -> Result<Found, AllocError>
+    requires { (1 ≤ budget) × (budget ≤ GREATEST_BUDGET) }
+    ensures planned { IfOk result (IsPlanned problem.now budget) }
+    ensures counted { IfOk result (IsCounted problem.now false) }
+{
+    let automaton = Automaton::of_short_rules(alloc, problem, Told::DayOff)?;
+    let found = search_by(rt, alloc, &automaton, budget, gate, first);
+    // An owned value that a generic call takes is dropped there, which keeps the proof of this body small.
+    drop(automaton);
+    found
+}
+
+// The same over the automaton of all short rules.
+fn search_by<R: Threads + Sync, G: Gate>(
+    rt: &R,
+    alloc: Global,
+    automaton: &Automaton,
+    budget: u32,
+    gate: &G,
+    first: First,
+) -> Result<Found, AllocError>
+    requires short { AreShortRules automaton.now.problem automaton.now.rules }
+    requires budget { (1 ≤ budget) × (budget ≤ GREATEST_BUDGET) }
+    ensures planned { IfOk result (IsPlanned automaton.now.problem budget) }
+    ensures counted { IfOk result (IsCounted automaton.now.problem false) }
+{
+    let layer = SteadyLayer::of(alloc, automaton.problem())?;
+    let found = match first {
+        First::Rosters => rosters_first(rt, alloc, automaton, &layer, budget, gate),
+        First::Reasons => reasons_first(rt, alloc, automaton, &layer, budget, gate),
+    };
+    drop(layer);
+    found
+}
+
+// The roster that is found soon, or what a search finds that distinguishes cases.
+fn rosters_first<R: Threads + Sync, G: Gate>(
     rt: &R,
     alloc: Global,
     automaton: &Automaton,
@@ -281,6 +188,69 @@ fn search_over<R: Threads + Sync, G: Gate>(
         return Ok(Found::Roster(roster));
     }
     plan_cases(rt, alloc, automaton, &finder, budget, gate)
+}
+
+// What a search finds that looks for rosters for a shorter time. Where it has spent its budget, and this isn't that of a
+// short plan, a roster is looked for with more patience.
+fn reasons_first<R: Threads + Sync, G: Gate>(
+    rt: &R,
+    alloc: Global,
+    automaton: &Automaton,
+    layer: &SteadyLayer,
+    budget: u32,
+    gate: &G,
+) -> Result<Found, AllocError>
+    requires short { AreShortRules automaton.now.problem automaton.now.rules }
+    requires symbols { layer.now.symbols ≡ shift_count automaton.now.problem + 1 }
+    requires budget { (1 ≤ budget) × (budget ≤ GREATEST_BUDGET) }
+    ensures planned { IfOk result (IsPlanned automaton.now.problem budget) }
+    ensures counted { IfOk result (IsCounted automaton.now.problem false) }
+{
+    let most = if budget > FEW_LINES {
+        Patience::Middle
+    } else {
+        Patience::Short
+    };
+    let finder = RosterFinder::over(automaton.problem(), layer, most);
+    let found = plan_cases(rt, alloc, automaton, &finder, budget, gate)?;
+    if budget > FEW_LINES && is_undecided(&found) {
+        or_patiently(alloc, automaton.problem(), layer, budget, found)
+    } else {
+        Ok(found)
+    }
+}
+
+// Whether the budget was spent.
+fn is_undecided(found: &Found) -> bool {
+    matches!(found, Found::Undecided(_))
+}
+
+// The roster that is found with patience, or else what was found.
+fn or_patiently(
+    alloc: Global,
+    problem: &Problem,
+    layer: &SteadyLayer,
+    budget: u32,
+    found: Found,
+) -> Result<Found, AllocError>
+    requires symbols { layer.now.symbols ≡ shift_count problem.now + 1 }
+    requires planned { IsPlanned problem.now budget found }
+    requires counted { IsCounted problem.now false found }
+    ensures planned { IfOk result (IsPlanned problem.now budget) }
+    ensures counted { IfOk result (IsCounted problem.now false) }
+{
+    let finder = RosterFinder::over(problem, layer, Patience::Long);
+    match finder.find(alloc, 0, Patience::Long) {
+        Ok(None) => Ok(found),
+        Ok(Some(roster)) => {
+            drop(found);
+            Ok(Found::Roster(roster))
+        }
+        Err(error) => {
+            drop(found);
+            Err(error)
+        }
+    }
 }
 
 // What a search finds that distinguishes cases, by reasons for the turn with which it begins.

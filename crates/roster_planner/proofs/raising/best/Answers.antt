@@ -9,4 +9,4 @@ returns-in-Some-clause-found c =
     one_proof c.args.problem.now c.args.effort.budget 0 c.in-Some.proof c.requires.budget.0 h.one_leaf h.passes h.same_goal h.cited
 
 pub returns-in-None-clause-counted : goal.returns-in-None-clause-counted
-returns-in-None-clause-counted c = if_best_counts c.args.problem.now c.args.effort.counts c.search_best-in-None.result (rw c.in-None.is at c.in_ok-proof.ensures) c.search_best-in-None.ensures.counted
+returns-in-None-clause-counted c = if_best_counts c.args.problem.now c.args.effort.counts c.search_best-in-None.result (λ _. rw c.in-None.is at c.in_ok-proof.ensures) c.search_best-in-None.ensures.counted
