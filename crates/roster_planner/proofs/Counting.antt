@@ -144,9 +144,9 @@ if_uncounted P start goal budget leaves spent (Err e) reasons h = tt
 search_counts : (P : Instance) (counts : Bool) (g : Log) → (IsTrue counts → NoBlocksHold P) → g.counts ≡ false → IsCountedLog P counts g
 search_counts P false g none uncounts = uncounts
 search_counts P true g none uncounts = record {
-  may_count = (λ may. let never : IsTrue false = subst IsTrue uncounts may in absurd (cc never), λ h. absurd (none tt h.0 h.1.symbol h.1.holds));
-  no_plain = λ h. absurd (none tt h.0 h.1.symbol h.1.holds);
-  no_blocks = λ h. none tt;
+  may_count = (λ may. let never : IsTrue false = subst IsTrue uncounts may in absurd (cc never), λ h. absurd (none refl h.0 h.1.symbol h.1.holds));
+  no_plain = λ h. absurd (none refl h.0 h.1.symbol h.1.holds);
+  no_blocks = λ h. none refl;
 }
 
 pub if_found_counts : (P : Instance) (counts : Bool) (r : Result Found AllocError) → (IsTrue counts → NoBlocksHold P) → IfOk r (IsCounted P false) → IfOk r (IsCounted P counts)

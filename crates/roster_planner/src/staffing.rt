@@ -96,9 +96,9 @@ fn crew_by<R: Threads + Sync, G: Gate>(
     requires sizes { (1 ≤ sizes.low) × (sizes.low ≤ sizes.high) }
     requires most { IsSize made.automaton.now.problem sizes.high }
     requires budget { (1 ≤ effort.budget) × (effort.budget ≤ GREATEST_STAFF_BUDGET) }
-    ensures staffed { IfOk result (IsStaffed made.automaton.now.problem sizes.low sizes.high effort.budget) }
-    ensures counted { IfOk result (IsStaffCounted made.automaton.now.problem effort.counts) }
-    ensures fits { IfOk result (FitsSizes made.automaton.now.problem) }
+    ensures staffed { IfOk result (IsStaffed made.entry.automaton.now.problem sizes.low sizes.high effort.budget) }
+    ensures counted { IfOk result (IsStaffCounted made.entry.automaton.now.problem effort.counts) }
+    ensures fits { IfOk result (FitsSizes made.entry.automaton.now.problem) }
 {
     let mut logs = Vec::new(alloc);
     for weeks in sizes.low..sizes.high + 1 {
@@ -128,8 +128,8 @@ fn plan_for<R: Threads + Sync, G: Gate>(
     requires symbols { made.layer.now.symbols ≡ shift_count made.automaton.now.problem + 1 }
     requires size { IsSize made.automaton.now.problem weeks }
     requires budget { (1 ≤ effort.budget) × (effort.budget ≤ GREATEST_STAFF_BUDGET) }
-    ensures planned { IfOk result (IsPlanned (with_weeks made.automaton.now.problem weeks) effort.budget) }
-    ensures counted { IfOk result (IsCounted (with_weeks made.automaton.now.problem weeks) effort.counts) }
+    ensures planned { IfOk result (IsPlanned (with_weeks made.entry.automaton.now.problem weeks) effort.budget) }
+    ensures counted { IfOk result (IsCounted (with_weeks made.entry.automaton.now.problem weeks) effort.counts) }
 {
     let sized = made.automaton.with_weeks(weeks)?;
     let found = plan_over(rt, alloc, &sized, made.layer, effort, gate);

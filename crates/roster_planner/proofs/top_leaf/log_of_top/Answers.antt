@@ -1,5 +1,5 @@
 -- The leaf closes all cases, and its log is a proof.
-use Rattle.std.proofs.Common.{◌≡◌, List, ℕ, false, Some, refl, ap, sym, ◌∙◌, ◌≤◌, subst, arith}
+use Rattle.std.proofs.Common.{◌≡◌, false, Some, refl, ap, sym, ◌∙◌, subst, arith}
 use Rattle.rwsp_terms.specs.Instance.{Instance}
 use Rattle.refutation_terms.specs.declared.lines.Opening.TheVariants.{Full}
 use Rattle.refutation_terms.specs.Leaves.{LeafFits}
