@@ -14,7 +14,7 @@ pub mod OneCause
 pub mod NotRefused
 pub mod OneLine
 pub mod Rising
-pub mod CellsRead
+pub mod TakenCells
 pub mod CellsSpelled
 pub mod FillPrinted
 pub mod CellWords

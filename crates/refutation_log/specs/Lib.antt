@@ -15,7 +15,6 @@ pub mod Needs
 pub mod OneLeaf
 pub mod GivenCells
 pub mod CellsText
-pub mod CellsReading
 pub mod FillLog
 pub mod FillText
 pub mod FillReading

@@ -126,7 +126,7 @@ says_by P n words true wide e w = (refl, unknown_in P words e)
 says_by P n words false true e w = record { days = eqb-true (length words) P.days w; names = All-from_recursion (IsName P) words (names_in P words e) }
 says_by P n words false false e w = (refl, All-from_recursion (IsName P) words (names_in P words e), not_equal (length words) P.days w)
 
-week_says : (P : Instance) (n : ℕ) (words : List (List ℕ)) (o : Option RosterRefusal) → week_refusal P (n, words) ≡ o → WeekSays P n words o
+week_says : (P : Instance) (n : ℕ) (words : List (List ℕ)) (o : Option RosterRefusal) → week_refusal P (symbol_of P) (n, words) ≡ o → WeekSays P n words o
 week_says P n words o e = subst (WeekSays P n words) e (says_by P n words (list_any (is_unknown P) words) (length words == P.days) refl refl)
 
 -- ---- the first line of a text
@@ -185,9 +185,9 @@ record FirstBad (P : Instance) (n : ℕ) (bytes : List ℕ) (why : RosterRefusal
   place : number + 1 ≡ n + length (lines_of front)
   earlier : AllByRecursion (IsGood P) (lines_of front)
   some : has_some (words_of_line line) ≡ true
-  refused : week_refusal P (number, words_of_line line) ≡ Some why
+  refused : week_refusal P (symbol_of P) (number, words_of_line line) ≡ Some why
 
-bad_here : (P : Instance) (n : ℕ) (bytes line : List ℕ) (others : List (List ℕ)) (why : RosterRefusal) → HasNoFeed line → Splits bytes line others → has_some (words_of_line line) ≡ true → week_refusal P (n, words_of_line line) ≡ Some why → FirstBad P n bytes why
+bad_here : (P : Instance) (n : ℕ) (bytes line : List ℕ) (others : List (List ℕ)) (why : RosterRefusal) → HasNoFeed line → Splits bytes line others → has_some (words_of_line line) ≡ true → week_refusal P (symbol_of P) (n, words_of_line line) ≡ Some why → FirstBad P n bytes why
 bad_here P n bytes line others why h (inl a) some refused = record {
   front = [];
   line = line;
@@ -246,23 +246,23 @@ bad_behind P n bytes line r why h good e f =
 abbrev Later : Instance → ℕ → List (List ℕ) → RosterRefusal → Type 0
 Later P n lines why = (r : List ℕ) → lines_of r ≡ lines → FirstBad P (n + 1) r why
 
-bad_later : (P : Instance) (n : ℕ) (bytes line : List ℕ) (lines : List (List ℕ)) (why : RosterRefusal) → HasNoFeed line → Splits bytes line lines → IsGood P line → first_refusal P (weeks_from (n + 1) lines) ≡ Some why → Later P n lines why → FirstBad P n bytes why
+bad_later : (P : Instance) (n : ℕ) (bytes line : List ℕ) (lines : List (List ℕ)) (why : RosterRefusal) → HasNoFeed line → Splits bytes line lines → IsGood P line → first_refusal P (symbol_of P) (weeks_from (n + 1) lines) ≡ Some why → Later P n lines why → FirstBad P n bytes why
 bad_later P n bytes line lines why h (inl a) good refused later =
-    let none : first_refusal P (weeks_from (n + 1) lines) ≡ None = ap (λ ls. first_refusal P (weeks_from (n + 1) ls)) a.1 in
+    let none : first_refusal P (symbol_of P) (weeks_from (n + 1) lines) ≡ None = ap (λ ls. first_refusal P (symbol_of P) (weeks_from (n + 1) ls)) a.1 in
     let both : None ≡ Some why = sym none ∙ refused in
     absurd (cc)
 bad_later P n bytes line lines why h (inr a) good refused later = bad_behind P n bytes line a.0 why h good a.1 (later a.0 a.2)
 
-bad_by : (P : Instance) (n : ℕ) (bytes line : List ℕ) (lines : List (List ℕ)) (why : RosterRefusal) → HasNoFeed line → Splits bytes line lines → (first_refusal P (weeks_from (n + 1) lines) ≡ Some why → Later P n lines why) → (b : Bool) → has_some (words_of_line line) ≡ b → (o : Option RosterRefusal) → week_refusal P (n, words_of_line line) ≡ o → first_refusal P (cond b ((n, words_of_line line) ∷ weeks_from (n + 1) lines) (weeks_from (n + 1) lines)) ≡ Some why → FirstBad P n bytes why
+bad_by : (P : Instance) (n : ℕ) (bytes line : List ℕ) (lines : List (List ℕ)) (why : RosterRefusal) → HasNoFeed line → Splits bytes line lines → (first_refusal P (symbol_of P) (weeks_from (n + 1) lines) ≡ Some why → Later P n lines why) → (b : Bool) → has_some (words_of_line line) ≡ b → (o : Option RosterRefusal) → week_refusal P (symbol_of P) (n, words_of_line line) ≡ o → first_refusal P (symbol_of P) (cond b ((n, words_of_line line) ∷ weeks_from (n + 1) lines) (weeks_from (n + 1) lines)) ≡ Some why → FirstBad P n bytes why
 bad_by P n bytes line lines why h splits later false e o w refused = bad_later P n bytes line lines why h splits (inl (none_of (words_of_line line) e)) refused (later refused)
 bad_by P n bytes line lines why h splits later true e None w refused =
-    let rest : first_refusal P (weeks_from (n + 1) lines) ≡ Some why = sym (ap (λ o. option_or o (first_refusal P (weeks_from (n + 1) lines))) w) ∙ refused in
+    let rest : first_refusal P (symbol_of P) (weeks_from (n + 1) lines) ≡ Some why = sym (ap (λ o. option_or o (first_refusal P (symbol_of P) (weeks_from (n + 1) lines))) w) ∙ refused in
     bad_later P n bytes line lines why h splits (inr (week_says P n (words_of_line line) None w)) rest (later rest)
 bad_by P n bytes line lines why h splits later true e (Some other) w refused =
-    let same : Some other ≡ Some why = sym (ap (λ o. option_or o (first_refusal P (weeks_from (n + 1) lines))) w) ∙ refused in
+    let same : Some other ≡ Some why = sym (ap (λ o. option_or o (first_refusal P (symbol_of P) (weeks_from (n + 1) lines))) w) ∙ refused in
     bad_here P n bytes line lines why h splits e (w ∙ same)
 
-find : (P : Instance) (lines : List (List ℕ)) (n : ℕ) (bytes : List ℕ) (why : RosterRefusal) → lines_of bytes ≡ lines → first_refusal P (weeks_from n lines) ≡ Some why → FirstBad P n bytes why
+find : (P : Instance) (lines : List (List ℕ)) (n : ℕ) (bytes : List ℕ) (why : RosterRefusal) → lines_of bytes ≡ lines → first_refusal P (symbol_of P) (weeks_from n lines) ≡ Some why → FirstBad P n bytes why
 find P [] n bytes why e h = absurd (cc)
 find P (line ∷ lines) n bytes why e h =
     let f = first_of bytes in
@@ -273,17 +273,17 @@ find P (line ∷ lines) n bytes why e h =
     (subst HasNoFeed one f.unbroken)
     (subst (λ l. Splits bytes l lines) one (subst (Splits bytes f.line) rest f.splits))
     (λ refused r cut. find P lines (n + 1) r why cut refused)
-    (has_some (words_of_line line)) refl (week_refusal P (n, words_of_line line)) refl h
+    (has_some (words_of_line line)) refl (week_refusal P (symbol_of P) (n, words_of_line line)) refl h
 
 -- ---- what the lines of a text have of which no week is refused
 
-good_by : (P : Instance) (n : ℕ) (line : List ℕ) (rest : List (ℕ × List (List ℕ))) (b : Bool) → has_some (words_of_line line) ≡ b → first_refusal P (cond b ((n, words_of_line line) ∷ rest) rest) ≡ None → IsGood P line × (first_refusal P rest ≡ None)
+good_by : (P : Instance) (n : ℕ) (line : List ℕ) (rest : List (ℕ × List (List ℕ))) (b : Bool) → has_some (words_of_line line) ≡ b → first_refusal P (symbol_of P) (cond b ((n, words_of_line line) ∷ rest) rest) ≡ None → IsGood P line × (first_refusal P (symbol_of P) rest ≡ None)
 good_by P n line rest false e h = (inl (none_of (words_of_line line) e), h)
 good_by P n line rest true e h =
-    let parts = both_none (week_refusal P (n, words_of_line line)) (first_refusal P rest) h in
+    let parts = both_none (week_refusal P (symbol_of P) (n, words_of_line line)) (first_refusal P (symbol_of P) rest) h in
     (inr (week_says P n (words_of_line line) None parts.0), parts.1)
 
-all_good : (P : Instance) (n : ℕ) (lines : List (List ℕ)) → first_refusal P (weeks_from n lines) ≡ None → AllByRecursion (IsGood P) lines
+all_good : (P : Instance) (n : ℕ) (lines : List (List ℕ)) → first_refusal P (symbol_of P) (weeks_from n lines) ≡ None → AllByRecursion (IsGood P) lines
 all_good P n [] h = tt
 all_good P n (line ∷ lines) h =
     let parts = good_by P n line (weeks_from (n + 1) lines) (has_some (words_of_line line)) refl h in
@@ -351,7 +351,7 @@ symbols_named P (word ∷ words) h =
     let rest = symbols_named P words (All-tail (IsName P) word words h) in
     (here.0 ∷ rest.0, let one : symbol_of P word ≡ Some here.0 = here.1 in let others : map (symbol_of P) words ≡ map Some rest.0 = rest.1 in cc)
 
-weeks_named : (P : Instance) (weeks : List (List (List ℕ))) → AllByRecursion (IsWeek P) weeks → WeeksNamed P weeks
+weeks_named : (P : Instance) (weeks : List (List (List ℕ))) → AllByRecursion (IsWeek P) weeks → WeeksNamed P (symbol_of P) weeks
 weeks_named P [] h = record { symbols = []; names = refl; days = tt }
 weeks_named P (week ∷ weeks) h =
     let first = h.0 in
@@ -413,7 +413,7 @@ off_weeks P n days =
     weeks_printed (λ k. days_off P) (range_with_len 0 n)
     (each (AllByRecursion IsPrinted (days_off P) × (has_some (days_off P) ≡ true)) (range_with_len 0 n) (offs_printed P.days, offs_some P.days days))
 
-spelled_by : (P : Instance) (bytes : List ℕ) → WeeksNamed P (weeks_of bytes) → length (weeks_of bytes) ≡ P.weeks → (s : List Symbol) × SpellsRoster P bytes s
+spelled_by : (P : Instance) (bytes : List ℕ) → WeeksNamed P (symbol_of P) (weeks_of bytes) → length (weeks_of bytes) ≡ P.weeks → (s : List Symbol) × SpellsRoster P bytes s
 spelled_by P bytes named count = (named.symbols, record { weeks = count; days = All-from_recursion (λ week. length week ≡ P.days) (weeks_of bytes) named.days; names = named.names })
 
 can_go_on : (P : Instance) (text : List ℕ) → 1 ≤ P.days → EndsWithFeed text → AllByRecursion (IsWeek P) (weeks_of text) → length (weeks_of text) ≤ P.weeks → CanGoOn P text
@@ -425,7 +425,7 @@ can_go_on P text days ends good few =
     let both : length (weeks_of text ++ off) ≡ length (weeks_of text) + length off = length-append (weeks_of text) off in
     let whole : length (weeks_of (text ++ text_off P n)) ≡ length (weeks_of text ++ off) = ap (λ w. length w) weeks in
     let named = weeks_named P (weeks_of text ++ off) (all_joined (IsWeek P) (weeks_of text) off good (weeks_off P (range_with_len 0 n))) in
-    let spelled = spelled_by P (text ++ text_off P n) (subst (WeeksNamed P) (sym weeks) named) (omega (arith, few, long, both, whole)) in
+    let spelled = spelled_by P (text ++ text_off P n) (subst (WeeksNamed P (symbol_of P)) (sym weeks) named) (omega (arith, few, long, both, whole)) in
     (text_off P n, spelled.0, spelled.1)
 
 -- ---- the law
@@ -456,7 +456,7 @@ line_is_first P bytes (Width k) f days says =
     (λ h. says.2 h.1)
 line_is_first P bytes (Weeks k) f days says = absurd says
 
-count_fails : (P : Instance) (bytes : List ℕ) (count : ℕ) → 1 ≤ P.days → first_refusal P (numbered_weeks bytes) ≡ None → count ≡ length (weeks_of bytes) → count ≢ P.weeks → CountFails P bytes count
+count_fails : (P : Instance) (bytes : List ℕ) (count : ℕ) → 1 ≤ P.days → first_refusal P (symbol_of P) (numbered_weeks bytes) ≡ None → count ≡ length (weeks_of bytes) → count ≢ P.weeks → CountFails P bytes count
 count_fails P bytes count days none counted other =
     let good = all_good P 1 (lines_of bytes) none in
     let fed = weeks_fed bytes in
@@ -481,12 +481,12 @@ count_by_equal P n why false e h =
     let same : Weeks n ≡ why = cc in
     subst (CountSays P n) same (refl, not_equal n P.weeks e)
 
-count_is_first : (P : Instance) (bytes : List ℕ) (why : RosterRefusal) → 1 ≤ P.days → first_refusal P (numbered_weeks bytes) ≡ None → CountSays P (length (weeks_of bytes)) why → IsFirstFailure P bytes why
+count_is_first : (P : Instance) (bytes : List ℕ) (why : RosterRefusal) → 1 ≤ P.days → first_refusal P (symbol_of P) (numbered_weeks bytes) ≡ None → CountSays P (length (weeks_of bytes)) why → IsFirstFailure P bytes why
 count_is_first P bytes (Unknown k) days none says = absurd says
 count_is_first P bytes (Width k) days none says = absurd says
 count_is_first P bytes (Weeks k) days none says = count_fails P bytes k days none says.0 (λ e. says.1 (sym says.0 ∙ e))
 
-first_by_lines : (P : Instance) (bytes : List ℕ) (why : RosterRefusal) → 1 ≤ P.days → (o : Option RosterRefusal) → first_refusal P (numbered_weeks bytes) ≡ o → option_or o (count_refusal P (length (weeks_of bytes))) ≡ Some why → IsFirstFailure P bytes why
+first_by_lines : (P : Instance) (bytes : List ℕ) (why : RosterRefusal) → 1 ≤ P.days → (o : Option RosterRefusal) → first_refusal P (symbol_of P) (numbered_weeks bytes) ≡ o → option_or o (count_refusal P (length (weeks_of bytes))) ≡ Some why → IsFirstFailure P bytes why
 first_by_lines P bytes why days None e h =
     count_is_first P bytes why days e (count_by_equal P (length (weeks_of bytes)) why (length (weeks_of bytes) == P.weeks) refl h)
 first_by_lines P bytes why days (Some other) e h =
@@ -516,42 +516,42 @@ all_in_front Q (x ∷ xs) ys h = (All-head Q x (xs ++ ys) h, all_in_front Q xs y
 names_known : (P : Instance) (words : List (List ℕ)) → All (IsName P) words → list_any (is_unknown P) words ≡ false
 names_known P words h = let s = symbols_named P words h in none_unknown (symbol_of P) words s.0 s.1
 
-week_accepted : (P : Instance) (n : ℕ) (words : List (List ℕ)) → IsWeek P words → week_refusal P (n, words) ≡ None
+week_accepted : (P : Instance) (n : ℕ) (words : List (List ℕ)) → IsWeek P words → week_refusal P (symbol_of P) (n, words) ≡ None
 week_accepted P n words h =
     cond-false (list_any (is_unknown P) words) (Some (Unknown n)) (cond (length words == P.days) None (Some (Width n))) (names_known P words h.names)
     ∙ cond-true (length words == P.days) None (Some (Width n)) (eq-eqb (length words) P.days h.days)
 
-unknown_refused : (P : Instance) (n : ℕ) (words : List (List ℕ)) → HasUnknown P words → week_refusal P (n, words) ≡ Some (Unknown n)
+unknown_refused : (P : Instance) (n : ℕ) (words : List (List ℕ)) → HasUnknown P words → week_refusal P (symbol_of P) (n, words) ≡ Some (Unknown n)
 unknown_refused P n words m =
     cond-true (list_any (is_unknown P) words) (Some (Unknown n)) (cond (length words == P.days) None (Some (Width n)))
     (list_any-from_Any (is_unknown P) words (m.0, m.1, m.2, m.3, ap is_none m.4))
 
-width_refused : (P : Instance) (n : ℕ) (words : List (List ℕ)) → HasWrongWidth P words → week_refusal P (n, words) ≡ Some (Width n)
+width_refused : (P : Instance) (n : ℕ) (words : List (List ℕ)) → HasWrongWidth P words → week_refusal P (symbol_of P) (n, words) ≡ Some (Width n)
 width_refused P n words h =
     cond-false (list_any (is_unknown P) words) (Some (Unknown n)) (cond (length words == P.days) None (Some (Width n))) (names_known P words h.names)
     ∙ cond-false (length words == P.days) None (Some (Width n)) (ne_eqb (length words) P.days h.width)
 
-good_accepted : (P : Instance) (n : ℕ) (line : List ℕ) (rest : List (ℕ × List (List ℕ))) → IsGood P line → (b : Bool) → has_some (words_of_line line) ≡ b → first_refusal P (cond b ((n, words_of_line line) ∷ rest) rest) ≡ first_refusal P rest
+good_accepted : (P : Instance) (n : ℕ) (line : List ℕ) (rest : List (ℕ × List (List ℕ))) → IsGood P line → (b : Bool) → has_some (words_of_line line) ≡ b → first_refusal P (symbol_of P) (cond b ((n, words_of_line line) ∷ rest) rest) ≡ first_refusal P (symbol_of P) rest
 good_accepted P n line rest good false e = refl
 good_accepted P n line rest (inl none) true e = absurd (some_words (words_of_line line) e none)
-good_accepted P n line rest (inr week) true e = ap (λ o. option_or o (first_refusal P rest)) (week_accepted P n (words_of_line line) week)
+good_accepted P n line rest (inr week) true e = ap (λ o. option_or o (first_refusal P (symbol_of P) rest)) (week_accepted P n (words_of_line line) week)
 
-none_refused : (P : Instance) (n : ℕ) (lines : List (List ℕ)) → AllByRecursion (IsGood P) lines → first_refusal P (weeks_from n lines) ≡ None
+none_refused : (P : Instance) (n : ℕ) (lines : List (List ℕ)) → AllByRecursion (IsGood P) lines → first_refusal P (symbol_of P) (weeks_from n lines) ≡ None
 none_refused P n [] h = refl
 none_refused P n (line ∷ lines) h =
     good_accepted P n line (weeks_from (n + 1) lines) h.0 (has_some (words_of_line line)) refl ∙ none_refused P (n + 1) lines h.1
 
-refused_behind : (P : Instance) (lines : List (List ℕ)) (line : List ℕ) (others : List (List ℕ)) (n number : ℕ) (why : RosterRefusal) → AllByRecursion (IsGood P) lines → has_some (words_of_line line) ≡ true → number ≡ n + length lines → week_refusal P (number, words_of_line line) ≡ Some why → first_refusal P (weeks_from n (lines ++ line ∷ others)) ≡ Some why
+refused_behind : (P : Instance) (lines : List (List ℕ)) (line : List ℕ) (others : List (List ℕ)) (n number : ℕ) (why : RosterRefusal) → AllByRecursion (IsGood P) lines → has_some (words_of_line line) ≡ true → number ≡ n + length lines → week_refusal P (symbol_of P) (number, words_of_line line) ≡ Some why → first_refusal P (symbol_of P) (weeks_from n (lines ++ line ∷ others)) ≡ Some why
 refused_behind P [] line others n number why h some place refused =
     let same : number ≡ n = omega (arith, place) in
     let rest = weeks_from (n + 1) others in
-    ap (first_refusal P) (cond-true (has_some (words_of_line line)) ((n, words_of_line line) ∷ rest) rest some)
-    ∙ ap (λ o. option_or o (first_refusal P rest)) (subst (λ k. week_refusal P (k, words_of_line line) ≡ Some why) same refused)
+    ap (first_refusal P (symbol_of P)) (cond-true (has_some (words_of_line line)) ((n, words_of_line line) ∷ rest) rest some)
+    ∙ ap (λ o. option_or o (first_refusal P (symbol_of P) rest)) (subst (λ k. week_refusal P (symbol_of P) (k, words_of_line line) ≡ Some why) same refused)
 refused_behind P (first ∷ lines) line others n number why h some place refused =
     good_accepted P n first (weeks_from (n + 1) (lines ++ line ∷ others)) h.0 (has_some (words_of_line first)) refl
     ∙ refused_behind P lines line others (n + 1) number why h.1 some (omega (arith, place)) refused
 
-line_refused : (P : Instance) (Fault : List (List ℕ) → Type 0) (bytes : List ℕ) (number : ℕ) (why : RosterRefusal) (f : LineFails P Fault bytes number) → has_some (words_of_line f.line) ≡ true → week_refusal P (number, words_of_line f.line) ≡ Some why → refusal_of_roster P bytes ≡ Some why
+line_refused : (P : Instance) (Fault : List (List ℕ) → Type 0) (bytes : List ℕ) (number : ℕ) (why : RosterRefusal) (f : LineFails P Fault bytes number) → has_some (words_of_line f.line) ≡ true → week_refusal P (symbol_of P) (number, words_of_line f.line) ≡ Some why → refusal_of_roster P bytes ≡ Some why
 line_refused P Fault bytes number why f some refused =
     let b = lines_in_front f.front f.begins in
     let c = line_cut f.line f.back f.unbroken f.ends in
@@ -561,13 +561,13 @@ line_refused P Fault bytes number why f some refused =
     let long : length (lines_of f.front) ≡ length (b.lines ++ [] ∷ []) = ap (λ ls. length ls) b.whole in
     let good = all_in_front (IsGood P) b.lines ([] ∷ []) (subst (All (IsGood P)) b.whole f.earlier) in
     let number_is : number ≡ 1 + length b.lines = omega (arith, place, long, length-append b.lines ([] ∷ []), length-slice_split is_feed f.front) in
-    line_is_refused P bytes why (ap (λ ls. first_refusal P (weeks_from 1 ls)) lines ∙ refused_behind P b.lines f.line c.0 1 number why good some number_is refused)
+    line_is_refused P (symbol_of P) bytes why (ap (λ ls. first_refusal P (symbol_of P) (weeks_from 1 ls)) lines ∙ refused_behind P b.lines f.line c.0 1 number why good some number_is refused)
 
 count_refused : (P : Instance) (bytes : List ℕ) (count : ℕ) → CountFails P bytes count → refusal_of_roster P bytes ≡ Some (Weeks count)
 count_refused P bytes count f =
     let good = recursion_from_All (IsGood P) (lines_of bytes) f.lines in
     let long : length (weeks_of bytes) ≡ length (numbered_weeks bytes) = ap (λ w. length w) (sym (weeks_are bytes)) ∙ length-map (numbered_weeks bytes) (λ week. week.1) in
-    count_is_refused P bytes count (none_refused P 1 (lines_of bytes) good) (f.counted ∙ long) f.other
+    count_is_refused P (symbol_of P) bytes count (none_refused P 1 (lines_of bytes) good) (f.counted ∙ long) f.other
 
 has_words : (words : List (List ℕ)) → 0 < length words → has_some words ≡ true
 has_words [] h = absurd (omega (arith, h))
@@ -590,4 +590,4 @@ first_is_refused P bytes (Width k) f =
 first_is_refused P bytes (Weeks k) f = count_refused P bytes k f
 
 pub refusals_are_first : RefusalsAreFirst
-refusals_are_first P bytes why days = (λ h. first_by_lines P bytes why days (first_refusal P (numbered_weeks bytes)) refl h, first_is_refused P bytes why)
+refusals_are_first P bytes why days = (λ h. first_by_lines P bytes why days (first_refusal P (symbol_of P) (numbered_weeks bytes)) refl h, first_is_refused P bytes why)

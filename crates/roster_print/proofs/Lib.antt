@@ -1,4 +1,5 @@
 pub mod Spelling
+pub mod Closed
 pub mod Printing
 pub mod Printed
 pub mod Reading

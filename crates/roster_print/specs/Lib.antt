@@ -1,4 +1,5 @@
 pub mod RosterText
+pub mod Said
 pub mod Refusal
 pub mod FirstFailures
 pub mod Reading

@@ -1,5 +1,5 @@
 -- Which texts spell a roster, and the text that is printed of one.
-use Rattle.std.specs.Prelude.{◌≡◌, ℕ, ◌*◌, List, [], ◌∷◌, ◌++◌, length, Some, map, filter, take, drop, All}
+use Rattle.std.specs.Prelude.{◌≡◌, ℕ, ◌*◌, List, [], ◌∷◌, ◌++◌, length, Option, Some, map, filter, take, drop, All}
 use Rattle.std.specs.List.{flat_map, range_with_len, join_with_byte}
 use Rattle.rwsp_text.specs.Lexemes.{lines_of, words_of_line, has_some}
 use Rattle.rwsp_terms.specs.Instance.{Instance, symbol_of, name_of}
@@ -9,11 +9,15 @@ use Rattle.rwsp_terms.specs.declared.data.Symbol.{Symbol}
 abbrev pub weeks_of : List ℕ → List (List (List ℕ))
 weeks_of bytes = filter has_some (map words_of_line (lines_of bytes))
 
--- each week has a word for each day, and the words, week after week, are the names of the cells
-pub record SpellsRoster (P : Instance) (bytes : List ℕ) (s : List Symbol) : Type 0 where
+-- each week has a word for each day, and this is what the words say, week after week
+pub record SpellsWeeks {A : Type 0} (P : Instance) (said : List ℕ → Option A) (bytes : List ℕ) (s : List A) : Type 0 where
   pub weeks : length (weeks_of bytes) ≡ P.weeks
   pub days : All (λ week. length week ≡ P.days) (weeks_of bytes)
-  pub names : map (symbol_of P) (flat_map (λ week. week) (weeks_of bytes)) ≡ map Some s
+  pub names : map said (flat_map (λ week. week) (weeks_of bytes)) ≡ map Some s
+
+-- the words are the names of the cells
+abbrev pub SpellsRoster : Instance → List ℕ → List Symbol → Type 0
+SpellsRoster P = SpellsWeeks P (symbol_of P)
 
 -- the cells of a week, where weeks count from 0
 abbrev pub week_at : Instance → List Symbol → ℕ → List Symbol

@@ -15,7 +15,7 @@ pub use laws::{
 };
 pub use names::put_after_blanks;
 pub use print::print_roster;
-pub use read::read_roster;
+pub use read::{read_roster, read_weeks};
 pub use refusal::RosterRefusal;
 pub use refusal_text::put_roster_refusal;
 pub use rule::put_rule;

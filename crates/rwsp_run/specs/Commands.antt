@@ -4,7 +4,7 @@ use Rattle.rwsp_terms.specs.declared.limits.TheConstants.{DAYS_OF_WEEK}
 use Rattle.rwsp_terms.specs.Instance.{Instance, symbol_of}
 use Rattle.rwsp_file.specs.Text.{problem_text}
 use Rattle.refutation_terms.specs.declared.lines.LogKind.TheVariants.{WithoutGoal, WithGoal}
-use Rattle.refutation_log.specs.CellsText.{open_word}
+use Rattle.roster_print.specs.Said.{open_word}
 use Rattle.command_line.specs.declared.command.Command.{Command}
 use Rattle.command_line.specs.declared.command.Command.TheVariants.{OnProblem, OnFiles}
 use Rattle.command_line.specs.declared.command.ProblemTask.{ProblemTask}

@@ -1,4 +1,4 @@
-use Rattle.refutation_log.proofs.CellsRead.{TakesOn}
+use Rattle.refutation_log.proofs.TakenCells.{TakesOn}
 use Rattle.refutation_log.proofs.cells_text.cells_given.Given as goal
 
 abbrev pub invariant-loop-p : goal.invariant-loop-p

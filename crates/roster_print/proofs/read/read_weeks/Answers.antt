@@ -1,21 +1,10 @@
-use Rattle.std.proofs.Common.{rules, ◌≡◌, Err, Bool}
-use Rattle.roster_print.proofs.Reading.{IsFirst, week_skipped, week_read, week_refused, refused_again}
+use Rattle.std.proofs.Common.{sym, ◌∙◌}
+use Rattle.roster_print.specs.Said.{said_of}
+use Rattle.roster_print.proofs.Spelling.{read_is_spelled, count_is_refused}
 use Rattle.roster_print.proofs.read.read_weeks.Goals as goal
-use Rattle.roster_print.proofs.read.read_weeks.Goals.{then-branch, else-branch}
 
-pub returns-in_err-read_line-clause-refused : goal.returns-in_err-read_line-clause-refused
-returns-in_err-read_line-clause-refused c =
-    let first : IsFirst c.in-Some.text.now c.next.new.self c.loop-text.reader = record { whole = c.in-Some.ensures.line.1; some = c.in-Some.ensures.line.0; ends = c.in-Some.ensures.end } in
-    let same : c.from_residual.result ≡ Err c.in_err-read_line.field-0.0 = search rules in
-    refused_again Bool c.in_err-read_line.field-0.0 c.from_residual.result _ _ same
-    (λ why h. week_refused c.args.problem.now c.args.bytes.now c.loop-text.reader c.in-Some.text.now c.next.new.self c.loop-text.cells.items c.loop-text.weeks c.loop-text.line why c.loop-text.invariant first h.0 h.1)
-    c.in_err-read_line.ensures.refused
+pub returns-then-weeks-clause-refused : goal.returns-then-weeks-clause-refused
+returns-then-weeks-clause-refused c = count_is_refused c.args.problem.now (said_of c.args.problem.now c.args.lets_open) c.args.bytes.now c.in_ok-said.weeks c.in_ok-said.ensures.accepted c.in_ok-said.ensures.count (λ same. c.if-weeks.true (same ∙ sym c.weeks.ensures.value))
 
-pub loop-text-preserved : goal.loop-text-preserved
-loop-text-preserved c =
-    let first : IsFirst c.in-Some.text.now c.next.new.self c.loop-text.reader = record { whole = c.in-Some.ensures.line.1; some = c.in-Some.ensures.line.0; ends = c.in-Some.ensures.end } in
-    let read = c.in_ok-read_line.ensures in
-    elim c.if-branch.branch [
-      | then-branch w ↦ week_read c.args.problem.now c.args.bytes.now c.loop-text.reader c.in-Some.text.now c.next.new.self c.loop-text.cells.items c.read_line.new.cells.items c.loop-text.weeks c.if-branch.weeks c.loop-text.line c.in_ok-read_line.field-0 c.loop-text.invariant first read.week w.if-branch.true read.accepted read.names w.weeks-is
-      | else-branch w ↦ week_skipped c.args.problem.now c.args.bytes.now c.loop-text.reader c.in-Some.text.now c.next.new.self c.loop-text.cells.items c.read_line.new.cells.items c.loop-text.weeks c.if-branch.weeks c.loop-text.line c.in_ok-read_line.field-0 c.loop-text.invariant first read.week w.if-branch.false read.names w.weeks-is
-    ]
+pub returns-clause-spelled : goal.returns-clause-spelled
+returns-clause-spelled c = read_is_spelled c.args.problem.now (said_of c.args.problem.now c.args.lets_open) c.args.bytes.now c.in_ok-said.said.items c.in_ok-said.ensures.said (sym c.in_ok-said.ensures.count ∙ c.if-weeks.false ∙ c.weeks.ensures.value) c.in_ok-said.ensures.accepted
