@@ -1,5 +1,5 @@
--- A log has one reduction, which has its goal.
-use Rattle.std.proofs.Common.{◌≡◌, ℕ, zero, suc, List, [], ◌∷◌, sym, ◌∙◌, ap, subst, inl, inr}
+-- A log has one reduction.
+use Rattle.std.proofs.Common.{◌≡◌, ℕ, zero, suc, List, [], ◌∷◌, sym, ◌∙◌, subst, inl, inr}
 use Rattle.std.specs.Prelude.{reverse}
 use Rattle.rwsp_terms.specs.Instance.{Instance}
 use Rattle.refutation_terms.specs.Log.{Log}
@@ -24,17 +24,3 @@ one_after P (suc m) (suc n) g h k a b = one_after P m n a.0 h k a.3 (subst (λ (
 
 pub one_reduced : (P : Instance) (g h k : Log) → IsReduced P g h → IsReduced P g k → h ≡ k
 one_reduced P g h k a b = one_after P a.0 b.0 g h k a.1 b.1
-
--- a log keeps its goal where rules are taken out
-
-stripped_goal : (P : Instance) (numbers : List ℕ) (g h : Log) → StripsTo P numbers g h → h.goal ≡ g.goal
-stripped_goal P [] g h a = sym (ap (λ (k : Log). k.goal) a)
-stripped_goal P (number ∷ rest) g h (inl a) = stripped_goal P rest (strip P number g) h a.1
-stripped_goal P (number ∷ rest) g h (inr a) = stripped_goal P rest g h a.1
-
-goal_after : (P : Instance) (n : ℕ) (g h : Log) → ReducesIn P n g h → h.goal ≡ g.goal
-goal_after P zero g h a = sym (ap (λ (k : Log). k.goal) a.1)
-goal_after P (suc n) g h a = goal_after P n a.0 h a.3 ∙ stripped_goal P (reverse g.named) g a.0 a.1
-
-pub reduced_goal : (P : Instance) (g h : Log) → IsReduced P g h → h.goal ≡ g.goal
-reduced_goal P g h a = goal_after P a.0 g h a.1

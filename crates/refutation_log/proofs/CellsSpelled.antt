@@ -68,7 +68,7 @@ pub refused_gives_none : (P : Instance) (bytes : List ℕ) (why : RosterRefusal)
 refused_gives_none P bytes why e given (said, a, from) = Spelling.refused_spells_none P (said_of P true) bytes why e said a
 
 decided_by : (P : Instance) (bytes : List ℕ) (o : Option RosterRefusal) → MatchOption o ((said : List (Option Symbol)) × SpellsWeeks P (said_of P true) bytes said) (λ why. (said : List (Option Symbol)) → SpellsWeeks P (said_of P true) bytes said → ⊥) → MatchOption o ((given : List GivenCell) × SpellsGiven P bytes given) (λ why. (given : List GivenCell) → SpellsGiven P bytes given → ⊥)
-decided_by P bytes None (said, a) = (given_from 0 said, said, a, refl)
+decided_by P bytes None (said, a) = (given_from 0 said, (said, a, refl))
 decided_by P bytes (Some why) none = λ given h. none h.0 h.1
 
 pub refusals_decide : RefusalsDecideCells

@@ -27,7 +27,7 @@ first_refusal P said (week ∷ weeks) = option_or (week_refusal P said week) (fi
 abbrev pub count_refusal : Instance → ℕ → Option RosterRefusal
 count_refusal P n = if n == P.weeks then None else Some (Weeks n)
 
--- why a text is refused whose words say what they say by the function
+-- why a text is refused, where the function gives what a word says
 abbrev pub refusal_of_weeks : {A : Type 0} → Instance → (List ℕ → Option A) → List ℕ → Option RosterRefusal
 refusal_of_weeks P said bytes =
     option_or (first_refusal P said (numbered_weeks bytes)) (count_refusal P (length (weeks_of bytes)))

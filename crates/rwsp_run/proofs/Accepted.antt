@@ -24,6 +24,7 @@ use Rattle.crew_size.proofs.Decided.{printed_accepted, accepted_decide}
 use Rattle.command_line.specs.declared.command.Command.TheVariants.{OnFiles}
 use Rattle.command_line.specs.declared.command.FilesTask.{FilesTask}
 use Rattle.command_line.specs.declared.command.FilesTask.TheVariants.{Check, Verify, CheckFree, CheckStaff, CheckFill}
+use Rattle.ways_out.proofs.Reduced.{reduced_goal}
 use Rattle.commands.specs.Files.{IsWithinLimit}
 use Rattle.commands.specs.Best.{IsBestAnswer}
 use Rattle.commands.specs.declared.second_file.SecondKind.TheVariants as Kinds
@@ -33,7 +34,6 @@ use Rattle.commands.specs.declared.check_staff.Answer.TheVariants as StaffChecks
 use Rattle.commands.specs.declared.check_fill.Answer.TheVariants as FillChecks
 use Rattle.commands.proofs.Logs.{text_accepted}
 use Rattle.commands.proofs.Fills.{accepted, text_passes}
-use Rattle.commands.proofs.Reductions.{reduced_goal}
 use Rattle.commands.proofs.Bests.{best_meets, below_goal}
 use Rattle.rwsp_run.specs.Commands.{IsFilesAnswer, second_kind, SuitsFilesTask}
 use Rattle.rwsp_run.specs.Laws.{RostersMeet, RefutationsAreAccepted, ReductionsAreAccepted, StaffTextsAreAccepted, BestRostersMeet, BestRostersAreBest, BestProofsAreAccepted, FilledRostersMeet, shown_by, FillLogsAreAccepted, IsProofOf, WorkersMakeNoDifference, AgreeInSearch, JobsAgree, IsAnswerOnFiles}

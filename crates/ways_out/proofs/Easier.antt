@@ -12,7 +12,7 @@ use Rattle.rwsp_terms.specs.Instance.{Instance, shift_count, bounds, least, grea
 use Rattle.rwsp_terms.specs.Window.{window, InClass, TooLong, TooShort}
 use Rattle.rwsp_terms.specs.Roster.{MeetsRule, MeetsDay, MeetsAll, IsRoster, IsRule, HasNoWindow, weeks_with}
 use Rattle.rwsp_terms.proofs.Windows.{length-window, get_or-window}
-use Rattle.ways_out.specs.Loosened.{max_rule, min_rule}
+use Rattle.clean_words.specs.Ends.{max_rule, min_rule}
 
 -- each rule of B but some follows from one of A
 pub record IsEasierBut (A B : Instance) (Spared : Rule → Type 0) : Type 0 where

@@ -13,7 +13,8 @@ use Rattle.rwsp_terms.specs.Instance.{Instance, shift_count, bounds, bounds_of, 
 use Rattle.rwsp_terms.specs.Roster.{MeetsAll, IsRoster}
 use Rattle.ways_out.specs.declared.change.Change.{Change}
 use Rattle.ways_out.specs.declared.change.Change.TheVariants.{LongerBlocks, ShorterBlocks, LowerDemand, HigherDemand, DroppedPair, DroppedTriple}
-use Rattle.ways_out.specs.Loosened.{edited, raised, lowered, with_bounds, with_demand, loosened, changed_rule, max_rule, min_rule, IsChange}
+use Rattle.clean_words.specs.Ends.{max_rule, min_rule}
+use Rattle.ways_out.specs.Loosened.{edited, raised, lowered, with_bounds, with_demand, loosened, changed_rule, IsChange}
 use Rattle.ways_out.specs.Laws.{RostersStay, RostersStayFurther, OtherRulesStay}
 use Rattle.ways_out.proofs.Edited.{length-edited, edited_same, edited_related, related_get, sum_edited}
 use Rattle.ways_out.proofs.Easier.{IsEasierBut, rule_kept, roster_kept, all_kept, shape_kept}

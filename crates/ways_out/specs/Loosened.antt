@@ -5,8 +5,9 @@ use Rattle.rwsp_terms.specs.declared.data.Bounds.{Bounds}
 use Rattle.rwsp_terms.specs.declared.data.Class.{Class}
 use Rattle.rwsp_terms.specs.declared.data.Class.TheVariants.{Shift, Off, Work}
 use Rattle.rwsp_terms.specs.declared.data.Rule.{Rule}
-use Rattle.rwsp_terms.specs.declared.data.Rule.TheVariants.{MaxShift, MinShift, MaxOff, MinOff, MaxWork, MinWork, Pair, Triple, Day}
+use Rattle.rwsp_terms.specs.declared.data.Rule.TheVariants.{Pair, Triple, Day}
 use Rattle.rwsp_terms.specs.Instance.{Instance, cells, bounds, shift_demand, IsClass, IsDay, IsShift}
+use Rattle.clean_words.specs.Ends.{max_rule, min_rule}
 use Rattle.ways_out.specs.declared.change.Change.{Change}
 use Rattle.ways_out.specs.declared.change.Change.TheVariants.{LongerBlocks, ShorterBlocks, LowerDemand, HigherDemand, DroppedPair, DroppedTriple}
 
@@ -75,17 +76,6 @@ most_steps P (DroppedTriple k) = 1
 -- a number of steps of the change
 abbrev pub IsStep : Instance → Change → ℕ → Type 0
 IsStep P change n = (1 ≤ n) × (n ≤ most_steps P change)
-
--- the rule that bounds the length of blocks of a class from above, and from below
-abbrev pub max_rule : Class → Rule
-max_rule (Shift x) = MaxShift x
-max_rule Off = MaxOff
-max_rule Work = MaxWork
-
-abbrev pub min_rule : Class → Rule
-min_rule (Shift x) = MinShift x
-min_rule Off = MinOff
-min_rule Work = MinWork
 
 -- the rule that is loosened by a change
 abbrev pub changed_rule : Change → Rule

@@ -4,7 +4,7 @@ ghost use Rattle.std.specs.List.{range_with_len};
 ghost use Rattle.rwsp_terms.specs.Roster.{IsRule};
 ghost use Rattle.rwsp_terms.specs.Instance.{shift_count, IsClass};
 ghost use Rattle.ways_out.specs.Changes.{changes, changes_of, demand_changes};
-ghost use Rattle.ways_out.specs.Loosened.{changed_rule, max_rule, min_rule, IsChange};
+ghost use Rattle.ways_out.specs.Loosened.{changed_rule, IsChange};
 
 use crate::change::Change;
 use rwsp_model::{Problem, rule_at, rule_count};
