@@ -4,11 +4,10 @@ use Rattle.std.specs.Prelude.{pos, ◌-ℤ◌, All, position, slice_get}
 use Rattle.std.specs.Option.{option_map}
 use Rattle.std.specs.Str.{bytes_eq}
 use Rattle.std.proofs.lemmas.Option.{slice_get-get_or, slice_get_within, get_or_from_slice_get}
-use Rattle.std.proofs.lemmas.List.Elements.{All-get_or}
 use Rattle.rwsp_terms.specs.declared.data.Bounds.{Bounds}
 use Rattle.rwsp_terms.specs.declared.data.ShiftRow.{ShiftRow}
 use Rattle.rwsp_terms.specs.declared.data.Symbol.{Symbol}
-use Rattle.rwsp_terms.specs.Instance.{Instance, shift_count, no_bounds, range_in, shift_demand, column_least, column_greatest, least, greatest, off_name, symbol_numbered, symbol_among, bounds_of}
+use Rattle.rwsp_terms.specs.Instance.{Instance, shift_count, no_bounds, range_in, shift_demand, column_least, column_greatest, least, greatest, off_name, symbol_numbered, symbol_among}
 use Rattle.rwsp_model.specs.Validity.{KeepsLimits, IsSmallRange, AreSmall}
 
 -- instances are the same where their lists are

@@ -37,8 +37,8 @@ fn column_range(rows: &[DemandRow], day: u32) -> Bounds
     Bounds { least, greatest }
 }
 
-// The range of a shift on a day.
-fn shift_range(parts: &Parts, shift: Symbol, day: u32) -> Bounds
+/// How many employees a shift needs on a day.
+pub fn shift_range(parts: &Parts, shift: Symbol, day: u32) -> Bounds
     requires limits { KeepsLimits (instance_of parts.now) }
     requires shift { IsShift (instance_of parts.now) shift }
     requires day { IsDay (instance_of parts.now) day }

@@ -2,7 +2,7 @@ ghost use Rattle.std.specs.Prelude.{◌≡◌, ◌+◌, ◌-◌, ◌*◌, ◌<�
 ghost use Rattle.std.specs.Option.{option_map};
 ghost use Rattle.std.specs.Str.{bytes_eq};
 ghost use Rattle.rwsp_terms.specs.declared.limits.TheConstants.{MOST_WEEKS, MOST_CELLS, MOST_SEQUENCES};
-ghost use Rattle.rwsp_terms.specs.Instance.{bounds, shift_count, cells, symbol_of, name_of, name_among, least, greatest, IsClass, IsSymbol, IsShift, IsDay};
+ghost use Rattle.rwsp_terms.specs.Instance.{bounds, shift_count, cells, symbol_of, name_of, name_among, least, greatest, shift_demand, IsClass, IsSymbol, IsShift, IsDay};
 ghost use Rattle.rwsp_model.specs.Parts.{instance_of};
 ghost use Rattle.rwsp_model.specs.Validity.{refusal_of, IsValid, KeepsLimits};
 ghost use Rattle.rwsp_model.specs.Sequences.{IsPairOf, IsTripleOf};
@@ -26,6 +26,24 @@ pub struct Parts {
     pub work: Bounds,
     pub pairs: Vec<(Symbol, Symbol)>,
     pub triples: Vec<(Symbol, Symbol, Symbol)>,
+}
+
+impl Parts {
+    /// Equal parts, for who changes one of them.
+    pub fn copy(&self) -> Result<Parts, AllocError>
+        ensures { IfOk result (λ copy. instance_of copy ≡ instance_of self.now) }
+    {
+        Ok(Parts {
+            days: self.days,
+            weeks: self.weeks,
+            demand: self.demand.clone()?,
+            shifts: self.shifts.clone()?,
+            off: self.off,
+            work: self.work,
+            pairs: self.pairs.clone()?,
+            triples: self.triples.clone()?,
+        })
+    }
 }
 
 /// A problem that keeps all limits.
@@ -68,12 +86,19 @@ impl Problem {
         Problem { parts }
     }
 
+    /// What the problem is made of.
+    pub fn parts(&self) -> &Parts
+        ensures { instance_of result.now ≡ self.now }
+    {
+        &self.parts
+    }
+
     /// An equal problem, for who has to own one.
     pub fn copy(&self) -> Result<Problem, AllocError>
         ensures { IfOk result (λ P. P ≡ self.now) }
     {
         Ok(Problem {
-            parts: copy_of(&self.parts)?,
+            parts: self.parts.copy()?,
         })
     }
 
@@ -85,7 +110,7 @@ impl Problem {
         ensures { IfOk result (λ P. P ≡ record self.now { weeks = weeks }) }
     {
         self.prove_limits();
-        let mut parts = copy_of(&self.parts)?;
+        let mut parts = self.parts.copy()?;
         parts.weeks = weeks;
         Ok(Problem { parts })
     }
@@ -102,7 +127,7 @@ impl Problem {
         ensures { IfOk result (λ P. P ≡ record self.now { pairs = pairs.items; triples = triples.items }) }
     {
         self.prove_limits();
-        let mut parts = copy_of(&self.parts)?;
+        let mut parts = self.parts.copy()?;
         parts.pairs = pairs;
         parts.triples = triples;
         Ok(Problem { parts })
@@ -226,6 +251,17 @@ impl Problem {
         row_of(&self.parts.shifts, x).length
     }
 
+    /// How many employees a shift needs on a day, at least and at most. Days count from 1.
+    pub fn demand(&self, shift: Symbol, day: u32) -> Bounds
+        requires shift { IsShift self.now shift }
+        requires day { IsDay self.now day }
+        ensures value { result ≡ shift_demand self.now shift.number day }
+        ensures few { (result.least ≤ MOST_WEEKS) × (result.greatest ≤ MOST_WEEKS) }
+    {
+        self.prove_limits();
+        demand::shift_range(&self.parts, shift, day)
+    }
+
     /// The least number of weeks that hold the symbol on the day. Of the day off it may be negative.
     pub fn demand_least(&self, x: Symbol, day: u32) -> i32
         requires symbol { IsSymbol self.now x }
@@ -247,21 +283,6 @@ impl Problem {
     {
         demand::greatest_of(&self.parts, x, day)
     }
-}
-
-fn copy_of(parts: &Parts) -> Result<Parts, AllocError>
-    ensures { IfOk result (λ copy. instance_of copy ≡ instance_of parts.now) }
-{
-    Ok(Parts {
-        days: parts.days,
-        weeks: parts.weeks,
-        demand: parts.demand.clone()?,
-        shifts: parts.shifts.clone()?,
-        off: parts.off,
-        work: parts.work,
-        pairs: parts.pairs.clone()?,
-        triples: parts.triples.clone()?,
-    })
 }
 
 // The row of a shift.

@@ -1,5 +1,5 @@
 -- The refusal is by what was found first.
-use Rattle.std.proofs.Common.{◌<◌, arith, sym, ◌∙◌}
+use Rattle.std.proofs.Common.{arith, sym, ◌∙◌}
 use Rattle.rwsp_model.specs.Parts.{instance_of}
 use Rattle.rwsp_model.proofs.Limits.{refused_shape, refused_limit, refused_name, limit_below, few_shifts_where_none}
 use Rattle.rwsp_model.proofs.validity.refusal.Goals as goal

@@ -3,7 +3,6 @@ use Rattle.std.proofs.Common.{◌-◌, ap, sym, ◌∙◌}
 use Rattle.std.specs.Prelude.{slice_get}
 use Rattle.rwsp_terms.specs.Instance.{bounds, bounds_of}
 use Rattle.rwsp_terms.specs.declared.data.Class.TheVariants.{Shift}
-use Rattle.rwsp_model.specs.Parts.{instance_of}
 use Rattle.rwsp_model.proofs.Numbers.{block_is_small}
 use Rattle.rwsp_model.proofs.problem.Problem.bounds.Goals as goal
 

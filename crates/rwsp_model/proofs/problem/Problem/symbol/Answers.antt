@@ -1,5 +1,5 @@
 -- The dash is the day off, and a shift's number is its place and one.
-use Rattle.std.proofs.Common.{◌≡◌, arith, ap, sym, ◌∙◌}
+use Rattle.std.proofs.Common.{ap, sym, ◌∙◌}
 use Rattle.std.specs.Str.{bytes_eq}
 use Rattle.rwsp_terms.specs.Instance.{symbol_of}
 use Rattle.rwsp_model.proofs.Numbers.{symbol_of_dash, symbol_of_place}
