@@ -1,5 +1,5 @@
 -- States, as they come to be known.
-use Rattle.std.proofs.Common.{◌≡◌, ◌⊎◌, ℕ, zero, suc, ◌+◌, ◌<◌, ◌^◌, List, [], ◌∷◌, ◌++◌, length, get_or, set, replicate, Option, Some, None, refl, ap, sym, ◌∙◌, subst, inl, inr, arith, append_assoc, length-append}
+use Rattle.std.proofs.Common.{◌≡◌, ◌⊎◌, ℕ, zero, suc, ◌+◌, ◌<◌, ◌≤◌, List, [], ◌∷◌, ◌++◌, length, get_or, set, replicate, Option, Some, None, refl, ap, sym, ◌∙◌, subst, inl, inr, arith, append_assoc, length-append}
 use Rattle.std.specs.Prelude.{MatchOption}
 use Rattle.std.proofs.Math.Nat.{eq-or-lt_of_le}
 use Rattle.std.proofs.lemmas.Bool.{cases_eq}
@@ -11,6 +11,7 @@ use Rattle.refutation_terms.specs.Word.{Clean}
 use Rattle.clean_words.specs.Listed.{Listed}
 use Rattle.clean_words.specs.Tails.{tail_of}
 use Rattle.clean_words.specs.declared.tail.Tail.{Tail}
+use Rattle.clean_words.specs.declared.tail_index.TheConstants.{MOST_TAILS}
 use Rattle.clean_words.specs.Moves.{Moves}
 use Rattle.clean_words.specs.States.{StandsAt, Extends, Judges, IsRow, AreStates}
 
@@ -24,7 +25,7 @@ pub stands_on : {X : Type 0} (xs ys : List X) (k : ℕ) (x : X) → Extends xs y
 stands_on {X} xs ys k x (rest, e) h =
     subst (λ (zs : List X). StandsAt zs k x) (sym e) (omega (arith, h.0, length-append xs rest), get_or_append_left xs rest x k h.0 ∙ h.1)
 
-stood : {X : Type 0} (xs ys : List X) (k : ℕ) (x : X) → Extends xs ys → k < length xs → StandsAt ys k x → StandsAt xs k x
+pub stood : {X : Type 0} (xs ys : List X) (k : ℕ) (x : X) → Extends xs ys → k < length xs → StandsAt ys k x → StandsAt xs k x
 stood {X} xs ys k x (rest, e) lt h =
     let at : StandsAt (xs ++ rest) k x = subst (λ (zs : List X). StandsAt zs k x) e h in
     (lt, sym (get_or_append_left xs rest x k lt) ∙ at.1)
@@ -110,7 +111,7 @@ states_first T symbols = record {
 }
 
 -- the row of one state more
-pub states_more : (T : Listed) (symbols : ℕ) (tails more : List Tail) (moves : Moves) (tail : Tail) (row : List (Option ℕ)) → AreStates T symbols tails moves → StandsAt tails (length moves) tail → Extends tails more → length more < 2 ^ 32 → IsRow T more tail symbols row → AreStates T symbols more (moves ++ row ∷ [])
+pub states_more : (T : Listed) (symbols : ℕ) (tails more : List Tail) (moves : Moves) (tail : Tail) (row : List (Option ℕ)) → AreStates T symbols tails moves → StandsAt tails (length moves) tail → Extends tails more → length more ≤ MOST_TAILS → IsRow T more tail symbols row → AreStates T symbols more (moves ++ row ∷ [])
 states_more T symbols tails more moves tail row a here grows few new = record {
   few = few;
   first = stands_on tails more 0 (tail_of []) grows a.first;

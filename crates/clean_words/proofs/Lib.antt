@@ -15,6 +15,7 @@ pub mod Layouts
 pub mod Leading
 pub mod Growing
 pub mod Tailed
+pub mod TailCodes
 pub mod Images
 pub mod StepLists
 pub mod Products

@@ -62,6 +62,7 @@ automaton_there : (P : Instance) (m : ℕ) (R : List ℕ) (moves : Moves) (offs 
 automaton_there P m R moves offs steps a = record {
   some = a.some;
   few = a.few;
+  few_steps = a.few_steps;
   offs = a.offs;
   inside = a.inside;
   clean = λ w symbols clean. a.clean w (symbols_here P m w symbols) (clean_here P m R w clean);

@@ -1,5 +1,5 @@
 -- Lists of steps with one more.
-use Rattle.std.proofs.Common.{◌≡◌, ◌⊎◌, ℕ, ◌+◌, ◌<◌, ◌≤◌, List, [], ◌∷◌, ◌++◌, length, get_or, Some, None, Bool, refl, ap, sym, ◌∙◌, subst, inl, inr, arith, rules}
+use Rattle.std.proofs.Common.{◌≡◌, ◌⊎◌, ℕ, ◌+◌, ◌*◌, ◌<◌, ◌≤◌, List, [], ◌∷◌, ◌++◌, length, get_or, Some, None, Bool, refl, ap, sym, ◌∙◌, subst, inl, inr, arith, rules}
 use Rattle.std.specs.Prelude.{◌↔◌, AllPairs, Contains}
 use Rattle.std.proofs.Math.Nat.{eq-or-lt_of_le}
 use Rattle.std.proofs.lemmas.Bool.{cases_lt}
@@ -7,6 +7,7 @@ use Rattle.std.proofs.lemmas.List.{get_or_past}
 use Rattle.std.proofs.lemmas.List.Elements.{Contains-append_cases, Contains-append_left, Contains-push, Contains-get_or}
 use Rattle.std.proofs.lemmas.List.Quantifiers.{all_pairs_push}
 use Rattle.rwsp_terms.specs.declared.data.Symbol.{Symbol}
+use Rattle.rwsp_terms.specs.declared.limits.TheConstants.{MOST_SYMBOLS}
 use Rattle.rwsp_terms.specs.Instance.{Instance, symbol_numbered}
 use Rattle.clean_words.specs.Moves.{Moves, move_at}
 use Rattle.clean_words.specs.Automata.{StepBefore, IsAutomaton}
@@ -121,8 +122,8 @@ steps_all moves steps states long a s x t =
     (λ h. (a.before (record { from = s; symbol = x; to = t }) h).1, λ h. a.all s x t (inl (omega (arith, moves_from moves s x.number t h, long))) h)
 
 -- a table and its steps make an automaton
-pub automaton_by : (P P' P'' : Instance) (R R' R'' : List ℕ) (moves moves' : Moves) (offs : List Bool) (steps : List Step) → P' ≡ P → P'' ≡ P → R' ≡ R → R'' ≡ R → IsReader P' R' moves offs → moves' ≡ moves → AllPairs StepBefore steps → ((s : ℕ) (x : Symbol) (t : ℕ) → Contains steps (record { from = s; symbol = x; to = t }) ↔ (move_at moves' s x.number ≡ Some t)) → IsAutomaton (record { problem = P''; rules = R''; moves = moves; offs = offs; steps = steps })
-automaton_by P P' P'' R R' R'' moves moves' offs steps p p' r r' reader m ordered stepped =
+pub automaton_by : (P P' P'' : Instance) (R R' R'' : List ℕ) (moves moves' : Moves) (offs : List Bool) (steps : List Step) → P' ≡ P → P'' ≡ P → R' ≡ R → R'' ≡ R → IsReader P' R' moves offs → moves' ≡ moves → length steps ≤ MOST_SYMBOLS * length moves' → AllPairs StepBefore steps → ((s : ℕ) (x : Symbol) (t : ℕ) → Contains steps (record { from = s; symbol = x; to = t }) ↔ (move_at moves' s x.number ≡ Some t)) → IsAutomaton (record { problem = P''; rules = R''; moves = moves; offs = offs; steps = steps })
+automaton_by P P' P'' R R' R'' moves moves' offs steps p p' r r' reader m few ordered stepped =
     let problem : P' ≡ P'' = p ∙ sym p' in
     let rules : R' ≡ R'' = r ∙ sym r' in
     whole (subst (λ (Q : Instance). IsReader Q R'' moves offs) problem (subst (λ (S : List ℕ). IsReader P' S moves offs) rules reader))
@@ -130,7 +131,8 @@ automaton_by P P' P'' R R' R'' moves moves' offs steps p p' r r' reader m ordere
     whole : IsReader P'' R'' moves offs → IsAutomaton (record { problem = P''; rules = R''; moves = moves; offs = offs; steps = steps })
     whole a = record {
       some = a.some;
-      few = a.few;
+      few = omega (arith, a.few);
+      few_steps = omega (arith, few, ap length m, a.few);
       offs = a.long;
       inside = a.inside;
       clean = a.clean;

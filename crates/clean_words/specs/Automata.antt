@@ -29,6 +29,7 @@ StepBefore a b = (a.from < b.from) ⊎ ((a.from ≡ b.from) × (a.symbol.number 
 pub record IsAutomaton (a : RuleAutomaton) : Type 0 where
   pub some : 0 < length a.moves
   pub few : length a.moves < 2 ^ 32
+  pub few_steps : length a.steps < 2 ^ 32
   pub offs : length a.offs ≡ length a.moves
   -- moves are by the problem's symbols, and lead to states
   pub inside : (s x t : ℕ) → move_at a.moves s x ≡ Some t → (x ≤ shift_count a.problem) × (t < length a.moves)

@@ -11,6 +11,7 @@ pub mod Listed
 pub mod Moves
 pub mod Automata
 pub mod States
+pub mod TailCodes
 pub mod Tables
 pub mod Days
 pub mod Heaviest

@@ -1,10 +1,11 @@
 -- The tails of clean words as states.
-use Rattle.std.specs.Prelude.{◌≡◌, ℕ, ◌<◌, ◌≤◌, ◌^◌, List, [], ◌∷◌, ◌++◌, length, Option, Some, None, Bool, false, ◌==◌, slice_index_or, MatchOption}
+use Rattle.std.specs.Prelude.{◌≡◌, ℕ, ◌<◌, ◌≤◌, List, [], ◌∷◌, ◌++◌, length, Option, Some, None, Bool, false, ◌==◌, slice_index_or, MatchOption}
 use Rattle.rwsp_terms.specs.declared.data.Symbol.{Symbol}
 use Rattle.refutation_terms.specs.Word.{Clean}
 use Rattle.clean_words.specs.Listed.{Listed}
 use Rattle.clean_words.specs.Tails.{tail_of}
 use Rattle.clean_words.specs.declared.tail.Tail.{Tail}
+use Rattle.clean_words.specs.declared.tail_index.TheConstants.{MOST_TAILS}
 use Rattle.clean_words.specs.Moves.{Moves}
 
 -- the element is at the place
@@ -30,7 +31,7 @@ pub record IsRow (T : Listed) (tails : List Tail) (tail : Tail) (symbols : ℕ) 
 
 -- the first tail is that of the empty word, and the first tails have their moves
 pub record AreStates (T : Listed) (symbols : ℕ) (tails : List Tail) (moves : Moves) : Type 0 where
-  pub few : length tails < 2 ^ 32
+  pub few : length tails ≤ MOST_TAILS
   pub first : StandsAt tails 0 (tail_of [])
   pub done : length moves ≤ length tails
   pub rows : (k : ℕ) (tail : Tail) → k < length moves → StandsAt tails k tail

@@ -1,18 +1,19 @@
 -- Tables of moves.
-use Rattle.std.specs.Prelude.{◌≡◌, ◌⊎◌, ℕ, ◌<◌, ◌≤◌, ◌^◌, List, [], length, Some, Bool, false, map, slice_index, slice_index_or, AllPairs, Contains}
+use Rattle.std.specs.Prelude.{◌≡◌, ◌⊎◌, ℕ, ◌<◌, ◌≤◌, List, [], length, Some, Bool, false, map, slice_index, slice_index_or, AllPairs, Contains}
 use Rattle.std.specs.Option.{option_map}
 use Rattle.rwsp_terms.specs.declared.data.Symbol.{Symbol}
 use Rattle.rwsp_terms.specs.Instance.{Instance, shift_count}
 use Rattle.refutation_terms.specs.Word.{Clean}
 use Rattle.clean_words.specs.declared.step.Step.{Step}
 use Rattle.clean_words.specs.declared.table.Table.{Table}
+use Rattle.clean_words.specs.declared.tail_index.TheConstants.{MOST_TAILS}
 use Rattle.clean_words.specs.Moves.{Moves, move_at, lead, off_behind}
 use Rattle.clean_words.specs.Automata.{HasSymbolsOf, StepBefore}
 
 -- the table reads the clean words of the problem's symbols: what an automaton has but for its steps
 pub record IsReader (P : Instance) (R : List ℕ) (moves : Moves) (offs : List Bool) : Type 0 where
   pub some : 0 < length moves
-  pub few : length moves < 2 ^ 32
+  pub few : length moves ≤ MOST_TAILS
   pub long : length offs ≡ length moves
   pub inside : (s x t : ℕ) → move_at moves s x ≡ Some t → (x ≤ shift_count P) × (t < length moves)
   pub clean : (w : List Symbol) → HasSymbolsOf P w → Clean P R w → (s : ℕ) × (lead moves (Some 0) w ≡ Some s)

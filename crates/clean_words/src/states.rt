@@ -1,8 +1,10 @@
 // The tails that clean words have, and which symbols lead from one to another.
-ghost use Rattle.std.specs.Prelude.{◌≡◌, ℕ, ◌+◌, ◌<◌, ◌≤◌, ◌^◌, List, length, map, IfOk, OnOk};
+ghost use Rattle.std.specs.Prelude.{◌≡◌, ℕ, ◌+◌, ◌<◌, ◌≤◌, List, length, map, IfOk, OnOk};
 ghost use Rattle.rwsp_terms.specs.Instance.{shift_count};
 ghost use Rattle.clean_words.specs.declared.tail.Tail.{Tail};
+ghost use Rattle.rwsp_terms.specs.declared.limits.TheConstants.{MOST_SYMBOLS};
 ghost use Rattle.clean_words.specs.States.{StandsAt, Extends, Judges, IsRow, AreStates, ends_off};
+ghost use Rattle.clean_words.specs.TailCodes.{IsReached, AreNoted, IsNotNoted};
 ghost use Rattle.clean_words.specs.Tables.{IsReader};
 
 use crate::table::{Row, Table};
@@ -27,6 +29,7 @@ impl States {
         ensures states { IfOk result (λ s. AreStates rules.now (shift_count rules.now.problem + 1) s.tails.items s.moves.items) }
         ensures all { IfOk result (λ s. length s.moves.items ≡ length s.tails.items) }
     {
+        empty_word_is_clean();
         let mut states = States {
             tails: vec![in alloc; Tail::empty()]?,
             index: TailIndex::new(alloc)?,
@@ -39,24 +42,35 @@ impl States {
     }
 
     // The state of the tail, which is made where none is found.
-    fn state_of(&mut self, tail: Tail) -> Result<u32, AllocError>
-        requires few { length self.old.tails.items < 2 ^ 32 }
-        ensures few { OnOk result (length self.new.tails.items < 2 ^ 32) }
+    fn state_of(&mut self, rules: &TailRules, tail: Tail) -> Result<u32, AllocError>
+        requires noted { AreNoted rules.now self.old.index.places.items self.old.tails.items }
+        requires reached { IsReached rules.now tail }
+        ensures noted { OnOk result (AreNoted rules.now self.new.index.places.items self.new.tails.items) }
         ensures grows { OnOk result (Extends self.old.tails.items self.new.tails.items) }
-        ensures moves { self.new.moves.items ≡ self.old.moves.items }
+        ensures moves { OnOk result (self.new.moves.items ≡ self.old.moves.items) }
         ensures state { IfOk result (λ state. StandsAt self.new.tails.items state tail) }
     {
-        if let Some(state) = self.index.find(&self.tails, tail) {
-            return Ok(state);
+        match self.index.find(&self.tails, tail) {
+            Some(state) => Ok(state),
+            None => self.new_state(rules, tail),
         }
-        let state = self.tails.len();
-        // This never happens: the tails differ, and words of nine symbols have fewer than a million.
-        if state >= u32::MAX as usize {
-            return Err(AllocError);
-        }
+    }
+
+    // A state for a tail that has none.
+    fn new_state(&mut self, rules: &TailRules, tail: Tail) -> Result<u32, AllocError>
+        requires noted { AreNoted rules.now self.old.index.places.items self.old.tails.items }
+        requires reached { IsReached rules.now tail }
+        requires none { IsNotNoted self.old.index.places.items self.old.tails.items tail }
+        ensures noted { OnOk result (AreNoted rules.now self.new.index.places.items self.new.tails.items) }
+        ensures grows { OnOk result (Extends self.old.tails.items self.new.tails.items) }
+        ensures moves { OnOk result (self.new.moves.items ≡ self.old.moves.items) }
+        ensures state { IfOk result (λ state. StandsAt self.new.tails.items state tail) }
+    {
+        let _ = rules;
+        let state = self.tails.len() as u32;
         self.tails.push(tail)?;
-        self.index.note(tail, state as u32);
-        Ok(state as u32)
+        self.index.note(tail, state);
+        Ok(state)
     }
 
     // The state behind a tail by the symbol, if a clean word with the tail continues with it.
@@ -66,22 +80,25 @@ impl States {
         tail: Tail,
         x: Symbol,
     ) -> Result<Option<u32>, AllocError>
-        requires few { length self.old.tails.items < 2 ^ 32 }
-        ensures few { OnOk result (length self.new.tails.items < 2 ^ 32) }
+        requires symbol { x.number < MOST_SYMBOLS }
+        requires noted { AreNoted rules.now self.old.index.places.items self.old.tails.items }
+        requires reached { IsReached rules.now tail }
+        ensures noted { OnOk result (AreNoted rules.now self.new.index.places.items self.new.tails.items) }
         ensures grows { OnOk result (Extends self.old.tails.items self.new.tails.items) }
         ensures moves { OnOk result (self.new.moves.items ≡ self.old.moves.items) }
         ensures judges { IfOk result (Judges rules.now self.new.tails.items tail x) }
     {
         match rules.follow(tail, x) {
-            Some(longer) => Ok(Some(self.state_of(longer)?)),
+            Some(longer) => Ok(Some(self.state_of(rules, longer)?)),
             None => Ok(None),
         }
     }
 
     // The moves of a state by its tail.
     fn row_of(&mut self, rules: &TailRules, tail: Tail) -> Result<Row, AllocError>
-        requires few { length self.old.tails.items < 2 ^ 32 }
-        ensures few { OnOk result (length self.new.tails.items < 2 ^ 32) }
+        requires noted { AreNoted rules.now self.old.index.places.items self.old.tails.items }
+        requires reached { IsReached rules.now tail }
+        ensures noted { OnOk result (AreNoted rules.now self.new.index.places.items self.new.tails.items) }
         ensures grows { OnOk result (Extends self.old.tails.items self.new.tails.items) }
         ensures moves { OnOk result (self.new.moves.items ≡ self.old.moves.items) }
         ensures row { IfOk result (IsRow rules.now self.new.tails.items tail (shift_count rules.now.problem + 1)) }
@@ -96,7 +113,9 @@ impl States {
     // Puts the moves of the first state that has none yet.
     fn put_moves(&mut self, rules: &TailRules) -> Result<(), AllocError>
         requires states { AreStates rules.now (shift_count rules.now.problem + 1) self.old.tails.items self.old.moves.items }
+        requires noted { AreNoted rules.now self.old.index.places.items self.old.tails.items }
         requires next { length self.old.moves.items < length self.old.tails.items }
+        ensures noted { OnOk result (AreNoted rules.now self.new.index.places.items self.new.tails.items) }
         ensures states { OnOk result (AreStates rules.now (shift_count rules.now.problem + 1) self.new.tails.items self.new.moves.items) }
         ensures next { OnOk result (length self.new.moves.items ≡ length self.old.moves.items + 1) }
     {

@@ -8,7 +8,7 @@ loop-number-preserved c =
     let i = c.loop-number.invariant in
     let e = c.in_ok-row.ensures in
     record {
-      few = e.few;
+      noted = e.noted;
       grows = extends_on c.args.self.now.tails.items c.loop-number.self.tails.items c.move_by.new.self.tails.items i.grows e.grows;
       moves = e.moves ∙ i.moves;
       long = length-set c.loop-number.row c.loop-number.number c.in_ok-row.field-0 ∙ i.long;
