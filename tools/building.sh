@@ -36,5 +36,5 @@ elif ! is_built; then
     # Each word on an answer would be a run of its own.
     tell_answer() { :; }
     tell_first_day() { :; }
-    say "no proved program is here, so this answer is by the program before its proof, in a minute or two, and is not explained; to prove it: $0 --prove"
+    say "the program is not proved yet, so this answer is from before its proof, in a minute or two, and is not explained; to prove it: $0 --prove"
 fi
