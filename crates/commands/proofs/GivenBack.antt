@@ -1,5 +1,5 @@
 -- `roster` gives back the roster of what `plan`, `best` and `staff` print, and shows no other.
-use Rattle.std.proofs.Common.{◌≡◌, ◌≢◌, ℕ, zero, suc, ◌+◌, ◌^◌, ◌<◌, ◌≤◌, ◌==◌, ◌⊎◌, inl, inr, List, [], ◌∷◌, ◌++◌, length, map, codes, true, false, not, Option, Some, None, refl, ap, sym, subst, ◌∙◌, arith, append_assoc}
+use Rattle.std.proofs.Common.{◌≡◌, ◌≢◌, ℕ, zero, suc, ◌+◌, ◌^◌, ◌<◌, ◌≤◌, ◌==◌, ◌⊎◌, inl, inr, List, [], ◌∷◌, ◌++◌, length, map, codes, true, false, not, Some, None, refl, ap, sym, subst, ◌∙◌, arith, append_assoc}
 use Rattle.std.specs.Prelude.{All, ◌||◌, slice_get, filter, slice_index}
 use Rattle.std.specs.List.{flat_map, join_with_byte, list_all, AllByRecursion}
 use Rattle.std.specs.Char.{is_ascii_digit}
@@ -40,7 +40,6 @@ use Rattle.commands.specs.Best.{counted_text, IsWeeklyRoster}
 use Rattle.commands.specs.ReadBest.{IsFreeLog, IsBestWith}
 use Rattle.commands.specs.Roster.{SpellsNone, StandsIn}
 use Rattle.commands.specs.RosterLaws.{GivesBack, PlansAreGivenBack, BestsAreGivenBack, StaffsAreGivenBack, StaffsSpellNoRoster, IsOfBest, IsOfStaff, ShownRostersStand}
-use Rattle.commands.specs.declared.roster.Answer.{Answer}
 use Rattle.commands.specs.declared.roster.Answer.TheVariants.{Shown}
 use Rattle.commands.proofs.ReadBest.{few_free}
 use Rattle.commands.proofs.RosterAnswers.{one_taken}

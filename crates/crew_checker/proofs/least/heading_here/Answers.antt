@@ -1,4 +1,4 @@
-use Rattle.std.proofs.Common.{◌≡◌, ◌++◌, sym, ◌∙◌}
+use Rattle.std.proofs.Common.{sym, ◌∙◌}
 use Rattle.crew_size.proofs.Heads.{no_other}
 use Rattle.crew_checker.proofs.LeastEnds.{no_heading_here}
 use Rattle.crew_checker.proofs.least.heading_here.Goals as goal

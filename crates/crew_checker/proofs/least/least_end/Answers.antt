@@ -1,4 +1,4 @@
-use Rattle.std.proofs.Common.{◌≡◌, ℕ, subst}
+use Rattle.std.proofs.Common.{subst}
 use Rattle.crew_size.specs.declared.heading.Heading.{Heading}
 use Rattle.crew_checker.proofs.LeastEnds.{IsHere, no_end, other_end, no_roster_no_end}
 use Rattle.crew_checker.proofs.least.least_end.Goals as goal

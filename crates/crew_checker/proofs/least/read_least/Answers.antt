@@ -1,5 +1,4 @@
-use Rattle.std.proofs.Common.{◌≡◌, ℕ, List, Option, Some, arith}
-use Rattle.rwsp_terms.specs.declared.data.Symbol.{Symbol}
+use Rattle.std.proofs.Common.{arith}
 use Rattle.crew_checker.proofs.LeastEnds.{section_passed, section_back, end_goes_on, nothing_goes_on, found_as}
 use Rattle.crew_checker.proofs.least.read_least.Goals as goal
 

@@ -1,4 +1,4 @@
-use Rattle.std.proofs.Common.{ℕ, List, ◌≤◌, length, ◌↔◌}
+use Rattle.std.proofs.Common.{ℕ, List, ◌≤◌, length}
 use Rattle.rwsp_terms.specs.declared.data.Symbol.{Symbol}
 use Rattle.crew_checker.specs.Least.{HasLeast}
 use Rattle.crew_checker.proofs.LeastEnds.{GoesOn}

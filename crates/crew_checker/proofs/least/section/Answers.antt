@@ -1,4 +1,4 @@
-use Rattle.std.proofs.Common.{◌≡◌, ℕ, subst}
+use Rattle.std.proofs.Common.{subst}
 use Rattle.crew_size.specs.declared.heading.Heading.{Heading}
 use Rattle.crew_checker.proofs.LeastEnds.{IsHere, no_section, other_section, no_log_no_section}
 use Rattle.crew_checker.proofs.least.section.Goals as goal

@@ -1,4 +1,4 @@
-use Rattle.std.proofs.Common.{◌≡◌, ◌∙◌, arith}
+use Rattle.std.proofs.Common.{◌∙◌, arith}
 use Rattle.commands.proofs.ReadBest.{not_printed, too_long, other_text}
 use Rattle.commands.proofs.roster.of_best.printed_roster.Goals as goal
 
