@@ -16,7 +16,7 @@ use Rattle.clean_words.specs.declared.tail_index.TheConstants.{ENDS, RUNS, LENGT
 use Rattle.clean_words.specs.Listed.{Listed}
 use Rattle.clean_words.specs.States.{StandsAt}
 use Rattle.clean_words.specs.TailCodes.{end_number, before_number, code_of, HasCode, IsReached, AreNoted, IsNotNoted}
-use Rattle.clean_words.specs.Tails.{tail_of, last_of, before_last_of, is_same, run_of, run_by, capped}
+use Rattle.clean_words.specs.Tails.{tail_of, last_of, is_same, run_of, capped}
 use Rattle.clean_words.proofs.Growing.{stands_here, stood}
 use Rattle.clean_words.proofs.Parts.{last_longer, before_longer}
 use Rattle.clean_words.proofs.TailFacts.{run_longer}
