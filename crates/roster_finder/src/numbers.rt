@@ -169,18 +169,16 @@ impl ShortNumberTable {
         columns: usize,
         below: usize,
     ) -> Result<ShortNumberTable, AllocError>
-        requires { 0 < below }
+        requires some { 0 < below }
+        requires few { below ≤ 2 ^ 32 }
         ensures rows { IfOk result (λ t. t.rows ≡ rows) }
         ensures columns { IfOk result (λ t. t.columns ≡ columns) }
         ensures below { IfOk result (λ t. t.below ≡ below) }
     {
-        // No memory holds more places than a number of it can count, nor more than 2^32 things to be numbered.
+        // No memory holds more places than a number of it can count.
         let Some(places) = columns.checked_mul(rows) else {
             return Err(AllocError);
         };
-        if below > 1 << 32 {
-            return Err(AllocError);
-        }
         Ok(ShortNumberTable {
             rows,
             columns,

@@ -37,6 +37,7 @@ pub struct SteadyLayer {
     ghost states_whole: { length states.items ≡ nodes },
     ghost walks_clean: { All (ClosesClean automaton) states.items },
     ghost steps_within: { All (IsStepWithin nodes symbols) steps.items },
+    ghost few_steps: { length steps.items < 2 ^ 32 },
     ghost last_whole: { length last.entries.items ≡ nodes },
     ghost last_below: { last.below ≡ symbols },
     ghost out_whole: { length out.items ≡ symbols * nodes },
@@ -51,6 +52,7 @@ impl SteadyLayer {
         ensures rules { IfOk result (λ l. NamesShortRules problem.now l.automaton.rules) }
     {
         let automaton = Automaton::of_short_rules(alloc, problem, Told::LastSymbol)?;
+        automaton.prove_facts();
         let nodes = Nodes::of(alloc, &automaton)?;
         let symbols = usize::from(problem.shifts()) + 1;
         let last = last_symbols(alloc, &automaton, &nodes, symbols)?;
@@ -69,7 +71,8 @@ impl SteadyLayer {
 
     /// The number of steps.
     pub fn step_count(&self) -> usize
-        ensures { result ≡ length self.now.steps.items }
+        ensures value { result ≡ length self.now.steps.items }
+        ensures few { result < 2 ^ 32 }
     {
         self.steps.len()
     }
@@ -178,7 +181,8 @@ fn steps_between(
     requires nodes { length nodes.now.numbers.items ≡ length automaton.now.moves }
     requires whole { length last.now.entries.items ≡ nodes.now.count }
     requires below { last.now.below ≡ shift_count automaton.now.problem + 1 }
-    ensures { IfOk result (λ steps. All (IsStepWithin nodes.now.count last.now.below) steps.items) }
+    ensures few { IfOk result (λ steps. length steps.items ≤ length automaton.now.steps) }
+    ensures within { IfOk result (λ steps. All (IsStepWithin nodes.now.count last.now.below) steps.items) }
 {
     let mut steps = Vec::new(alloc);
     for number in 0..automaton.steps().len() {

@@ -1,13 +1,12 @@
 -- Steps of printing a canonical text.
-use Rattle.std.proofs.Common.{◌≡◌, ℕ, zero, suc, ◌+◌, ◌-◌, ◌<◌, ◌≤◌, List, [], ◌∷◌, ◌++◌, length, get_or, take, Some, Result, Ok, Err, refl, ap, sym, ◌∙◌, arith, map, append_assoc, w32, to_z, of_z, SFits, nat_abs}
-use Rattle.std.specs.Prelude.{ℤ, pos, slice_get}
+use Rattle.std.proofs.Common.{◌≡◌, ℕ, zero, suc, ◌+◌, ◌-◌, ◌<◌, ◌≤◌, List, [], ◌∷◌, ◌++◌, length, get_or, take, Some, Result, Ok, Err, refl, ap, sym, ◌∙◌, arith, map, append_assoc}
+use Rattle.std.specs.Prelude.{slice_get}
 use Rattle.std.specs.List.{flat_map, join_with_byte, All}
 use Rattle.std.specs.Result.{OnOk}
 use Rattle.std.proofs.lemmas.List.{take_more, take_all, map_push, flat_map_more, length-map}
-use Rattle.std.proofs.lemmas.Int.{to_z-of_z}
 use Rattle.std.proofs.lemmas.List.Elements.{All-get_or}
 use Rattle.std.proofs.lemmas.Option.{slice_get-get_or}
-use Rattle.rwsp_terms.specs.Instance.{Instance, least, greatest, shift_demand, range_in, no_bounds, name_numbered, name_in}
+use Rattle.rwsp_terms.specs.Instance.{Instance, shift_demand, range_in, no_bounds, name_numbered, name_in}
 use Rattle.rwsp_terms.specs.declared.data.Bounds.{Bounds}
 use Rattle.rwsp_file.specs.Text.{file_line, demand_text, range_at, row_of_demand, row_of_shift, no_shift, size_lines, frame_lines, shift_words, pair_words, triple_words, problem_text}
 use Rattle.std.proofs.lemmas.Grind.{flat_map-append}
@@ -69,28 +68,11 @@ lines_all g xs i start old all o = o ∙ ap (λ ys. start ++ flat_map file_line 
 
 -- what the accessors of a problem give
 
-range_there : (P : Instance) (k i : ℕ) → k < length P.demand → shift_demand P (suc k) (i + 1) ≡ range_at P k i
+pub range_there : (P : Instance) (k i : ℕ) → k < length P.demand → shift_demand P (k + 1) (i + 1) ≡ range_at P k i
 range_there P k i less =
-    let a : suc k - 1 ≡ k = omega arith in
+    let a : k + 1 - 1 ≡ k = omega arith in
     let b : i + 1 - 1 ≡ i = omega arith in
     ap (λ n. range_in (slice_get P.demand n) (i + 1 - 1)) a ∙ ap (λ n. range_in (slice_get P.demand k) n) b ∙ ap (λ o. range_in o i) (slice_get-get_or P.demand k [] less)
-
-pub least_at : (P : Instance) (k i : ℕ) → k < length P.demand → least P (k + 1) (i + 1) ≡ pos (range_at P k i).least
-least_at P k i less =
-    let next : k + 1 ≡ suc k = omega arith in
-    ap (λ n. least P n (i + 1)) next ∙ ap (λ (b : Bounds). pos b.least) (range_there P k i less)
-
-pub greatest_at : (P : Instance) (k i : ℕ) → k < length P.demand → greatest P (k + 1) (i + 1) ≡ pos (range_at P k i).greatest
-greatest_at P k i less =
-    let next : k + 1 ≡ suc k = omega arith in
-    ap (λ n. greatest P n (i + 1)) next ∙ ap (λ (b : Bounds). pos b.greatest) (range_there P k i less)
-
--- bounds whose numbers were cast from signed ones
-pub cast_bounds : (b : Bounds) (least greatest : ℤ) → least ≡ pos b.least → greatest ≡ pos b.greatest → SFits w32 least → SFits w32 greatest → record { least = nat_abs (to_z w32 (of_z w32 least)); greatest = nat_abs (to_z w32 (of_z w32 greatest)) } ≡ b
-cast_bounds b least greatest p q f g =
-    let low : nat_abs (to_z w32 (of_z w32 least)) ≡ b.least = ap nat_abs (to_z-of_z w32 least f ∙ p) in
-    let high : nat_abs (to_z w32 (of_z w32 greatest)) ≡ b.greatest = ap nat_abs (to_z-of_z w32 greatest g ∙ q) in
-    ap (λ (n : ℕ). record { least = n; greatest = nat_abs (to_z w32 (of_z w32 greatest)) }) low ∙ ap (λ (n : ℕ). record { least = b.least; greatest = n }) high
 
 pub place_at : (k : ℕ) → k + 1 - 1 ≡ k
 place_at k = omega arith

@@ -3,7 +3,7 @@ ghost use Rattle.std.specs.Prelude.{◌≡◌, ◌+◌, ◌<◌, ◌≤◌, [], 
 ghost use Rattle.std.specs.List.{flat_map};
 ghost use Rattle.std.specs.Fmt.{decimal};
 ghost use Rattle.rwsp_terms.specs.Instance.{name_of, IsSymbol};
-ghost use Rattle.rwsp_file.specs.Text.{demand_text, bounds_words, file_line, pair_words, triple_words, problem_text, range_at, row_of_demand, row_of_shift, shift_words, size_lines, frame_lines};
+ghost use Rattle.rwsp_file.specs.Text.{demand_text, bounds_words, file_line, pair_words, triple_words, problem_text, row_of_demand, row_of_shift, shift_words, size_lines, frame_lines};
 
 use rwsp_model::Problem;
 use rwsp_terms::{Bounds, Class, Symbol};
@@ -86,22 +86,6 @@ fn put_triple(
     put_name_and(out, problem, triple.2, b'\n')
 }
 
-// The demand of a shift on a day, both counted from 0.
-fn range_at(problem: &Problem, place: u8, day: u32) -> Bounds
-    requires place { place < length problem.now.shifts }
-    requires day { day < problem.now.days }
-    ensures { result ≡ range_at problem.now place day }
-{
-    problem.prove_limits();
-    let shift = Symbol { number: place + 1 };
-    let least = problem.demand_least(shift, day + 1);
-    let greatest = problem.demand_greatest(shift, day + 1);
-    Bounds {
-        least: least as u32,
-        greatest: greatest as u32,
-    }
-}
-
 // A blank and a demand.
 fn put_next_demand(out: &mut Vec<u8>, range: Bounds) -> Result<(), AllocError>
     ensures { OnOk result (out.new.items ≡ out.old.items ++ 32 ∷ demand_text range) }
@@ -118,10 +102,11 @@ fn put_demand_row(out: &mut Vec<u8>, problem: &Problem, place: u8) -> Result<(),
         out.new.items ≡ out.old.items ++ file_line (map demand_text (row_of_demand problem.now place))) }
 {
     problem.prove_limits();
+    let shift = Symbol { number: place + 1 };
     let days = problem.days();
-    put_demand(out, range_at(problem, place, 0))?;
+    put_demand(out, problem.demand(shift, 1))?;
     for day in 1..days {
-        put_next_demand(out, range_at(problem, place, day))?;
+        put_next_demand(out, problem.demand(shift, day + 1))?;
     }
     put_byte(out, b'\n')
 }
