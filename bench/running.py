@@ -19,7 +19,7 @@ Ran = collections.namedtuple("Ran", "status seconds worked megabytes out err")
 def program_or_exit(path):
     """The program's whole path, where it is built."""
     if not os.path.exists(path):
-        sys.exit("build the program first: ./rwsp show examples/nine_weeks.txt")
+        sys.exit("build the program first: ./rwsp --prove")
     return os.path.abspath(path)
 
 

@@ -1,4 +1,5 @@
-# Builds the program where that is still to be done; the script rwsp reads this where it is in no package.
+# Has the program answer before its proof where it isn't proved, or proves and builds it; the script rwsp reads this where
+# it is in no package.
 program="$root/crates/rwsp/out/rwsp"
 
 # The program has the time at which its build began, so what was changed since then is newer.
@@ -6,20 +7,34 @@ is_built() {
     [ -x "$program" ] && [ -z "$(find "$root/crates" "$root/crates.txt" "$root/HANDLES" -name out -prune -o -type f -newer "$program" -print | head -n 1)" ]
 }
 
-# One run builds at a time; who waited finds it built. What was built before stays until there is a new program.
-build() {
-    missing="the program is still to be built, and there is no command"
-    command -v rt >/dev/null || give_up "$missing rt: install the Rattle kit (rattle-kit-13b or later) and put its folder bin on the PATH"
-    command -v python3 >/dev/null || give_up "$missing python3"
-    command -v flock >/dev/null || give_up "$missing flock"
-    exec 9<"$root/crates.txt"
-    attend flock 9
-    if ! is_built; then
-        echo "rwsp: proving and building the program, which takes half an hour to an hour on four processors" >&2
-        attend "$root/tools/prove_and_build" rwsp
-        [ "$status" -eq 0 ] || give_up "the program could not be built"
-    fi
-    exec 9<&-
+needs() {
+    for tool; do
+        command -v "$tool" >/dev/null && continue
+        [ "$tool" != rt ] || tool="rt: install the Rattle kit (rattle-kit-13b or later) and put its folder bin on the PATH"
+        give_up "the program is still to be proved, and there is no command $tool"
+    done
 }
 
-is_built || build
+# One run builds at a time; who waited finds it built. What was built before stays until there is a new program.
+build() {
+    needs rt python3 flock
+    exec 9<"$root/crates.txt"
+    attend flock 9
+    is_built && return
+    echo "rwsp: proving and building the program, which takes half an hour to an hour on four processors" >&2
+    attend "$root/tools/prove_and_build" rwsp
+    [ "$status" -eq 0 ] || give_up "the program could not be built"
+}
+
+if [ "$# ${1-}" = "1 --prove" ]; then
+    is_built || build
+    echo "rwsp: the program is proved and built" >&2
+    finish 0
+elif ! is_built; then
+    needs rt python3
+    program="$root/tools/answer_unproved"
+    # Each word on an answer would be a run of its own.
+    tell_answer() { :; }
+    tell_first_day() { :; }
+    say "the program is not proved yet, so this answer is from before its proof, in a minute or two, and is not explained; to prove it: $0 --prove"
+fi

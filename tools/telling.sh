@@ -107,8 +107,9 @@ tell_end() {
 }
 
 tell_help() {
-    cat "$root/tools/help.txt" && printf '%s\n' "$0 --version says which program this is, and what proved it." \
-        "$root/README.md leads on for planners, for the sceptical and for engineers."
+    cat "$root/tools/help.txt" && printf '%s\n' "$0 --version says which program this is, and what proved it." &&
+        { [ -f "$root/PROVED" ] || printf '%s\n' "$0 --prove proves and builds the program; until then it answers before its proof."; } &&
+        printf '%s\n' "$root/README.md leads on for planners, for the sceptical and for engineers."
 }
 
 # Which program this is: in a package what PROVED says, else the commit that is here and the kit that would prove it.

@@ -42,7 +42,7 @@ fits P f h = record { given = h.given; no_turn = h.no_turn; no_goal = h.no_goal;
 pub filled_owned : (P : Instance) (given : List GivenCell) (budget : ℕ) (found : Filled) → IsFilledWith P given budget found → IsFilledOf P found
 filled_owned P given budget (Roster s) h = (h.0, h.1.0.is_roster)
 filled_owned P given budget (NoRoster f) h = fits P f h.passes.is_fill
-filled_owned P given budget (Undecided f) h = fits P f h.0.is_fill
+filled_owned P given budget (Undecided f) h = fits P f h.spent.is_fill
 
 -- a roster that holds the given cells and a refutation that names no others exclude each other
 

@@ -14,6 +14,7 @@ pub mod Calendars
 pub mod Mends
 pub mod Rests
 pub mod Pages
+pub mod ReadBest
 pub mod RosterAnswers
 pub mod Explained
 pub mod GivenBack

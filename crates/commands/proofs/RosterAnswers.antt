@@ -1,18 +1,23 @@
 -- The bytes of an answer have one answer of `roster`.
-use Rattle.std.proofs.Common.{◌≡◌, ℕ, List, Option, Some, None, inl, inr, ap, sym, ◌∙◌, subst}
-use Rattle.rwsp_terms.specs.Instance.{Instance}
+use Rattle.std.proofs.Common.{◌≡◌, ℕ, List, [], ◌∷◌, ◌++◌, get_or, inl, inr, refl, ap, sym, ◌∙◌, subst, arith}
 use Rattle.rwsp_terms.specs.declared.data.Symbol.{Symbol}
-use Rattle.rwsp_text.specs.Numbers.{number_of}
+use Rattle.rwsp_terms.specs.Instance.{Instance}
+use Rattle.rwsp_model.specs.Validity.{KeepsLimits}
 use Rattle.roster_print.proofs.Spelling.{one_roster}
 use Rattle.roster_checker.proofs.FirstBroken.{first_broken-not_met, first_broken-same}
 use Rattle.roster_checker.specs.declared.broken.Broken.{Broken}
+use Rattle.refutation_terms.specs.Log.{Log}
 use Rattle.crew_size.specs.Sizes.{with_weeks}
-use Rattle.plain_words.specs.AnswerParts.{Numbered, best_part, staff_part}
+use Rattle.crew_size.specs.Texts.{sections_text, roster_line}
+use Rattle.crew_checker.specs.Least.{HasLeast}
+use Rattle.crew_checker.proofs.LeastEnds.{one_least}
+use Rattle.commands.specs.ReadBest.{IsBestWith}
 use Rattle.commands.specs.Verify.{fault_line}
 use Rattle.commands.specs.declared.verify.RosterFault.TheVariants as Faults
-use Rattle.commands.specs.Roster.{IsJudged, SaysOf, SpellsNone, SaysOfWeeks, SaysOfStaff, SaysBehindWhole, IsRosterAnswer}
+use Rattle.commands.specs.Roster.{IsJudged, SpellsNone, StandsIn, SaysOf, IsRosterAnswer}
 use Rattle.commands.specs.declared.roster.Answer.{Answer}
 use Rattle.commands.specs.declared.roster.Answer.TheVariants.{Shown, Breaks, NoRoster}
+use Rattle.commands.proofs.ReadBest.{one_best}
 
 one_judged : (P : Instance) (s : List Symbol) (a b : Answer) → IsJudged P s a → IsJudged P s b → a ≡ b
 one_judged P s (Shown text) (Shown other) h k = ap Shown (h.1 ∙ sym k.1)
@@ -25,34 +30,43 @@ one_judged P s (Breaks text) (Breaks other) h k =
 one_judged P s (Breaks text) NoRoster h k = absurd k
 one_judged P s NoRoster b h k = absurd h
 
-one_said : (P : Instance) (bytes : List ℕ) (a b : Answer) → SaysOf P bytes a → SaysOf P bytes b → a ≡ b
-one_said P bytes a b h k =
-    let same : k.0 ≡ h.0 = one_roster P bytes k.0 h.0 k.1.1 h.1.1 in
-    one_judged P h.0 a b h.2 (subst (λ (s : List Symbol). IsJudged P s b) same k.2)
+-- an answer of `best` is none of `staff`
+not_both : (P : Instance) (bytes : List ℕ) (s : List Symbol) (n : ℕ) (t : List Symbol) → IsBestWith P bytes s → HasLeast P bytes n t → ⊥
+not_both P bytes s n t best (low, e) = by e.logs e.whole
+  where
+    by : (logs : List Log) → bytes ≡ sections_text P low logs ++ (roster_line n ++ e.bytes) → ⊥
+    by [] whole = let same : 102 ≡ 119 = ap (λ t. get_or t 0 0) (sym best.whole ∙ whole) in omega (arith, same)
+    by (g ∷ logs) whole = let same : 102 ≡ 119 = ap (λ t. get_or t 0 0) (sym best.whole ∙ whole) in omega (arith, same)
 
-said_or_none : (P : Instance) (bytes : List ℕ) (a : Answer) → SaysOf P bytes a → SpellsNone P bytes → ⊥
-said_or_none P bytes a h none = none h.0 h.1
+-- one roster stands in the bytes
+stands_once : (P : Instance) (bytes : List ℕ) (m n : ℕ) (s t : List Symbol) → KeepsLimits P → StandsIn P bytes m s → StandsIn P bytes n t → (m ≡ n) × (s ≡ t)
+stands_once P bytes m n s t limits (inl h) (inl k) = (h.0 ∙ sym k.0, one_roster P bytes s t h.1.1 k.1.1)
+stands_once P bytes m n s t limits (inl h) (inr k) = absurd (k.0 s h.1)
+stands_once P bytes m n s t limits (inr h) (inl k) = absurd (h.0 t k.1)
+stands_once P bytes m n s t limits (inr (none, inl h)) (inr (other, inl k)) = (h.0 ∙ sym k.0, one_best P bytes s t limits h.1 k.1)
+stands_once P bytes m n s t limits (inr (none, inl h)) (inr (other, inr k)) = absurd (not_both P bytes s n t h.1 k)
+stands_once P bytes m n s t limits (inr (none, inr h)) (inr (other, inl k)) = absurd (not_both P bytes t m s k.1 h)
+stands_once P bytes m n s t limits (inr (none, inr h)) (inr (other, inr k)) = one_least P bytes m n s t limits h k
 
-one_of_weeks : (P : Instance) (weeks : Option ℕ) (bytes : List ℕ) (a b : Answer) → SaysOfWeeks P weeks bytes a → SaysOfWeeks P weeks bytes b → a ≡ b
-one_of_weeks P None bytes a b h k = h ∙ sym k
-one_of_weeks P (Some m) bytes a b (inl h) (inl k) = one_said (with_weeks P m) bytes a b h.1 k.1
-one_of_weeks P (Some m) bytes a b (inl h) (inr k) = absurd (said_or_none (with_weeks P m) bytes a h.1 (k.0 h.0))
-one_of_weeks P (Some m) bytes a b (inr h) (inl k) = absurd (said_or_none (with_weeks P m) bytes b k.1 (h.0 k.0))
-one_of_weeks P (Some m) bytes a b (inr h) (inr k) = h.1 ∙ sym k.1
+one_said : (P : Instance) (bytes : List ℕ) (a b : Answer) → KeepsLimits P → SaysOf P bytes a → SaysOf P bytes b → a ≡ b
+one_said P bytes a b limits (m, s, here, h) (n, t, there, k) =
+    let same = stands_once P bytes m n s t limits here there in
+    let moved : IsJudged (with_weeks P m) s b = subst (λ (i : ℕ). IsJudged (with_weeks P i) s b) (sym same.0) (subst (λ (r : List Symbol). IsJudged (with_weeks P n) r b) (sym same.1) k) in
+    one_judged (with_weeks P m) s a b h moved
 
-one_of_staff : (P : Instance) (found : Option Numbered) (a b : Answer) → SaysOfStaff P found a → SaysOfStaff P found b → a ≡ b
-one_of_staff P None a b h k = h ∙ sym k
-one_of_staff P (Some found) a b h k = one_of_weeks P (number_of found.0) found.1 a b h k
+pub one_taken : (P : Instance) (bytes : List ℕ) (a b : Answer) → KeepsLimits P → IsRosterAnswer P bytes a → IsRosterAnswer P bytes b → a ≡ b
+one_taken P bytes (Shown x) (Shown y) limits h k = one_said P bytes (Shown x) (Shown y) limits h k
+one_taken P bytes (Shown x) (Breaks y) limits h k = one_said P bytes (Shown x) (Breaks y) limits h k
+one_taken P bytes (Breaks x) (Shown y) limits h k = one_said P bytes (Breaks x) (Shown y) limits h k
+one_taken P bytes (Breaks x) (Breaks y) limits h k = one_said P bytes (Breaks x) (Breaks y) limits h k
+one_taken P bytes (Shown x) NoRoster limits h k = absurd (k h.0 h.1 h.2)
+one_taken P bytes (Breaks x) NoRoster limits h k = absurd (k h.0 h.1 h.2)
+one_taken P bytes NoRoster (Shown y) limits h k = absurd (h k.0 k.1 k.2)
+one_taken P bytes NoRoster (Breaks y) limits h k = absurd (h k.0 k.1 k.2)
+one_taken P bytes NoRoster NoRoster limits h k = refl
 
-one_behind : (P : Instance) (bytes : List ℕ) (part : Option (List ℕ)) (a b : Answer) → SaysBehindWhole P bytes part a → SaysBehindWhole P bytes part b → a ≡ b
-one_behind P bytes None a b h k = one_of_staff P (staff_part bytes) a b h k
-one_behind P bytes (Some part) a b (inl h) (inl k) = one_said P part a b h k
-one_behind P bytes (Some part) a b (inl h) (inr k) = absurd (said_or_none P part a h k.0)
-one_behind P bytes (Some part) a b (inr h) (inl k) = absurd (said_or_none P part b k h.0)
-one_behind P bytes (Some part) a b (inr h) (inr k) = one_of_staff P (staff_part bytes) a b h.1 k.1
-
-pub one_taken : (P : Instance) (bytes : List ℕ) (a b : Answer) → IsRosterAnswer P bytes a → IsRosterAnswer P bytes b → a ≡ b
-one_taken P bytes a b (inl h) (inl k) = one_said P bytes a b h k
-one_taken P bytes a b (inl h) (inr k) = absurd (said_or_none P bytes a h k.0)
-one_taken P bytes a b (inr h) (inl k) = absurd (said_or_none P bytes b k h.0)
-one_taken P bytes a b (inr h) (inr k) = one_behind P bytes (best_part P.weeks bytes) a b h.1 k.1
+-- no roster stands in bytes that are none of the three
+pub none_stands : (P : Instance) (bytes : List ℕ) → SpellsNone P bytes → ((s : List Symbol) → IsBestWith P bytes s → ⊥) → ((n : ℕ) (s : List Symbol) → HasLeast P bytes n s → ⊥) → (m : ℕ) (s : List Symbol) → StandsIn P bytes m s → ⊥
+none_stands P bytes whole best least m s (inl h) = whole s h.1
+none_stands P bytes whole best least m s (inr (none, inl h)) = best s h.1
+none_stands P bytes whole best least m s (inr (none, inr h)) = least m s h

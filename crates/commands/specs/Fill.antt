@@ -6,7 +6,7 @@ use Rattle.roster_print.specs.RosterText.{roster_text}
 use Rattle.refutation_log.specs.declared.cells.GivenCell.{GivenCell}
 use Rattle.refutation_log.specs.FillReading.{FillFits}
 use Rattle.refutation_log.specs.FillText.{fill_text}
-use Rattle.refutation_log.specs.Filled.{IsFilledWith}
+use Rattle.refutation_log.specs.Filled.{IsCountedFirst, IsFilledWith}
 use Rattle.refutation_log.specs.CellsText.{SpellsGiven, refusal_of_cells}
 use Rattle.refutation_log.specs.declared.filled.Filled.{Filled}
 use Rattle.refutation_log.specs.declared.filled.Filled.TheVariants.{Roster, NoRoster, Undecided}
@@ -15,10 +15,11 @@ use Rattle.commands.specs.declared.verify.RosterFault.TheVariants as Faults
 use Rattle.commands.specs.declared.fill.Answer.{Answer}
 use Rattle.commands.specs.declared.fill.Answer.TheVariants.{Found, Refused}
 
--- what an answer says of the bytes of given cells: what is found behind the cells that they give, or why they give none
+-- what an answer says of the bytes of given cells: what is found behind the cells that they give, where blocks are
+-- counted first; or why they give none
 abbrev pub IsFillAnswer : Instance → List ℕ → ℕ → Answer → Type 0
 IsFillAnswer P bytes budget (Found found) =
-    (given : List GivenCell) × SpellsGiven P bytes given × IsFilledWith P given budget found
+    (given : List GivenCell) × SpellsGiven P bytes given × IsFilledWith P given budget found × IsCountedFirst P found
 IsFillAnswer P bytes budget (Refused why) = refusal_of_cells P bytes ≡ Some why
 
 abbrev pub filled_text : Instance → Filled → List ℕ

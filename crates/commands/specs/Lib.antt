@@ -13,6 +13,7 @@ pub mod Rest
 pub mod Page
 pub mod Ics
 pub mod On
+pub mod ReadBest
 pub mod Roster
 pub mod Explain
 pub mod Trial

@@ -1,16 +1,16 @@
 -- What `roster` answers.
-use Rattle.std.specs.Prelude.{◌≡◌, ◌⊎◌, ℕ, ◌≤◌, List, length, codes, Option, Some, None}
+use Rattle.std.specs.Prelude.{◌≡◌, ◌⊎◌, ℕ, ◌≤◌, List, length, codes}
 use Rattle.rwsp_terms.specs.declared.limits.TheConstants.{LONGEST_FILE}
 use Rattle.rwsp_terms.specs.Instance.{Instance}
 use Rattle.rwsp_terms.specs.Roster.{MeetsAll}
 use Rattle.rwsp_terms.specs.declared.data.Symbol.{Symbol}
-use Rattle.rwsp_text.specs.Numbers.{number_of}
 use Rattle.roster_print.specs.RosterText.{SpellsRoster, roster_text}
 use Rattle.roster_checker.specs.FirstBroken.{IsFirstBroken}
 use Rattle.roster_checker.specs.declared.broken.Broken.{Broken}
-use Rattle.crew_size.specs.Sizes.{with_weeks, IsSize}
-use Rattle.plain_words.specs.AnswerParts.{Numbered, best_part, staff_part}
+use Rattle.crew_size.specs.Sizes.{with_weeks}
+use Rattle.crew_checker.specs.Least.{HasLeast}
 use Rattle.commands.specs.Lines.{line}
+use Rattle.commands.specs.ReadBest.{IsBestWith}
 use Rattle.commands.specs.Verify.{fault_line}
 use Rattle.commands.specs.declared.verify.RosterFault.TheVariants as Faults
 use Rattle.commands.specs.declared.roster.Answer.{Answer}
@@ -27,37 +27,26 @@ IsJudged P s NoRoster = ⊥
 abbrev pub SpellsShort : Instance → List ℕ → List Symbol → Type 0
 SpellsShort P bytes s = (length bytes ≤ LONGEST_FILE) × SpellsRoster P bytes s
 
--- this is said of the roster that the bytes spell
-abbrev pub SaysOf : Instance → List ℕ → Answer → Type 0
-SaysOf P bytes answer = (s : List Symbol) × SpellsShort P bytes s × IsJudged P s answer
-
 -- they spell none
 abbrev pub SpellsNone : Instance → List ℕ → Type 0
 SpellsNone P bytes = (s : List Symbol) → SpellsShort P bytes s → ⊥
 
--- of the bytes behind the heading of m weeks
-abbrev pub SaysOfWeeks : Instance → Option ℕ → List ℕ → Answer → Type 0
-SaysOfWeeks P None bytes answer = answer ≡ NoRoster
-SaysOfWeeks P (Some m) bytes answer =
-    (IsSize P m × SaysOf (with_weeks P m) bytes answer)
-    ⊎ ((IsSize P m → SpellsNone (with_weeks P m) bytes) × (answer ≡ NoRoster))
+-- the roster, of m weeks, stands in the bytes: as a whole they are a roster's text, as `plan` prints one; or else, as
+-- far as reading goes, an answer of `best` or of `staff` that has it
+abbrev pub StandsIn : Instance → List ℕ → (m : ℕ) → List Symbol → Type 0
+StandsIn P bytes m s =
+    ((m ≡ P.weeks) × SpellsShort P bytes s)
+    ⊎ (SpellsNone P bytes × (((m ≡ P.weeks) × IsBestWith P bytes s) ⊎ HasLeast P bytes m s))
 
--- of what `staff` may have printed: the roster behind its heading
-abbrev pub SaysOfStaff : Instance → Option Numbered → Answer → Type 0
-SaysOfStaff P None answer = answer ≡ NoRoster
-SaysOfStaff P (Some found) answer = SaysOfWeeks P (number_of found.0) found.1 answer
+-- this is said of the roster that stands in the bytes
+abbrev pub SaysOf : Instance → List ℕ → Answer → Type 0
+SaysOf P bytes answer = (m : ℕ) × (s : List Symbol) × StandsIn P bytes m s × IsJudged (with_weeks P m) s answer
 
--- of what spells no roster as a whole: the roster in what `best` may have printed, or else in what `staff` may have
-abbrev pub SaysBehindWhole : Instance → List ℕ → Option (List ℕ) → Answer → Type 0
-SaysBehindWhole P bytes None answer = SaysOfStaff P (staff_part bytes) answer
-SaysBehindWhole P bytes (Some part) answer =
-    SaysOf P part answer ⊎ (SpellsNone P part × SaysOfStaff P (staff_part bytes) answer)
-
--- what an answer says of the bytes of an answer: of the roster that they are, as `plan` prints one, or that stands in
--- them
+-- what an answer says of the bytes of an answer: of the roster that stands in them, or that none does
 abbrev pub IsRosterAnswer : Instance → List ℕ → Answer → Type 0
-IsRosterAnswer P bytes answer =
-    SaysOf P bytes answer ⊎ (SpellsNone P bytes × SaysBehindWhole P bytes (best_part P.weeks bytes) answer)
+IsRosterAnswer P bytes (Shown text) = SaysOf P bytes (Shown text)
+IsRosterAnswer P bytes (Breaks text) = SaysOf P bytes (Breaks text)
+IsRosterAnswer P bytes NoRoster = (m : ℕ) (s : List Symbol) → StandsIn P bytes m s → ⊥
 
 abbrev pub roster_answer_text : Answer → List ℕ
 roster_answer_text (Shown text) = text

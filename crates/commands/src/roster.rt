@@ -1,26 +1,28 @@
 // The roster that stands in an answer of `plan`, `best` or `staff`.
-ghost use Rattle.std.specs.Prelude.{◌≡◌, IfOk, MatchOption};
+ghost use Rattle.std.specs.Prelude.{◌≡◌, ℕ, List, IfOk, MatchOption};
+ghost use Rattle.rwsp_terms.specs.declared.data.Symbol.{Symbol};
 ghost use Rattle.rwsp_terms.specs.Roster.{IsRoster};
-ghost use Rattle.plain_words.specs.AnswerParts.{best_part, staff_part};
 ghost use Rattle.crew_size.specs.Sizes.{with_weeks, IsSize};
 ghost use Rattle.commands.specs.Files.{IsWithinLimit};
 ghost use Rattle.commands.specs.declared.second_file.SecondKind.TheVariants as Kinds;
-ghost use Rattle.commands.specs.Roster.{IsJudged, SaysOf, SpellsNone, SaysOfWeeks, SaysOfStaff, SaysBehindWhole, IsRosterAnswer, roster_answer_text, roster_status};
+ghost use Rattle.commands.specs.Roster.{IsJudged, SpellsShort, SpellsNone, StandsIn, IsRosterAnswer, roster_answer_text, roster_status};
 
 mod laws;
+mod of_best;
 
 use crate::crew::Calendar;
 use crate::verify::{RosterFault, fault_line};
-use crew_size::{is_size, with_weeks};
+use crew_checker::read_least;
+use crew_size::with_weeks;
 pub use laws::{
-    bests_are_given_back, plans_are_given_back, staffs_are_given_back, staffs_spell_no_roster,
+    bests_are_given_back, plans_are_given_back, shown_rosters_stand, staffs_are_given_back,
+    staffs_spell_no_roster,
 };
-use plain_words::{best_part, staff_part};
+use of_best::best_roster;
 use roster_checker::first_broken;
 use roster_print::{print_roster, read_roster};
 use rwsp_model::{Fail, Problem, Roster};
 use rwsp_terms::limits::LONGEST_FILE;
-use rwsp_text::number;
 use std::alloc::{AllocError, Global};
 
 /// The roster of an answer, or why there is none.
@@ -34,91 +36,63 @@ pub enum Answer {
     NoRoster,
 }
 
-/// The answer to the bytes of an answer. First all of them are taken for a roster, as `plan` prints one; then what
-/// stands between the first line and the free log of an answer of `best`, a line for each week; then what is behind
-/// the heading of a roster in one of `staff`. The first that spells a roster is judged.
+/// The answer to the bytes of an answer: what is said of the roster that stands in them. It takes time by the bytes.
 pub fn job(alloc: Global, problem: &Problem, bytes: &[u8]) -> Result<Answer, AllocError>
     requires { IsWithinLimit Kinds.Log bytes.now }
     ensures { IfOk result (IsRosterAnswer problem.now bytes.now) }
 {
-    match of_part(alloc, problem, bytes)? {
-        Some(answer) => Ok(answer),
-        None => behind_whole(alloc, problem, bytes),
-    }
-}
-
-// The answer where the bytes as a whole spell no roster.
-fn behind_whole(alloc: Global, problem: &Problem, bytes: &[u8]) -> Result<Answer, AllocError>
-    ensures { IfOk result (SaysBehindWhole problem.now bytes.now (best_part problem.now.weeks bytes.now)) }
-{
-    let Some(part) = best_part(problem.weeks(), bytes) else {
-        return of_staff(alloc, problem, bytes);
-    };
-    match of_part(alloc, problem, part)? {
-        Some(answer) => Ok(answer),
-        None => of_staff(alloc, problem, bytes),
-    }
-}
-
-// The answer where the bytes may be an answer of `staff` alone.
-fn of_staff(alloc: Global, problem: &Problem, bytes: &[u8]) -> Result<Answer, AllocError>
-    ensures { IfOk result (SaysOfStaff problem.now (staff_part bytes.now)) }
-{
-    match staff_part(bytes) {
-        Some((digits, part)) => of_weeks(alloc, problem, number(digits), part),
-        None => Ok(Answer::NoRoster),
-    }
-}
-
-// The answer to the bytes behind the heading of this number of weeks.
-fn of_weeks(
-    alloc: Global,
-    problem: &Problem,
-    weeks: Option<u32>,
-    bytes: &[u8],
-) -> Result<Answer, AllocError>
-    ensures { IfOk result (SaysOfWeeks problem.now weeks bytes.now) }
-{
-    let Some(weeks) = weeks else {
+    let Some((weeks, roster)) = roster_in(alloc, problem, bytes)? else {
         return Ok(Answer::NoRoster);
     };
-    if !is_size(problem, weeks) {
-        return Ok(Answer::NoRoster);
-    }
-    match of_size(alloc, problem, weeks, bytes)? {
-        Some(answer) => Ok(answer),
-        None => Ok(Answer::NoRoster),
-    }
-}
-
-// What is said of the roster that the bytes spell for this number of weeks; None where they spell none.
-fn of_size(
-    alloc: Global,
-    problem: &Problem,
-    weeks: u32,
-    bytes: &[u8],
-) -> Result<Option<Answer>, AllocError>
-    requires { IsSize problem.now weeks }
-    ensures { IfOk result (λ found. MatchOption found (SpellsNone (with_weeks problem.now weeks) bytes.now)
-        (SaysOf (with_weeks problem.now weeks) bytes.now)) }
-{
     let sized = with_weeks(problem, weeks)?;
-    of_part(alloc, &sized, bytes)
+    judged(alloc, &sized, &roster)
 }
 
-// What is said of the roster that the bytes spell; None where they spell none.
-fn of_part(alloc: Global, problem: &Problem, bytes: &[u8]) -> Result<Option<Answer>, AllocError>
-    ensures { IfOk result (λ found. MatchOption found (SpellsNone problem.now bytes.now)
-        (SaysOf problem.now bytes.now)) }
+// The roster that stands in the bytes, with its number of weeks. First all of them are taken for a roster, as `plan`
+// prints one; then for an answer of `best`; then for one of `staff`.
+fn roster_in(
+    alloc: Global,
+    problem: &Problem,
+    bytes: &[u8],
+) -> Result<Option<(u32, Roster)>, AllocError>
+    requires { IsWithinLimit Kinds.Log bytes.now }
+    ensures stands { IfOk result (λ found. MatchOption found
+        ((m : ℕ) (s : List Symbol) → StandsIn problem.now bytes.now m s → ⊥)
+        (λ here. StandsIn problem.now bytes.now here.0 here.1.cells)) }
+    ensures size { IfOk result (λ found. MatchOption found (Unit {0}) (λ here. IsSize problem.now here.0)) }
+    ensures roster { IfOk result (λ found. MatchOption found (Unit {0})
+        (λ here. IsRoster (with_weeks problem.now here.0) here.1.cells)) }
+    ensures days { IfOk result (λ found. MatchOption found (Unit {0})
+        (λ here. here.1.days ≡ problem.now.days)) }
+{
+    problem.prove_limits();
+    if let Some(roster) = whole_roster(alloc, problem, bytes)? {
+        return Ok(Some((problem.weeks(), roster)));
+    }
+    if let Some(roster) = best_roster(alloc, problem, bytes)? {
+        return Ok(Some((problem.weeks(), roster)));
+    }
+    read_least(alloc, problem, bytes)
+}
+
+// The roster that the bytes spell as a whole.
+fn whole_roster(
+    alloc: Global,
+    problem: &Problem,
+    bytes: &[u8],
+) -> Result<Option<Roster>, AllocError>
+    ensures spelled { IfOk result (λ found. MatchOption found (SpellsNone problem.now bytes.now)
+        (λ roster. SpellsShort problem.now bytes.now roster.cells)) }
+    ensures roster { IfOk result (λ found. MatchOption found (Unit {0})
+        (λ roster. IsRoster problem.now roster.cells)) }
+    ensures days { IfOk result (λ found. MatchOption found (Unit {0})
+        (λ roster. roster.days ≡ problem.now.days)) }
 {
     if bytes.len() > LONGEST_FILE as usize {
         return Ok(None);
     }
     match read_roster(alloc, problem, bytes) {
-        Ok(roster) => {
-            let answer = judged(alloc, problem, &roster)?;
-            Ok(Some(answer))
-        }
+        Ok(roster) => Ok(Some(roster)),
         Err(Fail::Refused(_)) => Ok(None),
         Err(Fail::Memory) => Err(AllocError),
     }

@@ -10,3 +10,4 @@ pub mod EventLines
 pub mod OneEvents
 pub mod ReadBack
 pub mod EventsRead
+pub mod ReadDates

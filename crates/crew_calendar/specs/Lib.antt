@@ -4,6 +4,7 @@ pub mod Facts
 pub mod Laws
 pub mod Calendar
 pub mod OnDate
+pub mod ReadDates
 pub mod ContentLines
 pub mod Events
 pub mod ReadEvents

@@ -1,11 +1,11 @@
 -- Who works on one date.
-use Rattle.std.specs.Prelude.{◌≡◌, ◌≢◌, ℕ, ◌<◌, ◌==◌, List, [], ◌∷◌, ◌++◌, pos, ◌+ℤ◌, if◌then◌else◌}
+use Rattle.std.specs.Prelude.{◌≡◌, ℕ, ◌==◌, List, [], ◌∷◌, ◌++◌, pos, ◌+ℤ◌, if◌then◌else◌}
 use Rattle.std.specs.List.{flat_map, range_with_len}
 use Rattle.std.specs.Fmt.{decimal}
 use Rattle.rwsp_terms.specs.Instance.{Instance, name_of, shift_count, symbol_numbered}
 use Rattle.rwsp_terms.specs.declared.data.Symbol.{Symbol}
 use Rattle.crew_calendar.specs.Crew.{employees, symbol_on}
-use Rattle.crew_calendar.specs.Calendar.{Date, epoch_day, date_text, weekday_text, IsCalendar}
+use Rattle.crew_calendar.specs.Calendar.{Date, epoch_day, date_text, weekday_text}
 
 -- the number of an employee after a blank, where he has the symbol on the day
 abbrev pub holder_text : Instance → List Symbol → (t x e : ℕ) → List ℕ
@@ -33,23 +33,6 @@ pub record IsOn (P : Instance) (s : List Symbol) (start date : Date) (text : Lis
   pub t : ℕ
   pub days : epoch_day date ≡ epoch_day start +ℤ pos t
   pub is : text ≡ on_text P s date t
-
--- an employee who has the symbol has it by his number in the symbol's line, and nobody else has
-abbrev pub IsHolder : Instance → List Symbol → (t x e : ℕ) → Type 0
-IsHolder P s t x e = holder_text P s t x e ≡ 32 ∷ decimal e
-
--- `on` has a date's employees as the table has them on that day: it says of the day's number what the table's line has,
--- and an employee stands in the line of his symbol alone
-pub record IsAsInTable (P : Instance) (s : List Symbol) (on : ℕ → Date) (t : ℕ) (text : List ℕ) : Type 0 where
-  pub is : text ≡ on_text P s (on t) t
-  pub own : (e : ℕ) → IsHolder P s t (symbol_on P s e t).number e
-  pub others : (x e : ℕ) → x ≢ (symbol_on P s e t).number → holder_text P s t x e ≡ []
-
--- this is so of each day of a calendar
-abbrev pub DatesAreAsInTables : Type 0
-DatesAreAsInTables =
-    (P : Instance) (s : List Symbol) (start : Date) (days : ℕ) (on : ℕ → Date) (t : ℕ) (text : List ℕ)
-    → IsCalendar start days on → t < days → IsOn P s start (on t) text → IsAsInTable P s on t text
 
 -- who works on a date has one text
 abbrev pub DatesHaveOneText : Type 0

@@ -1,6 +1,7 @@
 // Laws of the definitions. Each function's contract is the law.
 ghost use Rattle.crew_calendar.specs.Facts.{DemandIsMetDaily, EmployeesFollowTheCycle, EmployeesKeepTheRules, EmployeesGoRound};
-ghost use Rattle.crew_calendar.specs.OnDate.{DatesAreAsInTables, DatesHaveOneText};
+ghost use Rattle.crew_calendar.specs.OnDate.{DatesHaveOneText};
+ghost use Rattle.crew_calendar.specs.ReadDates.{DatesAreAsInTables};
 ghost use Rattle.crew_calendar.specs.ContentLines.{LinesAreReadBack, TextsAreReadBack, RowsAreShort, CharactersStayWhole};
 ghost use Rattle.crew_calendar.specs.ReadEvents.{EventsAreReadBack, DutiesAreListed};
 ghost use Rattle.crew_calendar.specs.Laws.{TablesAreOne, DutiesAreOne, EventsAreOne, WordsNameOneDate};
@@ -46,7 +47,8 @@ pub fn dates_have_one_text()
     ensures { DatesHaveOneText }
 {}
 
-/// Who works on a date is as the table of all employees has it on that day.
+/// Read from both texts, the name that the table of all employees has for an employee on a date is that of the line in
+/// which his number stands in who works on that date, and it stands in no other line.
 pub fn dates_are_as_in_tables()
     ensures { DatesAreAsInTables }
 {}

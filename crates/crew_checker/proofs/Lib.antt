@@ -1,3 +1,4 @@
 pub mod Refused
 pub mod SomeBroken
 pub mod SomeVerdict
+pub mod LeastEnds

@@ -1,16 +1,16 @@
 -- What is said of a plan.
-use Rattle.std.specs.Prelude.{◌≡◌, ◌↔◌, ℕ, ◌+◌, ◌*◌, ◌^◌, ◌<◌, ◌≤◌, [], ◌∷◌, slice_get, Bool, true, false, IsTrue, None, Some}
+use Rattle.std.specs.Prelude.{◌≡◌, ◌⊎◌, ◌↔◌, ℕ, ◌+◌, ◌*◌, ◌^◌, ◌<◌, ◌≤◌, [], ◌∷◌, Bool, true, false, IsTrue, None}
 use Rattle.rwsp_terms.specs.declared.data.Symbol.{Symbol}
 use Rattle.rwsp_terms.specs.Instance.{Instance, cells, shift_count}
 use Rattle.rwsp_terms.specs.Roster.{MeetsAll}
 use Rattle.refutation_terms.specs.declared.lines.Line.{Line}
 use Rattle.refutation_terms.specs.declared.lines.Line.TheVariants.{Closing}
-use Rattle.refutation_terms.specs.declared.lines.Leaf.TheVariants.{Blocks}
+use Rattle.refutation_terms.specs.declared.lines.Leaf.TheVariants.{Window, Day, Blocks}
 use Rattle.refutation_terms.specs.BlocksLeaf.{IsFirstBlocks, NoBlocksHold}
 use Rattle.refutation_terms.specs.Word.{Domains}
 use Rattle.refutation_terms.specs.Tree.{opening}
 use Rattle.refutation_terms.specs.Log.{Log, Passes, IsSpent, NamesOnlyCited, size}
-use Rattle.refutation_terms.specs.Sharp.{SomeWindowHolds, SomeDayHolds, IsSharp, IsUnclosed}
+use Rattle.refutation_terms.specs.Sharp.{SomeWindowHolds, SomeDayHolds, IsSharp}
 use Rattle.refutation_log.specs.declared.found.Found.{Found}
 use Rattle.refutation_log.specs.declared.found.Found.TheVariants.{Roster, NoRoster, Undecided}
 
@@ -32,21 +32,30 @@ IsPlanned P budget (Undecided g) =
 abbrev pub IsBlocksTree : Instance → Log → Type 0
 IsBlocksTree P g = (x : Symbol) × IsFirstBlocks P x × (g.lines ≡ Closing (Blocks x) ∷ [])
 
--- the first line is a split, or unfinished
-abbrev pub IsUnclosedAtTop : Log → Type 0
-IsUnclosedAtTop g = (line : Line) × (slice_get g.lines 0 ≡ Some line) × IsUnclosed line
+-- a window leaf or a day leaf
+abbrev pub IsPlain : Line → Type 0
+IsPlain (Closing (Window number p len)) = Unit {0}
+IsPlain (Closing (Day j x over)) = Unit {0}
+IsPlain line = ⊥
+
+-- the tree of the log is one such leaf
+abbrev pub IsPlainTree : Log → Type 0
+IsPlainTree g = (line : Line) × IsPlain line × (g.lines ≡ line ∷ [])
 
 -- no window leaf and no day leaf of the problem holds
 abbrev pub NoPlainLeafHolds : Instance → Domains → Type 0
 NoPlainLeafHolds P D = (SomeWindowHolds P D → ⊥) × (SomeDayHolds P D → ⊥)
 
--- a log of a search that counts may count exactly where its tree is such a leaf, which comes behind window leaves and
--- day leaves: none of them holds before the first line. And its first line is a split, or unfinished, only where no
--- leaf of blocks holds
+-- the tree of the log is the first leaf of blocks that holds, where no window leaf and no day leaf holds before the
+-- first line; or it is a window leaf or a day leaf
+abbrev pub IsCountedTree : Instance → Log → Type 0
+IsCountedTree P g = (IsBlocksTree P g × NoPlainLeafHolds P (opening P g.opening)) ⊎ IsPlainTree g
+
+-- a log of a search that counts: it may count exactly where its tree is the first leaf of blocks that holds, and where
+-- any of them holds, its tree is that leaf or one that comes before it
 pub record IsCountingLog (P : Instance) (g : Log) : Type 0 where
   pub may_count : IsTrue g.counts ↔ IsBlocksTree P g
-  pub no_plain : IsBlocksTree P g → NoPlainLeafHolds P (opening P g.opening)
-  pub no_blocks : IsUnclosedAtTop g → NoBlocksHold P
+  pub counted_first : NoBlocksHold P ⊎ IsCountedTree P g
 
 -- a log of a search that doesn't count may not count
 abbrev pub IsCountedLog : Instance → Bool → Log → Type 0

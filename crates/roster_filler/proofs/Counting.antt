@@ -18,7 +18,7 @@ use Rattle.refutation_log.specs.FillLog.{FillLog, FillPasses, strip_fill}
 use Rattle.refutation_log.specs.Filled.{IsFillProof}
 use Rattle.refutation_log.proofs.CitedRules.{rule_there}
 use Rattle.rule_reducer.proofs.Kept.{was_listed}
-use Rattle.roster_filler.specs.Counted.{IsCountedFill}
+use Rattle.refutation_log.specs.Filled.{IsCountedFill}
 
 -- what is said of the one line of a list is said of each line at a place of it
 at_only : (Q : ℕ → Line → Type 0) (a : Line) → Q 0 a → (k : ℕ) (b : Line) → slice_get (a ∷ []) k ≡ Some b → Q k b

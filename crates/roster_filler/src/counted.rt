@@ -1,7 +1,7 @@
 // A fill log of one leaf, where counting blocks leaves no roster.
 ghost use Rattle.std.specs.Prelude.{IfOk, MatchOption};
 ghost use Rattle.refutation_terms.specs.BlocksLeaf.{IsFirstBlocks, NoBlocksHold};
-ghost use Rattle.roster_filler.specs.Counted.{IsCountedFill};
+ghost use Rattle.refutation_log.specs.Filled.{IsCountedFill};
 
 use domain_store::first_blocks;
 use refutation_log::{FillLog, GivenCells, one_leaf_log};

@@ -3,9 +3,8 @@ ghost use Rattle.std.specs.Prelude.{◌≡◌, ◌≤◌, IfOk};
 ghost use Rattle.rwsp_terms.specs.declared.limits.TheConstants.{GREATEST_BUDGET};
 ghost use Rattle.domain_store.specs.Cycles.{AreShortRules};
 ghost use Rattle.refutation_log.specs.GivenCells.{AreGivenIn};
-ghost use Rattle.refutation_log.specs.Filled.{IsFilledWith};
-ghost use Rattle.roster_search.specs.Behind.{IsFoundBehind};
-ghost use Rattle.roster_filler.specs.Counted.{IsCountedFirst};
+ghost use Rattle.refutation_log.specs.Filled.{IsCountedFirst, IsFilledWith};
+ghost use Rattle.roster_filler.specs.Searched.{IsSearched};
 
 use crate::counted::counted_fill;
 use crate::guide::FillGuide;
@@ -20,8 +19,8 @@ use rwsp_terms::limits::GREATEST_BUDGET;
 use std::alloc::{AllocError, Global};
 
 /// A roster that meets every rule and holds the given cells, or a fill log of why there is none, within the budget,
-/// which needs each cell and each rule that it names; or one that has spent the budget. Blocks are counted first: where
-/// a leaf of blocks holds, it is the whole fill log, and names no cell. Then a roster is looked for, where the cells
+/// which needs each cell and each rule that it names; or a sharp one that has spent the budget and names all cells.
+/// Blocks are counted first: where a leaf of blocks holds, it is the whole fill log, and names no cell. Then a roster is looked for, where the cells
 /// alone refute nothing; and cases are distinguished behind the cells, by windows, days, words of two turns and
 /// weights.
 pub fn fill(
@@ -67,7 +66,7 @@ fn searched(
 ) -> Result<Filled, AllocError>
     requires budget { (1 ≤ budget) × (budget ≤ GREATEST_BUDGET) }
     requires given { AreGivenIn problem.now given.now }
-    ensures { IfOk result (IsFoundBehind problem.now given.now budget) }
+    ensures { IfOk result (IsSearched problem.now given.now budget) }
 {
     let layer = SteadyLayer::of(alloc, problem)?;
     let finder = RosterFinder::over(problem, &layer, Patience::Long);
@@ -86,7 +85,7 @@ fn search_with(
 ) -> Result<Filled, AllocError>
     requires budget { (1 ≤ budget) × (budget ≤ GREATEST_BUDGET) }
     requires given { AreGivenIn finder.now given.now }
-    ensures { IfOk result (IsFoundBehind finder.now given.now budget) }
+    ensures { IfOk result (IsSearched finder.now given.now budget) }
 {
     let automaton = Automaton::of_short_rules(alloc, finder.problem(), Told::DayOff)?;
     let found = search_cases(alloc, &automaton, finder, given, budget);
@@ -106,18 +105,13 @@ fn search_cases(
     requires same { finder.now ≡ automaton.now.problem }
     requires budget { (1 ≤ budget) × (budget ≤ GREATEST_BUDGET) }
     requires given { AreGivenIn automaton.now.problem given.now }
-    ensures { IfOk result (IsFoundBehind automaton.now.problem given.now budget) }
+    ensures { IfOk result (IsSearched automaton.now.problem given.now budget) }
 {
+    let problem = automaton.problem();
+    problem.prove_limits();
     let mut reasons = reasons_behind(alloc, automaton, given)?;
     let mut guide = FillGuide::new(alloc, automaton, finder, given);
-    let found = search_given(
-        alloc,
-        automaton.problem(),
-        given,
-        budget,
-        &mut reasons,
-        &mut guide,
-    );
+    let found = search_given(alloc, problem, given, budget, &mut reasons, &mut guide);
     drop(guide);
     drop(reasons);
     found

@@ -1,5 +1,5 @@
 -- What is found where blocks are counted.
-use Rattle.std.proofs.Common.{◌≡◌, ℕ, ◌<◌, [], ◌∷◌, Bool, true, false, Option, Some, None, refl, sym, ◌∙◌, subst}
+use Rattle.std.proofs.Common.{◌≡◌, ℕ, ◌<◌, [], ◌∷◌, Bool, true, false, Option, Some, None, refl, sym, ◌∙◌, subst, inl, inr}
 use Rattle.std.specs.Prelude.{◌↔◌, IsTrue, MatchOption, Result, Ok, Err, IfOk}
 use Rattle.std.specs.declared.alloc.AllocError.{AllocError}
 use Rattle.rwsp_terms.specs.declared.data.Symbol.{Symbol}
@@ -29,9 +29,9 @@ use Rattle.refutation_log.specs.OneLeaf.{ClosesAll}
 use Rattle.propagators.specs.Days.{IsDaySpent}
 use Rattle.roster_search.proofs.Reaching.{unweighed_leaf}
 use Rattle.roster_search.specs.Founds.{IsFound}
-use Rattle.roster_planner.specs.CaseReasons.{AreCaseReasons, WeighNoWords}
+use Rattle.roster_planner.specs.CaseReasons.{AreCaseReasons, ArePlain}
 use Rattle.roster_planner.specs.Counted.{IsCountedProof, IsPlainLeaf, IsPlainLook}
-use Rattle.roster_planner.proofs.OneLeaves.{closed_at_top}
+use Rattle.roster_planner.proofs.Unweighed.{plain_unweighed}
 
 -- a look at windows and days
 
@@ -41,15 +41,15 @@ no_plain P leaves S plain quiet = (
   λ h. quiet (Closing (Day h.0 h.1 h.2), plain.days S h.0 h.1 h.2 h.3, h.4),
 )
 
-plain_look : (P : Instance) (leaves : Store → Line → Type 0) (spent : ℕ → Symbol → Type 0) (S : Store) (look : Look) → HasPlainLeaves P leaves → WeighNoWords leaves → IsLook P (leaves S) spent S look → IsPlainLook P S look
-plain_look P leaves spent S Quiet plain light h = no_plain P leaves S plain h.0
-plain_look P leaves spent S (Closed line) plain light h = (h.1, light S line h.0)
-plain_look P leaves spent S (Cut p x line) plain light h = no_plain P leaves S plain h.0
+plain_look : (P : Instance) (leaves : Store → Line → Type 0) (spent : ℕ → Symbol → Type 0) (S : Store) (look : Look) → HasPlainLeaves P leaves → ArePlain leaves → IsLook P (leaves S) spent S look → IsPlainLook P S look
+plain_look P leaves spent S Quiet plain only h = no_plain P leaves S plain h.0
+plain_look P leaves spent S (Closed line) plain only h = (h.1, only S line h.0)
+plain_look P leaves spent S (Cut p x line) plain only h = no_plain P leaves S plain h.0
 
 -- what is said of each problem that is served is said of this one. Symbols are spent for days alone
-pub if_plain_look : (P : Instance) (serves : Instance → Type 0) (leaves : Store → Line → Type 0) (spent : Store → ℕ → Symbol → Type 0) (S : Store) (r : Result Look AllocError) → HasPlainLeaves P leaves → WeighNoWords leaves → ((T : Store) (p : ℕ) (x : Symbol) → spent T p x ↔ IsDaySpent P (has_domain T) p x) → serves P → IfOk r (λ look. (Q : Instance) → serves Q → IsLook Q (leaves S) (spent S) S look) → IfOk r (IsPlainLook P S)
-if_plain_look P serves leaves spent S (Ok look) plain light days served h = plain_look P leaves (spent S) S look plain light (h P served)
-if_plain_look P serves leaves spent S (Err e) plain light days served h = tt
+pub if_plain_look : (P : Instance) (serves : Instance → Type 0) (leaves : Store → Line → Type 0) (spent : Store → ℕ → Symbol → Type 0) (S : Store) (r : Result Look AllocError) → HasPlainLeaves P leaves → ArePlain leaves → ((T : Store) (p : ℕ) (x : Symbol) → spent T p x ↔ IsDaySpent P (has_domain T) p x) → serves P → IfOk r (λ look. (Q : Instance) → serves Q → IsLook Q (leaves S) (spent S) S look) → IfOk r (IsPlainLook P S)
+if_plain_look P serves leaves spent S (Ok look) plain only days served h = plain_look P leaves (spent S) S look plain only (h P served)
+if_plain_look P serves leaves spent S (Err e) plain only days served h = tt
 
 -- under equal domains the same leaves hold
 same_plain : (P : Instance) (D E : Domains) (leaf : Leaf) → 0 < cells P → AreSame P D E → IsPlainLeaf P D leaf → IsPlainLeaf P E leaf
@@ -73,7 +73,7 @@ leaf_at_start P S o (Some leaf) some same h = same_plain P (has_domain S) (openi
 
 -- the tree of a log of such a leaf is no leaf of blocks
 not_blocks : (P : Instance) (D : Domains) (leaf : Leaf) (x : Symbol) → leaf ≡ Blocks x → IsPlainLeaf P D leaf → ⊥
-not_blocks P D leaf x is h = let fits : IsPlainLeaf P D (Blocks x) = subst (IsPlainLeaf P D) is h in absurd (cc fits.0.fits.0)
+not_blocks P D leaf x is h = let plain : IsPlainLeaf P D (Blocks x) = subst (IsPlainLeaf P D) is h in absurd plain.1
 
 only_one : (a b : Leaf) → Closing a ∷ [] ≡ Closing b ∷ [] → a ≡ b
 only_one a b e = cc e
@@ -83,24 +83,22 @@ plain_counts P D leaf g none lines plain =
     let no_tree : IsBlocksTree P g → ⊥ = λ h. not_blocks P D leaf h.0 (only_one leaf (Blocks h.0) (sym lines ∙ h.2)) plain in
     record {
       may_count = (λ counts. let no : IsTrue false = subst IsTrue none counts in absurd (cc no), λ h. absurd (no_tree h));
-      no_plain = λ h. absurd (no_tree h);
-      no_blocks = λ h. absurd (closed_at_top g (leaf, lines) h);
+      counted_first = inr (inr (Closing leaf, plain.1, lines));
     }
 
 pub blocks_count : (P : Instance) (o : Opening) (x : Symbol) (g : Log) → g.opening ≡ o → g.counts ≡ true → g.lines ≡ Closing (Blocks x) ∷ [] → IsFirstBlocks P x → NoPlainLeafHolds P (opening P o) → IsCountingLog P g
 blocks_count P o x g opened counts lines first none = record {
   may_count = (λ h. (x, first, lines), λ h. counts);
-  no_plain = λ h. subst (λ t. NoPlainLeafHolds P (opening P t)) (sym opened) none;
-  no_blocks = λ h. absurd (closed_at_top g (Blocks x, lines) h);
+  counted_first = inr (inl ((x, first, lines), subst (λ t. NoPlainLeafHolds P (opening P t)) (sym opened) none));
 }
 
 -- such a leaf fits every log, and closes all cases where it holds before the first line
 pub plain_fits : (P : Instance) (o : Opening) (goal : Option ℕ) (leaf : Leaf) → IsPlainLeaf P (opening P o) leaf → LeafFits P goal false leaf
-plain_fits P o goal leaf h = (unweighed_leaf P goal (opening P o) (Closing leaf) h.0 h.1).fits
+plain_fits P o goal leaf h = (unweighed_leaf P goal (opening P o) (Closing leaf) h.0 (plain_unweighed (Closing leaf) h.1)).fits
 
 pub plain_closes : (P : Instance) (o : Opening) (goal : Option ℕ) (leaf : Leaf) → GoalFits P o goal → IsAllowed P o → IsPlainLeaf P (opening P o) leaf → ClosesAll P o goal leaf
 plain_closes P o goal leaf fits allowed h =
-    let any = unweighed_leaf P goal (opening P o) (Closing leaf) h.0 h.1 in
+    let any = unweighed_leaf P goal (opening P o) (Closing leaf) h.0 (plain_unweighed (Closing leaf) h.1) in
     record { goal_fits = fits; allowed = allowed; short = any.short; holds = any.holds }
 
 -- so does the first leaf of blocks
@@ -145,8 +143,7 @@ search_counts : (P : Instance) (counts : Bool) (g : Log) → (IsTrue counts → 
 search_counts P false g none uncounts = uncounts
 search_counts P true g none uncounts = record {
   may_count = (λ may. let never : IsTrue false = subst IsTrue uncounts may in absurd (cc never), λ h. absurd (none refl h.0 h.1.symbol h.1.holds));
-  no_plain = λ h. absurd (none refl h.0 h.1.symbol h.1.holds);
-  no_blocks = λ h. none refl;
+  counted_first = inl (none refl);
 }
 
 pub if_found_counts : (P : Instance) (counts : Bool) (r : Result Found AllocError) → (IsTrue counts → NoBlocksHold P) → IfOk r (IsCounted P false) → IfOk r (IsCounted P counts)

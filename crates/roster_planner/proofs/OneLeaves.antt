@@ -11,7 +11,7 @@ use Rattle.refutation_terms.specs.declared.lines.Opening.{Opening}
 use Rattle.refutation_terms.specs.Log.{Log, Passes, NamesOnlyCited, is_worked, size}
 use Rattle.refutation_terms.specs.Sharp.{IsFirstTurn, IsSharp, IsUnclosed}
 use Rattle.refutation_log.specs.declared.found.Found.TheVariants.{NoRoster}
-use Rattle.refutation_log.specs.Planned.{IsPlanned, IsUnclosedAtTop}
+use Rattle.refutation_log.specs.Planned.{IsPlanned}
 use Rattle.refutation_log.specs.FreeSharp.{IsFreeSharp}
 use Rattle.refutation_log.specs.Bests.{IsFreeProof}
 use Rattle.roster_planner.specs.Counted.{IsOneLeaf, IsCountedProof}
@@ -24,8 +24,8 @@ only_line leaf (suc k) line at = absurd (cc at)
 is_the_leaf : (g : Log) (one : IsOneLeaf g) (k : ℕ) (line : Line) → slice_get g.lines k ≡ Some line → Closing one.0 ≡ line
 is_the_leaf g one k line at = only_line one.0 k line (subst (λ (lines : List Line). slice_get lines k ≡ Some line) one.1 at)
 
-pub closed_at_top : (g : Log) → IsOneLeaf g → IsUnclosedAtTop g → ⊥
-closed_at_top g one h = subst IsUnclosed (sym (is_the_leaf g one 0 h.0 h.1)) h.2
+closed_at_top : (g : Log) (line : Line) → IsOneLeaf g → slice_get g.lines 0 ≡ Some line → IsUnclosed line → ⊥
+closed_at_top g line one at unclosed = subst IsUnclosed (sym (is_the_leaf g one 0 line at)) unclosed
 
 no_split : (g : Log) → IsOneLeaf g → (k p : ℕ) (x : Symbol) → slice_get g.lines k ≡ Some (Split p x) → ⊥
 no_split g one k p x at = let same = is_the_leaf g one k (Split p x) at in absurd (cc same)
@@ -40,7 +40,7 @@ one_is_sharp P g one first =
       short = short.0;
       all_short = short.1;
       splits = λ k p x at. absurd (no_split g one k p x at);
-      top = λ line at undecided. absurd (closed_at_top g one (line, at, undecided));
+      top = λ line at undecided. absurd (closed_at_top g line one at undecided);
       turn = first;
     }
 
@@ -52,7 +52,7 @@ one_is_free_sharp P goal g one cited =
       short = short.0;
       all_short = short.1;
       splits = λ k p x at. absurd (no_split g one k p x at);
-      top = λ line at undecided. absurd (closed_at_top g one (line, at, undecided));
+      top = λ line at undecided. absurd (closed_at_top g line one at undecided);
     }
 
 -- a log of one leaf that passes with this goal is a proof within every budget

@@ -5,6 +5,7 @@ use Rattle.rwsp_terms.specs.Instance.{Instance}
 use Rattle.refutation_terms.specs.declared.lines.Line.{Line}
 use Rattle.domain_store.specs.Store.{Store, has_domain}
 use Rattle.domain_store.specs.Looks.{HasPlainLeaves, IsUnweighed}
+use Rattle.refutation_log.specs.Planned.{IsPlain}
 use Rattle.propagators.specs.Days.{IsDaySpent}
 use Rattle.domain_store.specs.Cycles.{AreShortRules, IsCycleLeaf, IsCycleSpent}
 
@@ -19,6 +20,10 @@ pub record AreCaseReasons (P : Instance) (leaves : Store → Line → Type 0) (s
   pub cycle : (S : Store) (line : Line) → IsCycleLeaf P line → leaves S line
   pub taken : (S : Store) (p : ℕ) (x : Symbol)
       → spent S p x ↔ (IsDaySpent P (has_domain S) p x ⊎ IsCycleSpent P (has_domain S) p x)
+
+-- each leaf is a window leaf or a day leaf
+abbrev pub ArePlain : (Store → Line → Type 0) → Type 0
+ArePlain leaves = (S : Store) (line : Line) → leaves S line → IsPlain line
 
 -- no leaf weighs words
 abbrev pub WeighNoWords : (Store → Line → Type 0) → Type 0

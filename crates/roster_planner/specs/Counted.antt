@@ -9,10 +9,9 @@ use Rattle.refutation_terms.specs.Word.{Domains}
 use Rattle.refutation_terms.specs.Log.{Log, Passes, NamesOnlyCited}
 use Rattle.domain_store.specs.Store.{Store, has_domain}
 use Rattle.domain_store.specs.Leaves.{IsHoldingLeaf}
-use Rattle.domain_store.specs.Looks.{IsUnweighed}
 use Rattle.domain_store.specs.declared.look.Look.{Look}
 use Rattle.domain_store.specs.declared.look.Look.TheVariants.{Closed}
-use Rattle.refutation_log.specs.Planned.{IsCountedLog, NoPlainLeafHolds}
+use Rattle.refutation_log.specs.Planned.{IsCountedLog, IsPlain, NoPlainLeafHolds}
 
 -- the tree of the log is one leaf
 abbrev pub IsOneLeaf : Log → Type 0
@@ -28,11 +27,11 @@ pub record IsCountedProof (P : Instance) (o : Opening) (goal : Option ℕ) (g : 
   pub one_leaf : IsOneLeaf g
   pub counted : IsCountedLog P true g
 
--- a leaf that holds and weighs no words
+-- a window leaf or a day leaf that holds
 abbrev pub IsPlainLeaf : Instance → Domains → Leaf → Type 0
-IsPlainLeaf P D leaf = IsHoldingLeaf P None D (Closing leaf) × IsUnweighed (Closing leaf)
+IsPlainLeaf P D leaf = IsHoldingLeaf P None D (Closing leaf) × IsPlain (Closing leaf)
 
 -- so is the line that is seen; where none is, no window leaf and no day leaf holds
 abbrev pub IsPlainLook : Instance → Store → Look → Type 0
-IsPlainLook P S (Closed line) = IsHoldingLeaf P None (has_domain S) line × IsUnweighed line
+IsPlainLook P S (Closed line) = IsHoldingLeaf P None (has_domain S) line × IsPlain line
 IsPlainLook P S look = NoPlainLeafHolds P (has_domain S)

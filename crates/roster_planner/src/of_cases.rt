@@ -5,7 +5,7 @@ ghost use Rattle.domain_store.specs.Store.{BelongsTo, Store, has_domain};
 ghost use Rattle.domain_store.specs.Cycles.{AreShortRules};
 ghost use Rattle.domain_store.specs.Looks.{HasPlainLeaves};
 ghost use Rattle.propagators.specs.Days.{IsDaySpent};
-ghost use Rattle.roster_planner.specs.CaseReasons.{AreCaseReasons, WeighNoWords};
+ghost use Rattle.roster_planner.specs.CaseReasons.{AreCaseReasons, ArePlain, WeighNoWords};
 
 use clean_words::Automaton;
 use domain_store::{Domains, Pair, Propagator};
@@ -47,7 +47,7 @@ pub fn plain_reasons<'a>(
     ensures serves { IfOk result (λ r. ⟦<PlainReasons<'a> as Propagator>⟧.serves r problem.now) }
     ensures tracks { IfOk result (λ r. ⟦<PlainReasons<'a> as Propagator>⟧.tracks r doms.now) }
     ensures leaves { IfOk result (λ r. HasPlainLeaves problem.now (⟦<PlainReasons<'a> as Propagator>⟧.leaves r)) }
-    ensures unweighed { IfOk result (λ r. WeighNoWords (⟦<PlainReasons<'a> as Propagator>⟧.leaves r)) }
+    ensures only { IfOk result (λ r. ArePlain (⟦<PlainReasons<'a> as Propagator>⟧.leaves r)) }
     ensures spent { IfOk result (λ r. (S : Store) (p : ℕ) (x : Symbol)
         → ⟦<PlainReasons<'a> as Propagator>⟧.spent r S p x ↔ IsDaySpent problem.now (has_domain S) p x) }
 {

@@ -19,9 +19,9 @@ use Rattle.refutation_terms.specs.declared.lines.Opening.{Opening}
 use Rattle.refutation_terms.specs.declared.lines.Opening.TheVariants.{Full}
 use Rattle.refutation_terms.specs.Word.{AreSame, full}
 use Rattle.refutation_terms.specs.Tree.{IsTree, after_trees, lines_leave, domains_at}
-use Rattle.refutation_terms.specs.Log.{Log, LineFits, Holds, Cites, OpeningCites, OpeningFits, GoalFits, ListsShortOnly, size, is_worked}
+use Rattle.refutation_terms.specs.Log.{Log, LineFits, Holds, Cites, NamesOnlyCited, OpeningCites, OpeningFits, GoalFits, ListsShortOnly, size, is_worked}
 use Rattle.refutation_terms.proofs.Trees.{part_is_not_whole}
-use Rattle.refutation_terms.proofs.TreeDomains.{got_right}
+use Rattle.refutation_terms.proofs.TreeDomains.{got_left, got_right}
 use Rattle.refutation_terms.proofs.Tests.{left_of, right_of}
 use Rattle.domain_store.specs.Store.{has_domain}
 use Rattle.domain_store.specs.States.{IsStateOf, open_trees}
@@ -33,9 +33,9 @@ use Rattle.refutation_log.proofs.GivenDomains.{given_is_behind, lines_are_behind
 use Rattle.refutation_log.proofs.CellSplits.{splits_hold}
 use Rattle.roster_search.specs.declared.aim.Aim.{Aim}
 use Rattle.roster_search.specs.declared.progress.Progress.{Progress}
-use Rattle.roster_search.specs.Behind.{IsBehind, HasRoomBehind, IsFoundBehind}
+use Rattle.roster_search.specs.Behind.{IsBehind, HasRoomBehind, IsEndedBehind}
 use Rattle.roster_search.specs.Guides.{IsMetRoster}
-use Rattle.roster_search.specs.Written.{IsProgress, IsUnderWay, Stands}
+use Rattle.roster_search.specs.Written.{IsProgress, IsUnderWay, IsCitedIn, Stands}
 use Rattle.roster_search.proofs.Cited.{no_names}
 use Rattle.roster_search.proofs.Growing.{got_in}
 use Rattle.roster_search.proofs.Logs.{AreOpen, are_rules, each_in, open_rest, rest_ends}
@@ -90,19 +90,32 @@ fits_counting P line h = h
 abbrev pub EndsOwn : Instance → List GivenCell → Progress → List Line → Type 0
 EndsOwn P given s own = (given_splits given ++ own ≡ s.lines.items) × AreGivenIn P given × (s.aim.opening ≡ Full) × (s.aim.goal ≡ None) × IsStrictlyIncreasing s.named
 
+-- the line at a place behind the splits on the cells
+pub own_there : (given : List GivenCell) (s : Progress) (own : List Line) → given_splits given ++ own ≡ s.lines.items → (k : ℕ) (line : Line) → slice_get own k ≡ Some line → slice_get s.lines.items (length given + k) ≡ Some line
+own_there given s own whole k line at =
+    let count : length (given_splits given) ≡ length given = length-map given (λ c. Split c.p c.x) in
+    ap (λ ls. slice_get ls (length given + k)) (sym whole) ∙ ap (λ n. slice_get (given_splits given ++ own) (n + k)) (sym count) ∙ got_right (given_splits given) own k line at
+
+-- the domains there are those behind the cells
+pub own_domains : (P : Instance) (given : List GivenCell) (own rest : List Line) (k : ℕ) → IsTree (own ++ rest) → k < length own → domains_at P Full (given_splits given ++ own) (length given + k) ≡ given_domains_at P given (own ++ rest) k
+own_domains P given own rest k tree lt =
+    let whole : length (own ++ rest) ≡ length own + length rest = length-append own rest in
+    let inside : k < length (own ++ rest) = omega (arith, lt, whole) in
+    let part : after_trees 1 (take k (own ++ rest)) ≡ None =
+    ap (λ ls. after_trees 1 (take k ls)) (sym tree.1) ∙ part_is_not_whole tree.0 0 k (subst (λ ls. k < length ls) (sym tree.1) inside) in
+    let front : take k (own ++ rest) ≡ take k own = take-append-le k own rest (omega (arith, lt)) in
+    given_is_behind P given own k (ap (after_trees 1) (sym front) ∙ part) ∙ ap (λ ls. λ p z. (full P p z && cells_leave given p z) && lines_leave ls p z) (sym front)
+
 own_stands : (P : Instance) (given : List GivenCell) (s : Progress) (own : List Line) → IsProgress P s → EndsOwn P given s own → (k : ℕ) (line : Line) → slice_get own k ≡ Some line → Stands P None (domains_at P Full (given_splits given ++ own) (length given + k)) line
 own_stands P given s own w e k line at =
-    let count : length (given_splits given) ≡ length given = length-map given (λ c. Split c.p c.x) in
-    let there : slice_get s.lines.items (length given + k) ≡ Some line = ap (λ ls. slice_get ls (length given + k)) (sym e.0) ∙ ap (λ n. slice_get (given_splits given ++ own) (n + k)) (sym count) ∙ got_right (given_splits given) own k line at in
+    let there : slice_get s.lines.items (length given + k) ≡ Some line = own_there given s own e.0 k line at in
     subst (λ ls. Stands P None (domains_at P Full ls (length given + k)) line) (sym e.0)
     (subst (λ g. Stands P g (domains_at P Full s.lines.items (length given + k)) line) e.3
     (subst (λ o. Stands P s.aim.goal (domains_at P o s.lines.items (length given + k)) line) e.2 (w.stand (length given + k) line there)))
 
 own_cited : (P : Instance) (given : List GivenCell) (s : Progress) (own : List Line) → IsProgress P s → EndsOwn P given s own → (k : ℕ) (line : Line) → slice_get own k ≡ Some line → (r : Rule) → Cites P line r → Names P s.named r
 own_cited P given s own w e k line at r cites =
-    let count : length (given_splits given) ≡ length given = length-map given (λ c. Split c.p c.x) in
-    let there : slice_get s.lines.items (length given + k) ≡ Some line = ap (λ ls. slice_get ls (length given + k)) (sym e.0) ∙ ap (λ n. slice_get (given_splits given ++ own) (n + k)) (sym count) ∙ got_right (given_splits given) own k line at in
-    (w.cited r).1 (inr (length given + k, line, there, cites))
+    (w.cited r).1 (inr (length given + k, line, own_there given s own e.0 k line at, cites))
 
 is_fill_of : (P : Instance) (given : List GivenCell) (s : Progress) (own rest : List Line) → IsProgress P s → EndsOwn P given s own → AreOpen rest → IsFillOf P (own_fill given s (own ++ rest))
 is_fill_of P given s own rest w e opened = record {
@@ -127,14 +140,7 @@ is_fill_of P given s own rest w e opened = record {
 own_holds : (P : Instance) (given : List GivenCell) (s : Progress) (own rest : List Line) → IsProgress P s → EndsOwn P given s own → IsTree (own ++ rest) → (k : ℕ) (line : Line) → k < length own → slice_get (own ++ rest) k ≡ Some line → HoldsGivenAt P (own_fill given s (own ++ rest)) k line
 own_holds P given s own rest w e tree k line lt at = elim (got_in own rest k line at) as (λ o. HoldsGivenAt P (own_fill given s (own ++ rest)) k line) [
   | inl h ↦
-      let whole : length (own ++ rest) ≡ length own + length rest = length-append own rest in
-      let inside : k < length (own ++ rest) = omega (arith, lt, whole) in
-      let part : after_trees 1 (take k (own ++ rest)) ≡ None =
-      ap (λ ls. after_trees 1 (take k ls)) (sym tree.1) ∙ part_is_not_whole tree.0 0 k (subst (λ ls. k < length ls) (sym tree.1) inside) in
-      let front : take k (own ++ rest) ≡ take k own = take-append-le k own rest (omega (arith, lt)) in
-      let same : domains_at P Full (given_splits given ++ own) (length given + k) ≡ given_domains_at P given (own ++ rest) k =
-      given_is_behind P given own k (ap (after_trees 1) (sym front) ∙ part) ∙ ap (λ ls. λ p z. (full P p z && cells_leave given p z) && lines_leave ls p z) (sym front) in
-      subst (λ D. Holds P None D line) same (own_stands P given s own w e k line h.1).holds
+      subst (λ D. Holds P None D line) (own_domains P given own rest k tree lt) (own_stands P given s own w e k line h.1).holds
   | inr h ↦ absurd (omega (arith, lt, h.1))
 ]
 
@@ -164,6 +170,32 @@ none = []
 
 none_open : AreOpen none
 none_open m line e = absurd (cc)
+
+-- the splits on the cells
+
+is_split : (given : List GivenCell) (k : ℕ) (line : Line) → slice_get (given_splits given) k ≡ Some line → (c : GivenCell) × (i : ℕ) × (i < length given) × (get_or given i c ≡ c) × (line ≡ Split c.p c.x)
+is_split [] k line e = absurd (cc)
+is_split (c ∷ given) zero line e = (c, 0, omega arith, refl, cc)
+is_split (c ∷ given) (suc k) line e = let h = is_split given k line e in (h.0, suc h.1, omega (arith, h.2), h.3, h.4)
+
+split_fits : (P : Instance) (given : List GivenCell) → AreGivenIn P given → (k : ℕ) (line : Line) → slice_get (given_splits given) k ≡ Some line → LineFits P None false line × ListsShortOnly P line × ((r : Rule) → Cites P line r → ⊥)
+split_fits P given are k line e =
+    let h = is_split given k line e in
+    let fits : (h.0.p < cells P) × IsSymbol P h.0.x = subst (λ (c : GivenCell). (c.p < cells P) × IsSymbol P c.x) h.3 (are.1 h.1 h.0 h.2) in
+    subst (λ l. LineFits P None false l × ListsShortOnly P l × ((r : Rule) → Cites P l r → ⊥)) (sym h.4) (fits, tt, λ r none. none)
+
+-- a rule that is named is cited by a line behind the splits, which rest on none
+cited_behind : (P : Instance) (given : List GivenCell) (s : Progress) (own : List Line) (r : Rule) → EndsOwn P given s own → IsCitedIn P s.aim.opening s.lines.items r → (k : ℕ) × (line : Line) × (slice_get own k ≡ Some line) × Cites P line r
+cited_behind P given s own r e (inl turn) = absurd (subst (λ o. OpeningCites o r) e.2 turn)
+cited_behind P given s own r e (inr at) = elim (got_in (given_splits given) own at.0 at.1 (ap (λ ls. slice_get ls at.0) e.0 ∙ at.2)) [
+  | inl front ↦ absurd ((split_fits P given e.1 at.0 at.1 front.1).2 r at.3)
+  | inr behind ↦ (behind.0, at.1, behind.2, at.3)
+]
+
+own_names : (P : Instance) (given : List GivenCell) (s : Progress) (own rest : List Line) (f : FillLog) → IsProgress P s → EndsOwn P given s own → IsEndOf given s (own ++ rest) f → NamesOnlyCited P f.log
+own_names P given s own rest f w e ended = subst (λ g. NamesOnlyCited P g.log) (is_own given s (own ++ rest) f ended) (λ r named.
+    let at = cited_behind P given s own r e ((w.cited r).0 named) in
+    inr (at.0, at.1, got_left own rest at.0 at.1 at.2, at.3))
 
 -- a whole tree passes
 pub fill_passes : (P : Instance) (given : List GivenCell) (s : Progress) (own : List Line) (f : FillLog) → IsProgress P s → EndsOwn P given s own → IsTree own → IsEndOf given s own f → FillPasses P f
@@ -228,7 +260,7 @@ ends_own P given s h = (sym h.behind.lines, h.behind.are_given, h.no_turn, h.no_
 own_end : (P : Instance) (given : List GivenCell) (s : Progress) (n : ℕ) (f : FillLog) (h : IsStopped P given s) → IsEndOf given s (drop (length given) s.lines.items ++ replicate n Unfinished) f → IsEndOf given s (h.behind.own ++ replicate n Unfinished) f
 own_end P given s n f h e = subst (λ own. IsEndOf given s (own ++ replicate n Unfinished) f) (own_lines P given s h.behind) e
 
-pub end_whole : (P : Instance) (given : List GivenCell) (s : Progress) (n : ℕ) (f : FillLog) → IsStopped P given s → n ≡ open_trees s.walk - length given → n ≡ 0 → IsEndOf given s (drop (length given) s.lines.items ++ replicate n Unfinished) f → IsFoundBehind P given (s.aim.budget - length given) (NoRoster f)
+pub end_whole : (P : Instance) (given : List GivenCell) (s : Progress) (n : ℕ) (f : FillLog) → IsStopped P given s → n ≡ open_trees s.walk - length given → n ≡ 0 → IsEndOf given s (drop (length given) s.lines.items ++ replicate n Unfinished) f → IsEndedBehind P given (s.aim.budget - length given) s.lines.items (NoRoster f)
 end_whole P given s n f h count none_open ended =
     let own : List Line = h.behind.own in
     let whole : own ++ replicate n Unfinished ≡ own = ap (λ m. own ++ replicate m Unfinished) none_open ∙ append-nil own in
@@ -238,7 +270,7 @@ end_whole P given s n f h count none_open ended =
     let long : length f.log.lines ≡ length own = ap length end.lines_same in
     (fill_passes P given s own f h.written (ends_own P given s h) tree end, omega (arith, worked, long, own_count P given s h.behind, h.few), end.given_same)
 
-pub end_spent : (P : Instance) (given : List GivenCell) (s : Progress) (n : ℕ) (f : FillLog) → IsStopped P given s → n ≡ open_trees s.walk - length given → 1 ≤ n → IsEndOf given s (drop (length given) s.lines.items ++ replicate n Unfinished) f → IsFoundBehind P given (s.aim.budget - length given) (Undecided f)
+pub end_spent : (P : Instance) (given : List GivenCell) (s : Progress) (n : ℕ) (f : FillLog) → IsStopped P given s → n ≡ open_trees s.walk - length given → 1 ≤ n → IsEndOf given s (drop (length given) s.lines.items ++ replicate n Unfinished) f → IsEndedBehind P given (s.aim.budget - length given) s.lines.items (Undecided f)
 end_spent P given s n f h count some ended =
     let own : List Line = h.behind.own in
     let tree : IsTree (own ++ replicate n Unfinished) = subst (λ o. IsTree (o ++ replicate n Unfinished)) (own_lines P given s h.behind) (own_tree P given s n h.behind count) in
@@ -246,8 +278,12 @@ end_spent P given s n f h count some ended =
       | inl less ↦ absurd (h.stopped (omega (arith, some, count), less))
       | inr more ↦ more
     ] in
-    let long : length own ≡ s.aim.budget - length given = omega (arith, own_count P given s h.behind, h.few, all) in
-    (fill_spent P given s own n (s.aim.budget - length given) f h.written (ends_own P given s h) tree long some (own_end P given s n f h ended), ended.given_same)
+    let long : length own ≡ s.aim.budget - length given = omega (arith, own_count P given s h.behind, h.few, all) in (
+      fill_spent P given s own n (s.aim.budget - length given) f h.written (ends_own P given s h) tree long some (own_end P given s n f h ended),
+      ended.given_same,
+      own_names P given s own (replicate n Unfinished) f h.written (ends_own P given s h) (own_end P given s n f h ended),
+      (n, ended.lines_same),
+    )
 
 -- ascending positions of the problem are at most as many as its cells
 
@@ -279,17 +315,6 @@ pub record IsBegunBehind (P : Instance) (given : List GivenCell) (s : Progress) 
   pub no_names : s.named ≡ []
   pub state : IsStateOf P Full (given_splits given) s.walk
   pub trees : open_trees s.walk ≡ length given + 1
-
-is_split : (given : List GivenCell) (k : ℕ) (line : Line) → slice_get (given_splits given) k ≡ Some line → (c : GivenCell) × (i : ℕ) × (i < length given) × (get_or given i c ≡ c) × (line ≡ Split c.p c.x)
-is_split [] k line e = absurd (cc)
-is_split (c ∷ given) zero line e = (c, 0, omega arith, refl, cc)
-is_split (c ∷ given) (suc k) line e = let h = is_split given k line e in (h.0, suc h.1, omega (arith, h.2), h.3, h.4)
-
-split_fits : (P : Instance) (given : List GivenCell) → AreGivenIn P given → (k : ℕ) (line : Line) → slice_get (given_splits given) k ≡ Some line → LineFits P None false line × ListsShortOnly P line × ((r : Rule) → Cites P line r → ⊥)
-split_fits P given are k line e =
-    let h = is_split given k line e in
-    let fits : (h.0.p < cells P) × IsSymbol P h.0.x = subst (λ (c : GivenCell). (c.p < cells P) × IsSymbol P c.x) h.3 (are.1 h.1 h.0 h.2) in
-    subst (λ l. LineFits P None false l × ListsShortOnly P l × ((r : Rule) → Cites P l r → ⊥)) (sym h.4) (fits, tt, λ r none. none)
 
 pub begins_written : (P : Instance) (given : List GivenCell) (s : Progress) → IsBegunBehind P given s → IsProgress P s
 begins_written P given s h =

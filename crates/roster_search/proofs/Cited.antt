@@ -73,7 +73,7 @@ written_next P a b line w n =
     let all : List Line = a.lines.items ++ line ∷ [] in
     let long : length b.lines.items ≡ length all = ap length n.lines in
     let IsStateFor : Aim → List Line → Type 0 = λ m ls. IsStateOf P m.opening ls b.walk in
-    let StandFor : Aim → List Line → Type 0 = λ m ls. EachAt (Stands P m.goal) P m.opening ls in
+    let StandFor : Aim → List Line → Type 0 = λ m ls. EachAt (λ k. Stands P m.goal) P m.opening ls in
     let IsCitedFor : Aim → List Line → Type 0 = λ m ls. (r : Rule) → Names P b.named r ↔ IsCitedIn P m.opening ls r in
     let cited : (r : Rule) → Names P b.named r ↔ IsCitedIn P a.aim.opening all r = λ r. (
       λ named. more_cited P a.aim.opening a.lines.items line r (elim ((n.named r).0 named) as (λ (h : Names P a.named r ⊎ Cites P line r). IsCitedIn P a.aim.opening a.lines.items r ⊎ Cites P line r) [ inl old ↦ inl ((w.cited r).0 old) | inr new ↦ inr new ]),
@@ -83,7 +83,7 @@ written_next P a b line w n =
       state = subst (λ m. IsStateFor m b.lines.items) (sym n.aim) (subst (IsStateFor a.aim) (sym n.lines) n.state);
       opening_fits = subst (λ (m : Aim). OpeningFits P m.opening) (sym n.aim) w.opening_fits;
       goal_fits = subst (λ (m : Aim). GoalFits P m.opening m.goal) (sym n.aim) w.goal_fits;
-      stand = subst (λ m. StandFor m b.lines.items) (sym n.aim) (subst (StandFor a.aim) (sym n.lines) (one_more (Stands P a.aim.goal) P a.aim.opening a.lines.items line w.stand n.stands));
+      stand = subst (λ m. StandFor m b.lines.items) (sym n.aim) (subst (StandFor a.aim) (sym n.lines) (one_more (λ k. Stands P a.aim.goal) P a.aim.opening a.lines.items line w.stand n.stands));
       cited = subst (λ m. IsCitedFor m b.lines.items) (sym n.aim) (subst (IsCitedFor a.aim) (sym n.lines) cited);
       numbers = n.numbers;
       few_open = let few = w.few_open in let more = n.opened in let one : length all ≡ length a.lines.items + 1 = length_one a.lines.items line in omega arith;

@@ -9,7 +9,7 @@ use Rattle.roster_search.specs.declared.progress.Progress.{Progress}
 use Rattle.roster_search.specs.Founds.{IsForced, AreForced, FewHoldsAtNoSplit, IsFound, HasSpentBudget}
 use Rattle.roster_search.specs.Written.{IsProgress, IsUnderWay, IsLater, IsEnded}
 use Rattle.roster_search.proofs.Volume.{spent_budgets_small}
-use Rattle.roster_search.proofs.Forced.{Leaves, Spent, NotFew, none_said, rest_said}
+use Rattle.roster_search.proofs.Forced.{Leaves, Spent, NotFew, none_said, from_first, rest_said}
 
 -- before the first line
 pub begins_under_way : (P : Instance) (s : Progress) → IsProgress P s → s.lines.items ≡ [] → IsUnderWay P s
@@ -21,8 +21,13 @@ IsBegun P leaves spent a s = (a.lines.items ≡ []) × IsLater P leaves spent a 
 
 pub found_by : (P : Instance) (leaves : Leaves) (spent : Spent) (a s : Progress) (found : Found) → IsBegun P leaves spent a s → IsEnded P s.aim s.lines.items found → IsFound P s.aim.opening s.aim.goal s.aim.budget leaves spent found
 found_by P leaves spent a s found begun ended =
-    by_kind found (begun.1.forced (none_said (IsForced P leaves spent) P a.aim.opening a.lines.items begun.0)) (begun.1.no_few (none_said (NotFew P a.aim.goal) P a.aim.opening a.lines.items begun.0)) ended
+    by_kind found
+    (from_first (IsForced P leaves spent) P s.aim.opening s.lines.items (length a.lines.items) none (begun.1.forced (length a.lines.items) (none_said (IsForced P leaves spent) P a.aim.opening a.lines.items)))
+    (from_first (NotFew P s.aim.goal) P s.aim.opening s.lines.items (length a.lines.items) none (begun.1.no_few (length a.lines.items) (none_said (NotFew P a.aim.goal) P a.aim.opening a.lines.items))) ended
   where
+    none : length a.lines.items ≡ 0
+    none = ap length begun.0
+
     by_kind : (found : Found) → AreForced P leaves spent s.aim.opening s.lines.items → FewHoldsAtNoSplit P s.aim.goal s.aim.opening s.lines.items → IsEnded P s.aim s.lines.items found → IsFound P s.aim.opening s.aim.goal s.aim.budget leaves spent found
     by_kind (Roster r) forced no_few e = absurd e
     by_kind (NoRoster g) forced no_few e = (

@@ -87,28 +87,28 @@ got_one line other zero e = (refl, cc)
 got_one line other (suc m) e = absurd (cc)
 
 -- a fact of each line, under the domains at it
-abbrev pub EachAt : (Domains → Line → Type 0) → Instance → Opening → List Line → Type 0
-EachAt Q P start ls = (k : ℕ) (line : Line) → slice_get ls k ≡ Some line → Q (domains_at P start ls k) line
+abbrev pub EachAt : (ℕ → Domains → Line → Type 0) → Instance → Opening → List Line → Type 0
+EachAt Q P start ls = (k : ℕ) (line : Line) → slice_get ls k ≡ Some line → Q k (domains_at P start ls k) line
 
-pub one_more : (Q : Domains → Line → Type 0) (P : Instance) (start : Opening) (ls : List Line) (line : Line) → EachAt Q P start ls → Q (domains_at P start ls (length ls)) line → EachAt Q P start (ls ++ line ∷ [])
+pub one_more : (Q : ℕ → Domains → Line → Type 0) (P : Instance) (start : Opening) (ls : List Line) (line : Line) → EachAt Q P start ls → Q (length ls) (domains_at P start ls (length ls)) line → EachAt Q P start (ls ++ line ∷ [])
 one_more Q P start ls line each here k other e = elim (got_in ls (line ∷ []) k other e) [
   | inl h ↦
       let le : k ≤ length ls = omega (arith, h.0) in
-      subst (λ D. Q D other) (sym (domains_before P start ls (line ∷ []) k le)) (each k other h.1)
+      subst (λ D. Q k D other) (sym (domains_before P start ls (line ∷ []) k le)) (each k other h.1)
   | inr h ↦
       let one = got_one line other h.0 h.2 in
       let at : length ls ≡ k = omega (arith, h.1, one.0) in
-      subst (λ i. Q (domains_at P start (ls ++ line ∷ []) i) other) at
-      (subst (λ D. Q D other) (sym (domains_before P start ls (line ∷ []) (length ls) (omega arith)))
-      (subst (Q (domains_at P start ls (length ls))) (sym one.1) here))
+      subst (λ i. Q i (domains_at P start (ls ++ line ∷ []) i) other) at
+      (subst (λ D. Q (length ls) D other) (sym (domains_before P start ls (line ∷ []) (length ls) (omega arith)))
+      (subst (Q (length ls) (domains_at P start ls (length ls))) (sym one.1) here))
 ]
 
 -- a fact of splits stays when a split is written, maybe with the leaf of its first side
-pub split_more : (Q : Domains → Line → Type 0) (P : Instance) (start : Opening) (ls added : List Line) (p : ℕ) (x : Symbol) → EachAt Q P start ls → Q (domains_at P start ls (length ls)) (Split p x) → ((D : Domains) (leaf : Line) → IsLeaf leaf → Q D leaf) → IsSplitWithLeaf p x added → EachAt Q P start (ls ++ added)
+pub split_more : (Q : ℕ → Domains → Line → Type 0) (P : Instance) (start : Opening) (ls added : List Line) (p : ℕ) (x : Symbol) → EachAt Q P start ls → Q (length ls) (domains_at P start ls (length ls)) (Split p x) → ((k : ℕ) (D : Domains) (leaf : Line) → IsLeaf leaf → Q k D leaf) → IsSplitWithLeaf p x added → EachAt Q P start (ls ++ added)
 split_more Q P start ls added p x each here leaves (inl e) = subst (λ l. EachAt Q P start (ls ++ l)) (sym e) (one_more Q P start ls (Split p x) each here)
 split_more Q P start ls added p x each here leaves (inr h) =
     let leaf : Line = h.0 in
     let both : EachAt Q P start ((ls ++ Split p x ∷ []) ++ leaf ∷ []) =
     one_more Q P start (ls ++ Split p x ∷ []) leaf (one_more Q P start ls (Split p x) each here)
-    (leaves (domains_at P start (ls ++ Split p x ∷ []) (length (ls ++ Split p x ∷ []))) leaf h.1) in
+    (leaves (length (ls ++ Split p x ∷ [])) (domains_at P start (ls ++ Split p x ∷ []) (length (ls ++ Split p x ∷ []))) leaf h.1) in
     subst (EachAt Q P start) (append_assoc ls (Split p x ∷ []) (leaf ∷ []) ∙ ap (λ l. ls ++ l) (sym h.2)) both

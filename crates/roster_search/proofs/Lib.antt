@@ -10,3 +10,4 @@ pub mod Volume
 pub mod Reasons
 pub mod Behind
 pub mod BehindCells
+pub mod BehindSplits

@@ -2,7 +2,7 @@
 ghost use Rattle.std.specs.Prelude.{◌≡◌, ℕ, ◌+◌, ◌-◌, ◌<◌, ◌≤◌, ◌++◌, length, drop, replicate, true, false, None, IfOk};
 ghost use Rattle.refutation_terms.specs.declared.lines.Opening.TheVariants.{Full};
 ghost use Rattle.refutation_terms.specs.Tree.{IsTree};
-ghost use Rattle.roster_search.specs.Behind.{IsBehind, HasRoomBehind, IsFoundBehind};
+ghost use Rattle.roster_search.specs.Behind.{IsBehind, HasRoomBehind, IsEndedBehind};
 ghost use Rattle.refutation_terms.specs.declared.lines.Line.TheVariants.{Unfinished};
 ghost use Rattle.refutation_terms.specs.Log.{IsAllowed};
 ghost use Rattle.roster_search.specs.Written.{IsProgress, IsEnded};
@@ -58,7 +58,8 @@ pub fn end_behind(
     requires few { length progress.now.lines.items ≤ progress.now.aim.budget }
     requires budget { progress.now.aim.budget ≤ GREATEST_BUDGET + length given.now }
     requires spent { HasRoomBehind (length given.now) progress.now → ⊥ }
-    ensures { IfOk result (IsFoundBehind problem.now given.now (progress.now.aim.budget - length given.now)) }
+    ensures { IfOk result (IsEndedBehind problem.now given.now (progress.now.aim.budget - length given.now)
+        progress.now.lines.items) }
 {
     problem.prove_limits();
     progress.named.numbers();

@@ -76,7 +76,8 @@ pub fn search_given<A: Propagator, G: Guide>(
     requires serves { A.serves propagator.old problem.now }
     requires plain { HasPlainLeaves problem.now (A.leaves propagator.old) }
     requires guide { G.serves guide.old problem.now None }
-    ensures found { IfOk result (IsFoundBehind problem.now given.now budget) }
+    ensures found { IfOk result (IsFoundBehind problem.now given.now budget
+        (A.leaves propagator.old) (A.spent propagator.old)) }
     ensures same { IsSame A.serves A.leaves A.spent propagator.old propagator.new }
     ensures guide { (P : Instance) (g : Option ℕ) → G.serves guide.old P g ↔ G.serves guide.new P g }
 {

@@ -1,8 +1,8 @@
 -- A roster of an instance with one demand changed is one with that demand as it holds it.
 use Rattle.std.proofs.Common.{◌≡◌, ℕ, zero, suc, ◌+◌, ◌-◌, ◌<◌, ◌≤◌, List, [], ◌∷◌, length, get_or, refl, ap, sym, subst, ◌∙◌, arith, inl, inr, Some, ◌==◌}
-use Rattle.std.specs.Prelude.{slice_get, Option}
+use Rattle.std.specs.Prelude.{◌⊎◌, slice_get, Option}
 use Rattle.std.proofs.lemmas.Int.{ints}
-use Rattle.std.proofs.lemmas.Bool.{cases_Bool, eqb-true, eqb-false}
+use Rattle.std.proofs.lemmas.Bool.{cases_Bool, cases_lt, eqb-true, eqb-false}
 use Rattle.rwsp_terms.specs.declared.data.Bounds.{Bounds}
 use Rattle.rwsp_terms.specs.declared.data.Symbol.{Symbol}
 use Rattle.rwsp_terms.specs.declared.data.Rule.{Rule}
@@ -12,7 +12,7 @@ use Rattle.rwsp_terms.specs.Roster.{MeetsAll, MeetsDay, MeetsRule, IsRule, IsRos
 use Rattle.rwsp_model.specs.Validity.{KeepsLimits}
 use Rattle.ways_out.specs.declared.change.Change.{Change}
 use Rattle.ways_out.specs.declared.change.Change.TheVariants.{LongerBlocks, ShorterBlocks, LowerDemand, HigherDemand, DroppedPair, DroppedTriple}
-use Rattle.ways_out.specs.Loosened.{edited, raised, lowered, exactly, exact, loosened, most_steps, with_demand, IsChange}
+use Rattle.ways_out.specs.Loosened.{edited, raised, lowered, lowest, highest, exact, loosened, most_steps, with_demand, IsChange}
 use Rattle.ways_out.specs.Together.{IsOfDemand}
 use Rattle.ways_out.specs.Helping.{HasNone}
 use Rattle.ways_out.proofs.Edited.{length-edited, edited_same}
@@ -111,6 +111,9 @@ holds_number P (suc x) j a s limits some few day meets =
     let put = demand_put P (suc x) j a limits some few day in
     (subst (λ (r : Bounds). r.least ≤ weeks_with P s (suc x) j) put (omega (arith, ints, below)), subst (λ (r : Bounds). weeks_with P s (suc x) j ≤ r.greatest) put (omega (arith, ints, above)))
 
+abbrev IsWithin : Bounds → ℕ → Type 0
+IsWithin b k = (b.least ≤ k) × (k ≤ b.greatest)
+
 -- no roster with a demand unchanged
 none_at_first : (P : Instance) (x j : ℕ) (f : Bounds → Bounds) → KeepsLimits P → 0 < x → x ≤ shift_count P → IsDay P j → ((b : Bounds) → f b ≡ b) → HasNone P → HasNone (with_demand P x j f)
 none_at_first P x j f limits some few day same none = λ s meets.
@@ -129,40 +132,43 @@ none_with_none P (ShorterBlocks c) limits demand known none = absurd demand
 none_with_none P (DroppedPair k) limits demand known none = absurd demand
 none_with_none P (DroppedTriple k) limits demand known none = absurd demand
 
--- no roster with a range of a demand that one number joins, where there is none with either
-none_joined : (P : Instance) (x j v : ℕ) (a b : Bounds) → KeepsLimits P → 0 < x → x ≤ shift_count P → IsDay P j → ((k : ℕ) → a.least ≤ k → k ≤ a.greatest → (k ≡ v → ⊥) → (b.least ≤ k) × (k ≤ b.greatest)) → HasNone (with_demand P x j (λ _. b)) → HasNone (with_demand P x j (λ _. exactly v)) → HasNone (with_demand P x j (λ _. a))
-none_joined P x j v a b limits some few day splits none single = λ s meets.
+-- no roster with a range of a demand, where there is none with either of two that hold each number of it
+none_joined : (P : Instance) (x j : ℕ) (a b e : Bounds) → KeepsLimits P → 0 < x → x ≤ shift_count P → IsDay P j → ((k : ℕ) → a.least ≤ k → k ≤ a.greatest → IsWithin b k ⊎ IsWithin e k) → HasNone (with_demand P x j (λ _. b)) → HasNone (with_demand P x j (λ _. e)) → HasNone (with_demand P x j (λ _. a))
+none_joined P x j a b e limits some few day splits none single = λ s meets.
     let held = holds_number P x j a s limits some few day meets in
-    elim (cases_Bool (weeks_with P s x j == v)) [
-      | inl equal ↦ let same = eqb-true (weeks_with P s x j) v equal in
-          single s (moved P x j a (exactly v) limits some few day s meets (omega (arith, same)) (omega (arith, same)))
-      | inr unequal ↦ let in_b = splits (weeks_with P s x j) held.0 held.1 (eqb-false (weeks_with P s x j) v unequal) in
-          none s (moved P x j a b limits some few day s meets in_b.0 in_b.1)
+    elim (splits (weeks_with P s x j) held.0 held.1) [
+      | inl in_b ↦ none s (moved P x j a b limits some few day s meets in_b.0 in_b.1)
+      | inr in_e ↦ single s (moved P x j a e limits some few day s meets in_e.0 in_e.1)
     ]
+
+low_split : (d : Bounds) (n k : ℕ) → n + 1 ≤ d.least → (lowered (n + 1) d).least ≤ k → k ≤ d.greatest → IsWithin (lowered n d) k ⊎ IsWithin (lowest (lowered (n + 1) d)) k
+low_split d n k few low high = elim (cases_lt (d.least - (n + 1)) k) [
+  | inl above ↦ inl (omega (arith, few, above), high)
+  | inr here ↦ inr (low, omega (arith, low, here, high))
+]
+
+high_split : (d : Bounds) (n k : ℕ) → d.least ≤ k → k ≤ (raised (n + 1) d).greatest → IsWithin (raised n d) k ⊎ IsWithin (highest (raised (n + 1) d)) k
+high_split d n k low high = elim (cases_lt k (d.greatest + (n + 1))) [
+  | inl below ↦ inl (low, omega (arith, below))
+  | inr here ↦ inr (omega (arith, low, here, high), high)
+]
 
 pub none_further : (P : Instance) (change : Change) (n : ℕ) → KeepsLimits P → IsChange P change → n + 1 ≤ most_steps P change → HasNone (loosened P change n) → HasNone (exact P change (n + 1)) → HasNone (loosened P change (n + 1))
 none_further P (LowerDemand j x) n limits known few none single =
     let d = shift_demand P x.number j in
-    subst HasNone (sym (valued P x.number j (lowered (n + 1)) limits known.1.0 known.1.1 known.0))
-    (none_joined P x.number j (d.least - (n + 1)) (lowered (n + 1) d) (lowered n d) limits known.1.0 known.1.1 known.0
-    (λ k low high other. (omega (arith, few, low, other), high))
-    (subst HasNone (valued P x.number j (lowered n) limits known.1.0 known.1.1 known.0) none) single)
+    let put = λ (f : Bounds → Bounds). valued P x.number j f limits known.1.0 known.1.1 known.0 in
+    subst HasNone (sym (put (lowered (n + 1))))
+    (none_joined P x.number j (lowered (n + 1) d) (lowered n d) (lowest (lowered (n + 1) d)) limits known.1.0 known.1.1 known.0
+    (λ k low high. low_split d n k few low high)
+    (subst HasNone (put (lowered n)) none) (subst HasNone (put (λ b. lowest (lowered (n + 1) b))) single))
 none_further P (HigherDemand j x) n limits known few none single =
     let d = shift_demand P x.number j in
-    subst HasNone (sym (valued P x.number j (raised (n + 1)) limits known.1.0 known.1.1 known.0))
-    (none_joined P x.number j (d.greatest + (n + 1)) (raised (n + 1) d) (raised n d) limits known.1.0 known.1.1 known.0
-    (λ k low high other. (low, omega (arith, high, other)))
-    (subst HasNone (valued P x.number j (raised n) limits known.1.0 known.1.1 known.0) none) single)
+    let put = λ (f : Bounds → Bounds). valued P x.number j f limits known.1.0 known.1.1 known.0 in
+    subst HasNone (sym (put (raised (n + 1))))
+    (none_joined P x.number j (raised (n + 1) d) (raised n d) (highest (raised (n + 1) d)) limits known.1.0 known.1.1 known.0
+    (λ k low high. high_split d n k low high)
+    (subst HasNone (put (raised n)) none) (subst HasNone (put (λ b. highest (raised (n + 1) b))) single))
 none_further P (LongerBlocks c) n limits known few none single = single
 none_further P (ShorterBlocks c) n limits known few none single = single
 none_further P (DroppedPair k) n limits known few none single = single
 none_further P (DroppedTriple k) n limits known few none single = single
-
--- the shape of a roster at a number
-pub exact_shape : (P : Instance) (change : Change) (n : ℕ) (s : List Symbol) → IsOfDemand change → MeetsAll (exact P change n) s → IsRoster P s
-exact_shape P (LowerDemand j x) n s demand meets = record { long = meets.is_roster.long; symbols = meets.is_roster.symbols }
-exact_shape P (HigherDemand j x) n s demand meets = record { long = meets.is_roster.long; symbols = meets.is_roster.symbols }
-exact_shape P (LongerBlocks c) n s demand meets = absurd demand
-exact_shape P (ShorterBlocks c) n s demand meets = absurd demand
-exact_shape P (DroppedPair k) n s demand meets = absurd demand
-exact_shape P (DroppedTriple k) n s demand meets = absurd demand

@@ -1,5 +1,5 @@
 -- A roster of an instance is one of it loosened.
-use Rattle.std.proofs.Common.{◌≡◌, ℕ, zero, suc, ◌-◌, ◌<◌, ◌≤◌, List, [], ◌∷◌, get_or, refl, ap, sym, subst, ◌∙◌, arith}
+use Rattle.std.proofs.Common.{◌≡◌, ℕ, zero, suc, ◌+◌, ◌-◌, ◌<◌, ◌≤◌, List, [], ◌∷◌, get_or, refl, ap, sym, subst, ◌∙◌, arith}
 use Rattle.std.specs.Prelude.{◌≤ℤ◌, ℤ, slice_get, Option, Some, remove}
 use Rattle.std.proofs.lemmas.Int.{ints}
 use Rattle.rwsp_terms.specs.declared.data.Bounds.{Bounds}
@@ -14,7 +14,7 @@ use Rattle.rwsp_terms.specs.Roster.{MeetsAll, IsRoster}
 use Rattle.ways_out.specs.declared.change.Change.{Change}
 use Rattle.ways_out.specs.declared.change.Change.TheVariants.{LongerBlocks, ShorterBlocks, LowerDemand, HigherDemand, DroppedPair, DroppedTriple}
 use Rattle.clean_words.specs.Ends.{max_rule, min_rule}
-use Rattle.ways_out.specs.Loosened.{edited, raised, lowered, with_bounds, with_demand, loosened, changed_rule, IsChange}
+use Rattle.ways_out.specs.Loosened.{edited, raised, lowered, lowest, highest, exact, with_bounds, with_demand, loosened, changed_rule, IsChange}
 use Rattle.ways_out.specs.Laws.{RostersStay, RostersStayFurther, OtherRulesStay}
 use Rattle.ways_out.proofs.Edited.{length-edited, edited_same, edited_related, related_get, sum_edited}
 use Rattle.ways_out.proofs.Easier.{IsEasierBut, rule_kept, roster_kept, all_kept, shape_kept}
@@ -343,6 +343,19 @@ rosters_stay P change n s known meets = all_kept P (loosened P change n) s (easi
 
 pub rosters_stay_further : RostersStayFurther
 rosters_stay_further P change m n s known le meets = all_kept (loosened P change m) (loosened P change n) s (easier_further P change m n known le) meets
+
+-- a roster with a demand at one number is one with all that it may be
+pub exact_stays : (P : Instance) (change : Change) (n : ℕ) (s : List Symbol) → IsChange P change → MeetsAll (exact P change n) s → MeetsAll (loosened P change n) s
+exact_stays P (LowerDemand j x) n s known meets =
+    all_kept (exact P (LowerDemand j x) n) (loosened P (LowerDemand j x) n) s
+    (easier_demand P x.number j (λ b. lowest (lowered n b)) (lowered n) NoneSpared known.0.0 (λ kept b. (omega arith, le_same (b.least - n)))) meets
+exact_stays P (HigherDemand j x) n s known meets =
+    all_kept (exact P (HigherDemand j x) n) (loosened P (HigherDemand j x) n) s
+    (easier_demand P x.number j (λ b. highest (raised n b)) (raised n) NoneSpared known.0.0 (λ kept b. (le_same (b.greatest + n), omega arith))) meets
+exact_stays P (LongerBlocks c) n s known meets = meets
+exact_stays P (ShorterBlocks c) n s known meets = meets
+exact_stays P (DroppedPair k) n s known meets = meets
+exact_stays P (DroppedTriple k) n s known meets = meets
 
 pub other_rules_stay : OtherRulesStay
 other_rules_stay P change n r s known meets rule other = rule_kept (loosened P change n) P (λ q. q ≡ changed_rule change) (as_easy P change n known) s meets r other rule

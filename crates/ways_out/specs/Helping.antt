@@ -1,5 +1,5 @@
 -- Whether a problem has a roster once something is loosened.
-use Rattle.std.specs.Prelude.{◌≡◌, ℕ, ◌+◌, ◌<◌, ◌⊎◌, List, Bool, true, false}
+use Rattle.std.specs.Prelude.{◌≡◌, ℕ, ◌+◌, ◌^◌, ◌<◌, ◌⊎◌, List, Bool, true, false}
 use Rattle.rwsp_terms.specs.declared.data.Symbol.{Symbol}
 use Rattle.rwsp_terms.specs.Instance.{Instance}
 use Rattle.rwsp_terms.specs.Roster.{MeetsAll}
@@ -12,7 +12,8 @@ use Rattle.roster_planner.specs.declared.effort.Effort.{Effort}
 use Rattle.ways_out.specs.declared.change.Change.{Change}
 use Rattle.ways_out.specs.declared.change.Outcome.{Outcome}
 use Rattle.ways_out.specs.declared.change.Outcome.TheVariants.{Helps, Shut, Open}
-use Rattle.ways_out.specs.Loosened.{loosened, most_steps, IsStep}
+use Rattle.ways_out.specs.Loosened.{exact, loosened, most_steps, IsStep}
+use Rattle.ways_out.specs.Together.{IsOfDemand}
 
 -- some roster meets every rule
 abbrev pub HasRoster : Instance → Type 0
@@ -30,7 +31,7 @@ Refutes P named = (s : List Symbol) → Meets P named s → ⊥
 abbrev pub IsPlan : Instance → Effort → Found → Type 0
 IsPlan P effort found = IsPlanned P effort.budget found × IsCounted P effort.counts found
 
--- a plan of the instance with this effort has spent its budget
+-- a log of the instance, as a plan with this effort writes it, has spent the budget
 abbrev pub IsLeftOpen : Instance → Effort → Type 0
 IsLeftOpen P effort = (g : Log) × IsPlan P effort (Undecided g)
 
@@ -42,10 +43,14 @@ IsNearest P change n = (m : ℕ) → IsStep P change m → m < n → HasNone (lo
 abbrev pub IsUnfound : Instance → Effort → Type 0
 IsUnfound P effort = HasNone P ⊎ IsLeftOpen P effort
 
--- the plan with one step fewer has spent its budget, and with one step in all no roster was found
+-- of one step, two, four and so on, as far as these are fewer than so many, none was found to give a roster
+abbrev pub NoneFoundBelow : Instance → Effort → Change → ℕ → Type 0
+NoneFoundBelow P effort change n = (k : ℕ) → 2 ^ k < n → IsUnfound (loosened P change (2 ^ k)) effort
+
+-- the plan with one step fewer has spent its budget, and nor was a roster found with one step, two, four and so on
 abbrev pub IsNearerOpen : Instance → Effort → Change → ℕ → Type 0
 IsNearerOpen P effort change n =
-    IsUnfound (loosened P change 1) effort
+    NoneFoundBelow P effort change n
     × (m : ℕ) × IsStep P change m × (m + 1 ≡ n) × IsLeftOpen (loosened P change m) effort
 
 abbrev pub IsNearestIf : Bool → Instance → Effort → Change → ℕ → Type 0
@@ -62,11 +67,20 @@ pub record HelpsWith (P : Instance) (effort : Effort) (change : Change) (n : ℕ
 abbrev pub HelpsNever : Instance → Change → Type 0
 HelpsNever P change = (n : ℕ) → IsStep P change n → HasNone (loosened P change n)
 
--- the plan with all steps has spent its budget, and with one step no roster was found
+-- with so many steps of a demand's change there is no roster, and the plan of the next number alone has spent its
+-- budget
+pub record IsNextOpen (P : Instance) (effort : Effort) (change : Change) (n : ℕ) : Type 0 where
+  pub further : n < most_steps P change
+  pub none : HasNone (loosened P change n)
+  pub next : IsLeftOpen (exact P change (n + 1)) effort
+
+-- no plan that was made found a roster: that with all steps has spent its budget; with one step, two, four and so on
+-- there is none, or the plan has spent its budget; and so it is with one number of a demand after the other
 pub record IsOpen (P : Instance) (effort : Effort) (change : Change) : Type 0 where
   pub step : IsStep P change (most_steps P change)
   pub utmost : IsLeftOpen (loosened P change (most_steps P change)) effort
-  pub first : IsUnfound (loosened P change 1) effort
+  pub fewer : NoneFoundBelow P effort change (most_steps P change)
+  pub numbers : IsOfDemand change → (n : ℕ) × IsNextOpen P effort change n
 
 -- what an outcome says of a change
 abbrev pub IsOutcome : Instance → Effort → Change → Outcome → Type 0

@@ -1,5 +1,5 @@
 -- A problem with one thing loosened.
-use Rattle.std.specs.Prelude.{ℕ, zero, suc, ◌+◌, ◌-◌, ◌≤◌, max, List, [], ◌∷◌, length, remove}
+use Rattle.std.specs.Prelude.{ℕ, zero, suc, ◌+◌, ◌-◌, ◌≤◌, min, max, List, [], ◌∷◌, length, remove}
 use Rattle.rwsp_terms.specs.declared.limits.TheConstants.{GREATEST_SHORT_BOUND}
 use Rattle.rwsp_terms.specs.declared.data.Bounds.{Bounds}
 use Rattle.rwsp_terms.specs.declared.data.Class.{Class}
@@ -43,15 +43,19 @@ loosened P (HigherDemand j x) n = with_demand P x.number j (raised n)
 loosened P (DroppedPair k) n = record P { pairs = remove P.pairs k }
 loosened P (DroppedTriple k) n = record P { triples = remove P.triples k }
 
--- one number
-abbrev pub exactly : ℕ → Bounds
-exactly n = record { least = n; greatest = n }
+-- the least number of a demand alone, and the greatest alone. A demand that has none, since its least number is above
+-- its greatest, stays so
+abbrev pub lowest : Bounds → Bounds
+lowest b = record b { greatest = min b.least b.greatest }
 
--- the instance with the demand of a change at one number, so many steps from what it was. A change of anything else is
--- as above
+abbrev pub highest : Bounds → Bounds
+highest b = record b { least = max b.greatest b.least }
+
+-- the instance with so many steps of a change of a demand, at the last number that they let in, alone. A change of
+-- anything else is as above
 abbrev pub exact : Instance → Change → ℕ → Instance
-exact P (LowerDemand j x) n = with_demand P x.number j (λ _. exactly ((shift_demand P x.number j).least - n))
-exact P (HigherDemand j x) n = with_demand P x.number j (λ _. exactly ((shift_demand P x.number j).greatest + n))
+exact P (LowerDemand j x) n = with_demand P x.number j (λ b. lowest (lowered n b))
+exact P (HigherDemand j x) n = with_demand P x.number j (λ b. highest (raised n b))
 exact P change n = loosened P change n
 
 -- a change of something that the instance has

@@ -8,7 +8,7 @@ use Rattle.ways_out.specs.declared.plans.Verdict.TheVariants.{Enough, Refuted, O
 use Rattle.ways_out.specs.Loosened.{exact, loosened}
 use Rattle.ways_out.specs.declared.numbers.Numbers.{Numbers}
 use Rattle.ways_out.specs.declared.numbers.Numbers.TheVariants.{Decided, Shut}
-use Rattle.ways_out.specs.Helping.{HasRoster, HasNone, IsLeftOpen, IsOutcome}
+use Rattle.ways_out.specs.Helping.{HasRoster, HasNone, IsLeftOpen, IsNextOpen, IsOutcome}
 
 -- with these steps there is a roster, for which so many are enough, more than a number that is given; or there is none,
 -- or the plan has spent its budget
@@ -17,13 +17,15 @@ IsVerdict P effort change low steps (Enough n) = (low < n) × (n ≤ steps) × H
 IsVerdict P effort change low steps Refuted = HasNone (loosened P change steps)
 IsVerdict P effort change low steps Open = IsLeftOpen (loosened P change steps) effort
 
--- with these steps there is a roster; or with the demand at their last number there is none; or neither was found
-abbrev pub IsNumberVerdict : Instance → Change → ℕ → Verdict → Type 0
-IsNumberVerdict P change steps (Enough n) = (n ≡ steps) × HasRoster (loosened P change n)
-IsNumberVerdict P change steps Refuted = HasNone (exact P change steps)
-IsNumberVerdict P change steps Open = Unit {0}
+-- with these steps there is a roster; or with the demand at their last number alone there is none, or the plan of that
+-- has spent its budget
+abbrev pub IsNumberVerdict : Instance → Effort → Change → ℕ → Verdict → Type 0
+IsNumberVerdict P effort change steps (Enough n) = (n ≡ steps) × HasRoster (loosened P change n)
+IsNumberVerdict P effort change steps Refuted = HasNone (exact P change steps)
+IsNumberVerdict P effort change steps Open = IsLeftOpen (exact P change steps) effort
 
--- the outcome of the change, or with so many steps there is no roster
-abbrev pub SaysOfNumbers : Instance → Effort → Change → Numbers → Type 0
-SaysOfNumbers P effort change (Decided outcome) = IsOutcome P effort change outcome
-SaysOfNumbers P effort change (Shut n) = HasNone (loosened P change n)
+-- the outcome of the change; or with so many steps there is no roster, and a plan of the next number has spent its own
+-- effort
+abbrev pub SaysOfNumbers : Instance → (effort own : Effort) → Change → Numbers → Type 0
+SaysOfNumbers P effort own change (Decided outcome) = IsOutcome P effort change outcome
+SaysOfNumbers P effort own change (Shut n) = IsNextOpen P own change n

@@ -9,7 +9,6 @@ mod listed;
 mod loosening;
 mod nearest;
 mod numbers;
-mod parts;
 mod plans;
 mod print;
 mod shown;

@@ -1,13 +1,12 @@
 // A problem with one thing loosened.
-ghost use Rattle.std.specs.Prelude.{◌≡◌, ◌+◌, ◌<◌, ◌≤◌, IfOk, length, remove, set};
+ghost use Rattle.std.specs.Prelude.{◌≡◌, ◌+◌, ◌-◌, ◌<◌, ◌≤◌, IfOk, [], length, remove, set, slice_index_or};
 ghost use Rattle.rwsp_terms.specs.declared.limits.TheConstants.{GREATEST_BOUND, MOST_WEEKS};
 ghost use Rattle.rwsp_terms.specs.Instance.{IsShift, IsDay, IsClass};
 ghost use Rattle.rwsp_model.specs.Parts.{instance_of};
 ghost use Rattle.rwsp_model.specs.Validity.{AreSmall, IsSmallRange};
-ghost use Rattle.ways_out.specs.Loosened.{exact, loosened, most_steps, with_bounds, with_demand, IsChange, IsStep};
+ghost use Rattle.ways_out.specs.Loosened.{exact, highest, loosened, lowest, most_steps, with_bounds, with_demand, IsChange, IsStep};
 
 use crate::change::Change;
-use crate::parts::{demand_of, demand_ranges, parts_of};
 use rwsp_model::{Parts, Problem};
 use rwsp_terms::limits::{GREATEST_SHORT_BOUND, MOST_WEEKS};
 use rwsp_terms::{Bounds, Class, DemandRow, Symbol};
@@ -26,10 +25,10 @@ pub fn most_steps(problem: &Problem, change: Change) -> u32
             .max(GREATEST_SHORT_BOUND)
             .saturating_sub(problem.bounds(class).greatest),
         Change::ShorterBlocks(class) => problem.bounds(class).least.saturating_sub(1),
-        Change::LowerDemand { day, shift } => demand_of(problem, shift, day).least,
+        Change::LowerDemand { day, shift } => problem.demand(shift, day).least,
         Change::HigherDemand { day, shift } => problem
             .weeks()
-            .saturating_sub(demand_of(problem, shift, day).greatest),
+            .saturating_sub(problem.demand(shift, day).greatest),
         Change::DroppedPair(_) | Change::DroppedTriple(_) => 1,
     }
 }
@@ -47,20 +46,25 @@ fn set_bounds(parts: &mut Parts, class: Class, bounds: Bounds)
 }
 
 // The problem with these bounds for the blocks of a class.
-fn with_bounds(
-    alloc: Global,
-    problem: &Problem,
-    class: Class,
-    bounds: Bounds,
-) -> Result<Problem, AllocError>
+fn with_bounds(problem: &Problem, class: Class, bounds: Bounds) -> Result<Problem, AllocError>
     requires class { IsClass problem.now class }
     requires small { AreSmall bounds }
     ensures { IfOk result (λ P. P ≡ with_bounds problem.now class (λ _. bounds)) }
 {
     problem.prove_limits();
-    let mut parts = parts_of(alloc, problem)?;
+    let mut parts = problem.parts().copy()?;
     set_bounds(&mut parts, class, bounds);
     Ok(Problem::of_valid(parts))
+}
+
+// The demand of a shift on each day.
+fn demand_ranges(alloc: Global, problem: &Problem, shift: Symbol) -> Result<Vec<Bounds>, AllocError>
+    requires { IsShift problem.now shift }
+    ensures { IfOk result (λ ranges. ranges.items ≡ slice_index_or problem.now.demand (shift.number - 1) []) }
+{
+    problem.prove_limits();
+    let rows = &problem.parts().demand;
+    Vec::from_slice(alloc, rows[shift.number as usize - 1].ranges())
 }
 
 // Sets the demand of the shift at a place.
@@ -88,7 +92,7 @@ fn with_demand(
     problem.prove_limits();
     let mut ranges = demand_ranges(alloc, problem, shift)?;
     ranges[day as usize - 1] = demand;
-    let mut parts = parts_of(alloc, problem)?;
+    let mut parts = problem.parts().copy()?;
     set_demand(&mut parts, shift.number as usize - 1, ranges);
     Ok(Problem::of_valid(parts))
 }
@@ -136,7 +140,7 @@ pub fn loosen(
                 least,
                 greatest: greatest + steps,
             };
-            with_bounds(alloc, problem, class, bounds)
+            with_bounds(problem, class, bounds)
         }
         Change::ShorterBlocks(class) => {
             let Bounds { least, greatest } = problem.bounds(class);
@@ -144,10 +148,10 @@ pub fn loosen(
                 least: least - steps,
                 greatest,
             };
-            with_bounds(alloc, problem, class, bounds)
+            with_bounds(problem, class, bounds)
         }
         Change::LowerDemand { day, shift } => {
-            let Bounds { least, greatest } = demand_of(problem, shift, day);
+            let Bounds { least, greatest } = problem.demand(shift, day);
             let demand = Bounds {
                 least: least - steps,
                 greatest,
@@ -155,7 +159,7 @@ pub fn loosen(
             with_demand(alloc, problem, shift, day, demand)
         }
         Change::HigherDemand { day, shift } => {
-            let Bounds { least, greatest } = demand_of(problem, shift, day);
+            let Bounds { least, greatest } = problem.demand(shift, day);
             let demand = Bounds {
                 least,
                 greatest: greatest + steps,
@@ -167,8 +171,32 @@ pub fn loosen(
     }
 }
 
-/// The problem with the demand of a change at one number, so many steps from what it was. A change of anything else is
-/// made as by `loosen`.
+// The least number of a demand alone.
+fn lowest(demand: Bounds) -> Bounds
+    requires { IsSmallRange demand }
+    ensures value { result ≡ lowest demand }
+    ensures small { IsSmallRange result }
+{
+    Bounds {
+        least: demand.least,
+        greatest: demand.least.min(demand.greatest),
+    }
+}
+
+// The greatest number of a demand alone.
+fn highest(demand: Bounds) -> Bounds
+    requires { IsSmallRange demand }
+    ensures value { result ≡ highest demand }
+    ensures small { IsSmallRange result }
+{
+    Bounds {
+        least: demand.greatest.max(demand.least),
+        greatest: demand.greatest,
+    }
+}
+
+/// The problem with so many steps of a change of a demand, at the last number that they let in, alone. A change of
+/// anything else is made as by `loosen`.
 pub fn at_number(
     alloc: Global,
     problem: &Problem,
@@ -182,30 +210,20 @@ pub fn at_number(
     problem.prove_limits();
     match change {
         Change::LowerDemand { day, shift } => {
-            let number = demand_of(problem, shift, day).least - steps;
-            with_demand(
-                alloc,
-                problem,
-                shift,
-                day,
-                Bounds {
-                    least: number,
-                    greatest: number,
-                },
-            )
+            let Bounds { least, greatest } = problem.demand(shift, day);
+            let demand = Bounds {
+                least: least - steps,
+                greatest,
+            };
+            with_demand(alloc, problem, shift, day, lowest(demand))
         }
         Change::HigherDemand { day, shift } => {
-            let number = demand_of(problem, shift, day).greatest + steps;
-            with_demand(
-                alloc,
-                problem,
-                shift,
-                day,
-                Bounds {
-                    least: number,
-                    greatest: number,
-                },
-            )
+            let Bounds { least, greatest } = problem.demand(shift, day);
+            let demand = Bounds {
+                least,
+                greatest: greatest + steps,
+            };
+            with_demand(alloc, problem, shift, day, highest(demand))
         }
         Change::LongerBlocks(_)
         | Change::ShorterBlocks(_)

@@ -1,9 +1,10 @@
 // The nearest number of steps of a change that gives a problem a roster.
-ghost use Rattle.std.specs.Prelude.{◌≡◌, ◌<◌, ◌≤◌, IfOk, IfSome};
-ghost use Rattle.rwsp_terms.specs.declared.limits.TheConstants.{GREATEST_BUDGET};
+ghost use Rattle.std.specs.Prelude.{◌≡◌, ◌↔◌, ◌<◌, ◌≤◌, IsTrue, IfOk, IfSome};
+ghost use Rattle.rwsp_terms.specs.declared.limits.TheConstants.{GREATEST_BOUND, GREATEST_BUDGET};
 ghost use Rattle.ways_out.specs.Loosened.{loosened, most_steps, IsChange, IsStep};
-ghost use Rattle.ways_out.specs.Helping.{HasNone, HasRoster, IsLeftOpen, IsOutcome, IsUnfound};
-ghost use Rattle.ways_out.specs.Reached.{HasReached};
+ghost use Rattle.ways_out.specs.Helping.{HasNone, HasRoster, IsLeftOpen, IsNextOpen, IsOutcome};
+ghost use Rattle.ways_out.specs.Reached.{HasDoubled, NoneUpTo};
+ghost use Rattle.ways_out.specs.Together.{IsOfDemand};
 
 use crate::change::{Change, Outcome};
 use crate::loosening::most_steps;
@@ -22,27 +23,77 @@ pub struct Reached {
     pub tried: u32,
 }
 
-// The nearest number of steps with a roster, by halves of what is between what is reached and steps with one. With one
-// step none was found.
+/// What one step says, two, four and so on, below some steps.
+#[derive(Clone, Copy)]
+pub struct Doubled {
+    /// How far these have come.
+    pub reached: Reached,
+    /// The steps below which they were tried, or fewer that give a roster.
+    pub end: u32,
+}
+
+// What one step says, two, four and so on, below so many; up to `shut` it is known that they give no roster. The first
+// that gives one ends it. The plans grow with the logarithm of the steps.
+fn double<R: Threads + Sync, G: Gate>(
+    rt: &R,
+    alloc: Global,
+    asked: &Asked<'_, G>,
+    change: Change,
+    shut: u32,
+    below: u32,
+) -> Result<Doubled, AllocError>
+    requires change { IsChange asked.now.problem.now change }
+    requires budget { (1 ≤ asked.now.effort.budget) × (asked.now.effort.budget ≤ GREATEST_BUDGET) }
+    requires none { NoneUpTo asked.now.problem.now change shut }
+    requires order { shut < below }
+    requires steps { below ≤ most_steps asked.now.problem.now change }
+    requires few { below ≤ GREATEST_BOUND }
+    ensures doubled { IfOk result (HasDoubled asked.now.problem.now asked.now.effort change) }
+    ensures within { IfOk result (λ d. d.end ≤ below) }
+    ensures roster { IfOk result (λ d. d.end < below → HasRoster (loosened asked.now.problem.now change d.end)) }
+{
+    let mut reached = Reached { shut, tried: shut };
+    'doubling: loop {
+        let steps = (reached.tried + 1).next_power_of_two();
+        if steps >= below {
+            return Ok(Doubled {
+                reached,
+                end: below,
+            });
+        }
+        match judge(rt, alloc, asked, change, reached.tried, steps)? {
+            Verdict::Enough(fewer) => return Ok(Doubled {
+                reached,
+                end: fewer,
+            }),
+            Verdict::Refuted => reached = Reached {
+                shut: steps,
+                tried: steps,
+            },
+            Verdict::Open => reached = Reached {
+                shut: reached.shut,
+                tried: steps,
+            },
+        }
+    }
+}
+
+// The nearest number of steps with a roster, by halves of what is between what is reached and the end, which gives one.
 fn narrow<R: Threads + Sync, G: Gate>(
     rt: &R,
     alloc: Global,
     asked: &Asked<'_, G>,
     change: Change,
-    start: Reached,
-    found: u32,
+    start: Doubled,
 ) -> Result<Outcome, AllocError>
     requires change { IsChange asked.now.problem.now change }
     requires budget { (1 ≤ asked.now.effort.budget) × (asked.now.effort.budget ≤ GREATEST_BUDGET) }
-    requires reached { HasReached asked.now.problem.now asked.now.effort change start }
-    requires order { start.tried < found }
-    requires step { IsStep asked.now.problem.now change found }
-    requires found { HasRoster (loosened asked.now.problem.now change found) }
-    requires first { IsUnfound (loosened asked.now.problem.now change 1) asked.now.effort }
+    requires doubled { HasDoubled asked.now.problem.now asked.now.effort change start }
+    requires roster { HasRoster (loosened asked.now.problem.now change start.end) }
     ensures { IfOk result (IsOutcome asked.now.problem.now asked.now.effort change) }
 {
-    let mut reached = start;
-    let mut nearest = found;
+    let mut reached = start.reached;
+    let mut nearest = start.end;
     while reached.tried + 1 < nearest {
         let steps = reached.tried + (nearest - reached.tried) / 2;
         match judge(rt, alloc, asked, change, reached.tried, steps)? {
@@ -63,7 +114,8 @@ fn narrow<R: Threads + Sync, G: Gate>(
     })
 }
 
-// The outcome where so many steps give a roster: one step is planned, and then halves between it and them.
+// The outcome where so many steps give a roster: one step is planned, two, four and so on below them, and then halves
+// between the last that gave none and the first that gives one.
 fn nearest_of<R: Threads + Sync, G: Gate>(
     rt: &R,
     alloc: Global,
@@ -74,50 +126,49 @@ fn nearest_of<R: Threads + Sync, G: Gate>(
     requires change { IsChange asked.now.problem.now change }
     requires budget { (1 ≤ asked.now.effort.budget) × (asked.now.effort.budget ≤ GREATEST_BUDGET) }
     requires step { IsStep asked.now.problem.now change found }
-    requires found { HasRoster (loosened asked.now.problem.now change found) }
+    requires few { found ≤ GREATEST_BOUND }
+    requires roster { HasRoster (loosened asked.now.problem.now change found) }
     ensures { IfOk result (IsOutcome asked.now.problem.now asked.now.effort change) }
 {
-    if found == 1 {
-        return Ok(Outcome::Helps {
-            steps: 1,
-            is_nearest: true,
-        });
-    }
-    let reached = match judge(rt, alloc, asked, change, 0, 1)? {
-        Verdict::Enough(_) => return Ok(Outcome::Helps {
-            steps: 1,
-            is_nearest: true,
-        }),
-        Verdict::Refuted => Reached { shut: 1, tried: 1 },
-        Verdict::Open => Reached { shut: 0, tried: 1 },
-    };
-    narrow(rt, alloc, asked, change, reached, found)
+    let near = double(rt, alloc, asked, change, 0, found)?;
+    narrow(rt, alloc, asked, change, near)
 }
 
-/// The outcome where the plan with all steps is left open: a bound of many days is that of no short rule, and what is
-/// nearer may be easier to decide. So one step is planned.
-pub fn outcome_by_first<R: Threads + Sync, G: Gate>(
+/// The outcome where the plan with all steps is left open, and it is known of some that they give no roster: a bound
+/// of many days is that of no short rule, and what is nearer may be easier to decide. So one step is planned, two,
+/// four and so on.
+pub fn outcome_by_doubling<R: Threads + Sync, G: Gate>(
     rt: &R,
     alloc: Global,
     asked: &Asked<'_, G>,
     change: Change,
     most: u32,
+    shut: u32,
 ) -> Result<Outcome, AllocError>
     requires change { IsChange asked.now.problem.now change }
     requires budget { (1 ≤ asked.now.effort.budget) × (asked.now.effort.budget ≤ GREATEST_BUDGET) }
-    requires most { (0 < most) × (most ≡ most_steps asked.now.problem.now change) }
+    requires most { (shut < most) × (most ≡ most_steps asked.now.problem.now change) }
+    requires few { most ≤ GREATEST_BOUND }
     requires open { IsLeftOpen (loosened asked.now.problem.now change most) asked.now.effort }
+    requires none { NoneUpTo asked.now.problem.now change shut }
+    requires numbers { IsOfDemand change → IsNextOpen asked.now.problem.now asked.now.effort change shut }
     ensures { IfOk result (IsOutcome asked.now.problem.now asked.now.effort change) }
 {
-    if most == 1 {
-        return Ok(Outcome::Open);
+    let near = double(rt, alloc, asked, change, shut, most)?;
+    if near.end < most {
+        narrow(rt, alloc, asked, change, near)
+    } else {
+        Ok(Outcome::Open)
     }
-    match judge(rt, alloc, asked, change, 0, 1)? {
-        Verdict::Enough(_) => Ok(Outcome::Helps {
-            steps: 1,
-            is_nearest: true,
-        }),
-        Verdict::Refuted | Verdict::Open => Ok(Outcome::Open),
+}
+
+// Whether the change is one of a demand.
+fn is_of_demand(change: Change) -> bool
+    ensures { IsTrue result ↔ IsOfDemand change }
+{
+    match change {
+        Change::LowerDemand { .. } | Change::HigherDemand { .. } => true,
+        _ => false,
     }
 }
 
@@ -132,15 +183,15 @@ fn outcome_of_open<R: Threads + Sync, G: Gate>(
     requires change { IsChange asked.now.problem.now change }
     requires budget { (1 ≤ asked.now.effort.budget) × (asked.now.effort.budget ≤ GREATEST_BUDGET) }
     requires most { (0 < most) × (most ≡ most_steps asked.now.problem.now change) }
+    requires few { most ≤ GREATEST_BOUND }
     requires open { IsLeftOpen (loosened asked.now.problem.now change most) asked.now.effort }
     requires none { HasNone asked.now.problem.now }
     ensures { IfOk result (IsOutcome asked.now.problem.now asked.now.effort change) }
 {
-    match change {
-        Change::LowerDemand { .. } | Change::HigherDemand { .. } => {
-            outcome_by_numbers(rt, alloc, asked, change, most)
-        }
-        _ => outcome_by_first(rt, alloc, asked, change, most),
+    if is_of_demand(change) {
+        outcome_by_numbers(rt, alloc, asked, change, most)
+    } else {
+        outcome_by_doubling(rt, alloc, asked, change, most, 0)
     }
 }
 
@@ -166,10 +217,9 @@ fn soon_decided<R: Threads + Sync, G: Gate>(
     }
 }
 
-/// The outcome of a change. All steps are planned first: where they give no roster, none do, and one plan says so. Then
-/// one step is planned, and where there is a roster, the nearest number of steps is looked for by halves between. The
-/// plans grow with the logarithm of the steps that the first roster needs; where all steps are left open, each number
-/// of a demand is planned.
+/// The outcome of a change. All steps are planned first: where they give no roster, none do, and one plan says so.
+/// Where they are left open, each number of a demand is planned. Then come one step, two, four and so on, and where
+/// there is a roster, halves between: the plans grow with the logarithm of the steps.
 pub fn outcome_of<R: Threads + Sync, G: Gate>(
     rt: &R,
     alloc: Global,

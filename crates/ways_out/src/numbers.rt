@@ -1,15 +1,14 @@
 // Whether single numbers of a demand give a problem a roster.
 ghost use Rattle.std.specs.Prelude.{◌≡◌, ◌<◌, ◌≤◌, IfOk, IfSome};
-ghost use Rattle.rwsp_terms.specs.declared.limits.TheConstants.{GREATEST_BUDGET};
+ghost use Rattle.rwsp_terms.specs.declared.limits.TheConstants.{GREATEST_BOUND, GREATEST_BUDGET};
 ghost use Rattle.ways_out.specs.Loosened.{exact, loosened, most_steps, IsChange, IsStep};
 ghost use Rattle.ways_out.specs.Together.{IsOfDemand};
 ghost use Rattle.ways_out.specs.Helping.{HasNone, IsLeftOpen, IsOutcome, IsPlan};
 ghost use Rattle.ways_out.specs.Verdicts.{IsNumberVerdict, SaysOfNumbers};
 
 use crate::change::{Change, Outcome};
-use crate::enough::is_enough;
 use crate::loosening::at_number;
-use crate::nearest::outcome_by_first;
+use crate::nearest::outcome_by_doubling;
 use crate::plans::{Asked, Verdict, plan_within};
 use clean_words::Gate;
 use refutation_log::Found;
@@ -22,39 +21,30 @@ use std::thread::Threads;
 pub enum Numbers {
     /// Its outcome.
     Decided(Outcome),
-    /// There is no roster with so many steps, and one more is left open.
+    /// There is no roster with so many steps, and the plan of the next number alone has spent its budget.
     Shut(u32),
 }
 
-// What is found says of the problem with the demand at a number.
+// What is found says of the problem with the demand at a number alone. A roster of that is one of the loosened problem.
 fn number_verdict<G>(
-    alloc: Global,
     asked: &Asked<'_, G>,
     effort: Effort,
     change: Change,
     steps: u32,
     found: Found,
-) -> Result<Verdict, AllocError>
+) -> Verdict
     requires change { IsChange asked.now.problem.now change }
-    requires demand { IsOfDemand change }
-    requires step { IsStep asked.now.problem.now change steps }
     requires plan { IsPlan (exact asked.now.problem.now change steps) effort found }
-    ensures { IfOk result (IsNumberVerdict asked.now.problem.now change steps) }
+    ensures { IsNumberVerdict asked.now.problem.now effort change steps result }
 {
     match found {
-        Found::Roster(roster) => {
-            if is_enough(alloc, asked.problem, change, &roster, steps)? {
-                Ok(Verdict::Enough(steps))
-            } else {
-                Ok(Verdict::Open)
-            }
-        }
-        Found::NoRoster(_) => Ok(Verdict::Refuted),
-        Found::Undecided(_) => Ok(Verdict::Open),
+        Found::Roster(_) => Verdict::Enough(steps),
+        Found::NoRoster(_) => Verdict::Refuted,
+        Found::Undecided(_) => Verdict::Open,
     }
 }
 
-// What a plan says of the problem with the demand at a number.
+// What a plan says of the problem with the demand at a number alone.
 fn judge_number<R: Threads + Sync, G: Gate>(
     rt: &R,
     alloc: Global,
@@ -64,15 +54,14 @@ fn judge_number<R: Threads + Sync, G: Gate>(
     steps: u32,
 ) -> Result<Verdict, AllocError>
     requires change { IsChange asked.now.problem.now change }
-    requires demand { IsOfDemand change }
     requires step { IsStep asked.now.problem.now change steps }
     requires budget { (1 ≤ effort.budget) × (effort.budget ≤ GREATEST_BUDGET) }
-    ensures { IfOk result (IsNumberVerdict asked.now.problem.now change steps) }
+    ensures { IfOk result (IsNumberVerdict asked.now.problem.now effort change steps) }
 {
     let single = at_number(alloc, asked.problem, change, steps)?;
     let found = plan_within(rt, alloc, &single, effort, asked.gate);
     drop(single);
-    number_verdict(alloc, asked, effort, change, steps, found?)
+    Ok(number_verdict(asked, effort, change, steps, found?))
 }
 
 // What plans of one number after the other say: with no roster at a number and none with fewer steps, there is none with
@@ -90,7 +79,7 @@ fn numbers_of<R: Threads + Sync, G: Gate>(
     requires most { most ≡ most_steps asked.now.problem.now change }
     requires none { HasNone asked.now.problem.now }
     requires demand { IsOfDemand change }
-    ensures { IfOk result (SaysOfNumbers asked.now.problem.now asked.now.effort change) }
+    ensures { IfOk result (SaysOfNumbers asked.now.problem.now asked.now.effort effort change) }
 {
     asked.problem.prove_limits();
     let mut shut = 0;
@@ -135,8 +124,8 @@ pub fn outcome_by_few_lines<R: Threads + Sync, G: Gate>(
     }
 }
 
-/// The outcome of a change whose plan with all steps is left open, by plans of one number after the other. Where a
-/// number is left open too, the plan with one step may still decide.
+/// The outcome of a change of a demand whose plan with all steps is left open, by plans of one number after the other.
+/// Where a number is left open too, ranges from it on may still be decided.
 pub fn outcome_by_numbers<R: Threads + Sync, G: Gate>(
     rt: &R,
     alloc: Global,
@@ -147,6 +136,7 @@ pub fn outcome_by_numbers<R: Threads + Sync, G: Gate>(
     requires change { IsChange asked.now.problem.now change }
     requires budget { (1 ≤ asked.now.effort.budget) × (asked.now.effort.budget ≤ GREATEST_BUDGET) }
     requires most { (0 < most) × (most ≡ most_steps asked.now.problem.now change) }
+    requires few { most ≤ GREATEST_BOUND }
     requires open { IsLeftOpen (loosened asked.now.problem.now change most) asked.now.effort }
     requires none { HasNone asked.now.problem.now }
     requires demand { IsOfDemand change }
@@ -154,29 +144,6 @@ pub fn outcome_by_numbers<R: Threads + Sync, G: Gate>(
 {
     match numbers_of(rt, alloc, asked, asked.effort, change, most)? {
         Numbers::Decided(outcome) => Ok(outcome),
-        Numbers::Shut(shut) => open_behind(rt, alloc, asked, change, most, shut),
-    }
-}
-
-// The outcome where there is no roster with so many steps, and one more is left open.
-fn open_behind<R: Threads + Sync, G: Gate>(
-    rt: &R,
-    alloc: Global,
-    asked: &Asked<'_, G>,
-    change: Change,
-    most: u32,
-    shut: u32,
-) -> Result<Outcome, AllocError>
-    requires change { IsChange asked.now.problem.now change }
-    requires budget { (1 ≤ asked.now.effort.budget) × (asked.now.effort.budget ≤ GREATEST_BUDGET) }
-    requires most { (0 < most) × (most ≡ most_steps asked.now.problem.now change) }
-    requires open { IsLeftOpen (loosened asked.now.problem.now change most) asked.now.effort }
-    requires none { HasNone (loosened asked.now.problem.now change shut) }
-    ensures { IfOk result (IsOutcome asked.now.problem.now asked.now.effort change) }
-{
-    if shut == 0 {
-        outcome_by_first(rt, alloc, asked, change, most)
-    } else {
-        Ok(Outcome::Open)
+        Numbers::Shut(shut) => outcome_by_doubling(rt, alloc, asked, change, most, shut),
     }
 }

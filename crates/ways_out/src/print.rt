@@ -12,7 +12,6 @@ ghost use Rattle.ways_out.specs.Texts.{number_change, range_text, demand_change,
 use crate::answer::WaysOut;
 use crate::change::{Change, Outcome};
 use crate::listed::{changed_rule, changes_in};
-use crate::parts::demand_of;
 use refutation_log::print_log;
 use roster_print::{print_roster, put_rule};
 use rwsp_model::{Problem, Roster, number_of};
@@ -81,7 +80,7 @@ fn put_change(
             put_number_change(out, least, least - steps)
         }
         Change::LowerDemand { day, shift } => {
-            let from = demand_of(problem, shift, day);
+            let from = problem.demand(shift, day);
             let to = Bounds {
                 least: from.least - steps,
                 greatest: from.greatest,
@@ -89,7 +88,7 @@ fn put_change(
             put_demand_change(out, problem.name(shift), from, to)
         }
         Change::HigherDemand { day, shift } => {
-            let from = demand_of(problem, shift, day);
+            let from = problem.demand(shift, day);
             let to = Bounds {
                 least: from.least,
                 greatest: from.greatest + steps,

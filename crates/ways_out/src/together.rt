@@ -7,7 +7,6 @@ ghost use Rattle.ways_out.specs.Together.{IsOfDemand};
 use crate::change::Change;
 use crate::listed::changed_rule;
 use crate::loosening::{loosen, most_steps};
-use crate::parts::parts_of;
 use crate::plans::{Asked, plan_within};
 use clean_words::Gate;
 use refutation_log::{Found, Log, print_log};
@@ -133,9 +132,8 @@ fn loosened_together<G>(
 ) -> Result<Problem, AllocError>
     requires { All (IsChange grouping.now.asked.now.problem.now) grouping.now.changes.now }
 {
-    grouping.asked.problem.prove_limits();
-    let parts = parts_of(alloc, grouping.asked.problem)?;
-    let mut all = Problem::of_valid(parts);
+    let own = grouping.asked.problem.copy()?;
+    let mut all = own;
     for place in 0..grouping.changes.len() {
         let change = grouping.changes[place];
         let steps = most_steps(&all, change);

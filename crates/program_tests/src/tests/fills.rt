@@ -1,5 +1,5 @@
 // Given cells and fill logs, to the byte where no search chooses. The cases are worked by hand.
-use super::{TWO_DAYS, USAGE, line_ends, ran};
+use super::{NINE_WEEKS, TWO_DAYS, USAGE, line_ends, ran};
 use std::alloc::Global;
 use std::test::Fail;
 use std::thread::Threads;
@@ -15,6 +15,16 @@ const TWO_WEEKS: &str = "2\n2\n1\n1 1\nD 360 480 1 2\n1 2\n1 2\n0 0\n";
 
 // Day 1 is off, and rule 7 wants somebody there.
 const DAY_OFF: &str = "rwsp-fill 1\nrules 7\ncells 1 1 -\nday 1 - over\n";
+
+// Week 1 may not have N and the day after it D (rule 11), whatever the other weeks have.
+const N_BEFORE_D: &str =
+    "? ? ? ? N D ?\n- - D D A A N\n? ? ? ? ? ? ?\n? ? ? ? ? ? ?\n? ? ? ? ? ? ?\n? ? ? ? ? ? ?\n? ? ? ? ? ? ?\n? ? ? ? ? ? ?\n? ? ? ? ? ? -\n";
+
+// Work in twos, both A or both B, with a day off between: once A and three times B are demanded. There is no roster,
+// since A comes twice or not at all; but with the two given days off no first line says so, as they part the cells
+// into such twos.
+const AS_AND_BS_IN_TWOS: &str =
+    "1\n6\n2\n1\n3\nA 360 480 1 2\nB 840 480 1 2\n1 1\n2 2\n2 0\nA B\nB A\n";
 
 const FORM: &str = "log refused: form line 3\n";
 
@@ -209,6 +219,11 @@ fn cells_that_cannot_stand(rt: HostRuntime) -> Result<(), Fail> {
             "D ?\nD -\n",
             "accepted: rules 7 cells 1 1 D 2 1 D\n",
         ),
+        (
+            NINE_WEEKS,
+            N_BEFORE_D,
+            "accepted: rules 11 cells 1 5 N 1 6 D\n",
+        ),
     ];
     for (problem, cells, answer) in cases {
         assert!(rt;
@@ -216,5 +231,20 @@ fn cells_that_cannot_stand(rt: HostRuntime) -> Result<(), Fail> {
             "{cells}"
         );
     }
+    Ok(())
+}
+
+// A fill log that has spent its budget names all given cells, whatever its lines need.
+#[test]
+fn a_spent_budget_of_fill(rt: HostRuntime) -> Result<(), Fail> {
+    let files = [("F", AS_AND_BS_IN_TWOS), ("G", "-\n?\n?\n-\n?\n?\n")];
+    let found = ran(&rt, rt.alloc(), "fill F G --budget 1", &files, 0, 0)?;
+    assert_eq!(rt; found.status, 4);
+    let log = found.text.as_str();
+    assert!(rt;
+        log.starts_with("rwsp-fill 1\nrules\ncells 1 1 - 4 1 -\nsplit ")
+            && log.ends_with("\nopen\n"),
+        "{log}"
+    );
     Ok(())
 }

@@ -16,7 +16,16 @@ const TWICE: &str = "1\n3\n1\n2\nD 360 480 1 2\n1 1\n1 2\n2 0\nD D\nD D\n";
 // two days would be work without an end.
 const AT_THE_LIMITS: &str = "1\n2\n1\n2\nD 360 480 1 10000\n1 1\n1 10000\n1 0\nD D\n";
 
-const CASES: [(&str, &str, u8, &str); 7] = [
+// Ten weeks of fourteen work, and the four others are one block, as two have six days at least. So the ten are one block
+// too; that nine in a row aren't enough takes more than a line. Three single weeks of work leave three blocks of days
+// off, which have eleven days; four leave twelve days at least, and more leave more.
+const TEN_OF_FOURTEEN: &str = "1\n14\n1\n10\nD 360 480 1 1\n3 4\n1 30\n0 0\n";
+
+// In blocks of two, five weeks never work, however long the blocks of days off may be; but if they may be long, it takes
+// more than a line. All else leaves too few days off, or too many.
+const FIVE_BY_PAIRS: &str = "1\n14\n1\n5\nD 360 480 2 2\n2 2\n1 30\n0 0\n";
+
+const CASES: [(&str, &str, u8, &str); 9] = [
     (
         "mend F",
         CLINIC,
@@ -32,6 +41,13 @@ const CASES: [(&str, &str, u8, &str); 7] = [
         0,
         "rule 8 day 1 D: 2 to 1..2\nno other\n",
     ),
+    (
+        "mend F --budget 1",
+        TEN_OF_FOURTEEN,
+        0,
+        "rule 1 max shift D: 1 to 10 or nearer\nrule 7 day 1 D: 10 to 3..10\nno other\n",
+    ),
+    ("mend F --budget 1", FIVE_BY_PAIRS, 4, "open 1\n"),
     ("mend F --budget 0", CLINIC, 2, USAGE),
     ("mend F G", CLINIC, 2, USAGE),
 ];

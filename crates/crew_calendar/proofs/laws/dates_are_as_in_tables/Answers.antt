@@ -1,5 +1,5 @@
-use Rattle.crew_calendar.proofs.OneDate.{as_in_table}
+use Rattle.crew_calendar.proofs.ReadDates.{as_in_tables}
 use Rattle.crew_calendar.proofs.laws.dates_are_as_in_tables.Goals as goal
 
 pub returns : goal.returns
-returns c = as_in_table
+returns c = as_in_tables

@@ -2,7 +2,7 @@
 use Rattle.std.proofs.Common.{subst}
 use Rattle.std.specs.Prelude.{MatchOption}
 use Rattle.refutation_terms.specs.BlocksLeaf.{NoBlocksHold}
-use Rattle.roster_filler.specs.Counted.{IsCountedFill}
+use Rattle.refutation_log.specs.Filled.{IsCountedFill}
 use Rattle.roster_filler.proofs.Counting.{counted_proof}
 use Rattle.roster_filler.proofs.filling.fill.Goals as goal
 

@@ -6,7 +6,7 @@ use Rattle.refutation_terms.specs.declared.lines.Leaf.TheVariants.{Window, Day}
 use Rattle.refutation_terms.specs.Log.{LineFits}
 use Rattle.domain_store.specs.Store.{has_domain}
 use Rattle.propagators.specs.Days.{IsDaySpent}
-use Rattle.roster_planner.proofs.Unweighed.{cycle_unweighed}
+use Rattle.roster_planner.proofs.Unweighed.{plain_unweighed, cycle_unweighed}
 use Rattle.roster_planner.proofs.of_cases.case_reasons.Goals as goal
 
 pub returns-clause-serves : goal.returns-clause-serves
@@ -41,6 +41,6 @@ returns-clause-reasons c =
 pub returns-clause-unweighed : goal.returns-clause-unweighed
 returns-clause-unweighed c =
     λ S line h. elim ((c.new-2.ensures.leaves S line).0 h) [
-      | inl plain ↦ c.in_ok-plain.ensures.unweighed S line plain
+      | inl plain ↦ plain_unweighed line (c.in_ok-plain.ensures.only S line plain)
       | inr cycle ↦ cycle_unweighed c.args.automaton.now.problem line ((c.in_ok-cycle.ensures.leaves S line).0 cycle)
     ]

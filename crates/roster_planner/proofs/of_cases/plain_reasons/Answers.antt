@@ -2,7 +2,7 @@
 use Rattle.std.proofs.Common.{inl, inr}
 use Rattle.refutation_terms.specs.declared.lines.Line.TheVariants.{Closing}
 use Rattle.refutation_terms.specs.declared.lines.Leaf.TheVariants.{Window, Day}
-use Rattle.roster_planner.proofs.Unweighed.{window_unweighed, day_unweighed}
+use Rattle.roster_planner.proofs.Unweighed.{window_plain, day_plain}
 use Rattle.roster_planner.proofs.of_cases.plain_reasons.Goals as goal
 
 pub returns-clause-serves : goal.returns-clause-serves
@@ -17,12 +17,12 @@ returns-clause-leaves c = record {
   days = λ S j x over fits. (c.new-3.ensures.leaves S (Closing (Day j x over))).1 (inr (c.in_ok-days.ensures.leaves S j x over fits));
 }
 
-pub returns-clause-unweighed : goal.returns-clause-unweighed
-returns-clause-unweighed c =
+pub returns-clause-only : goal.returns-clause-only
+returns-clause-only c =
     let P = c.args.problem.now in
     λ S line h. elim ((c.new-3.ensures.leaves S line).0 h) [
-      | inl window ↦ window_unweighed P line (c.in_ok-windows.ensures.windows_only S line window)
-      | inr day ↦ day_unweighed P line (c.in_ok-days.ensures.days_only S line day)
+      | inl window ↦ window_plain P line (c.in_ok-windows.ensures.windows_only S line window)
+      | inr day ↦ day_plain P line (c.in_ok-days.ensures.days_only S line day)
     ]
 
 pub returns-clause-spent : goal.returns-clause-spent

@@ -35,9 +35,9 @@ returns-in-LowerDemand c =
     let x = c.in-LowerDemand.shift.number in
     let j = c.in-LowerDemand.day in
     let known = rw c.in-LowerDemand.is at c.requires.change in
-    let b = lowered n c.demand_of-least.result in
+    let b = lowered n c.demand-least.result in
     let is : with_demand P x j (λ _. b) ≡ loosened P c.args.change n =
-    demand_valued P x j (lowered n) b c.prove_limits.ensures known.1.0 known.1.1 known.0 (ap (lowered n) c.demand_of-least.ensures)
+    demand_valued P x j (lowered n) b c.prove_limits.ensures known.1.0 known.1.1 known.0 (ap (lowered n) c.demand-least.ensures.value)
     ∙ ap (λ (change : Change). loosened P change n) (sym c.in-LowerDemand.is) in
     subst (λ (target : Instance). IfOk c.with_demand.result (λ (Q : Instance). Q ≡ target)) is c.with_demand.ensures
 
@@ -48,8 +48,8 @@ returns-in-HigherDemand c =
     let x = c.in-HigherDemand.shift.number in
     let j = c.in-HigherDemand.day in
     let known = rw c.in-HigherDemand.is at c.requires.change in
-    let b = raised n c.demand_of-least-in-HigherDemand.result in
+    let b = raised n c.demand-least-in-HigherDemand.result in
     let is : with_demand P x j (λ _. b) ≡ loosened P c.args.change n =
-    demand_valued P x j (raised n) b c.prove_limits.ensures known.1.0 known.1.1 known.0 (ap (raised n) c.demand_of-least-in-HigherDemand.ensures)
+    demand_valued P x j (raised n) b c.prove_limits.ensures known.1.0 known.1.1 known.0 (ap (raised n) c.demand-least-in-HigherDemand.ensures.value)
     ∙ ap (λ (change : Change). loosened P change n) (sym c.in-HigherDemand.is) in
     subst (λ (target : Instance). IfOk c.with_demand-in-HigherDemand.result (λ (Q : Instance). Q ≡ target)) is c.with_demand-in-HigherDemand.ensures

@@ -17,7 +17,7 @@ of_valid-requires c =
     let j = c.args.day in
     let is : instance_of c.set_demand.new.parts ≡ with_demand P x j (λ _. b) =
     c.set_demand.ensures
-    ∙ ap (λ (Q : Instance). record Q { demand = set Q.demand (x - 1) (set c.in_ok-ranges.ranges.items (j - 1) b) }) c.in_ok-parts.ensures
+    ∙ ap (λ (Q : Instance). record Q { demand = set Q.demand (x - 1) (set c.in_ok-ranges.ranges.items (j - 1) b) }) (c.in_ok-parts.ensures ∙ c.parts.ensures)
     ∙ ap (λ (row : List Bounds). record P { demand = set P.demand (x - 1) (set row (j - 1) b) }) c.in_ok-ranges.ensures
     ∙ demand_set P x j b c.prove_limits.ensures c.requires.shift.0 c.requires.shift.1 in
     subst IsValid (sym is) (keeps_valid (with_demand P x j (λ _. b)) (valid_demand P x j b c.prove_limits.ensures c.requires.small))
@@ -30,6 +30,6 @@ returns c =
     let j = c.args.day in
     c.of_valid.ensures
     ∙ c.set_demand.ensures
-    ∙ ap (λ (Q : Instance). record Q { demand = set Q.demand (x - 1) (set c.in_ok-ranges.ranges.items (j - 1) b) }) c.in_ok-parts.ensures
+    ∙ ap (λ (Q : Instance). record Q { demand = set Q.demand (x - 1) (set c.in_ok-ranges.ranges.items (j - 1) b) }) (c.in_ok-parts.ensures ∙ c.parts.ensures)
     ∙ ap (λ (row : List Bounds). record P { demand = set P.demand (x - 1) (set row (j - 1) b) }) c.in_ok-ranges.ensures
     ∙ demand_set P x j b c.prove_limits.ensures c.requires.shift.0 c.requires.shift.1

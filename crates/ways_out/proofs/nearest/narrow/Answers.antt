@@ -1,6 +1,6 @@
 use Rattle.std.proofs.Common.{◌≤◌, ◌+◌, ◌-◌, ◌/◌, ℕ, arith}
 use Rattle.ways_out.specs.Loosened.{most_steps, IsStep}
-use Rattle.ways_out.proofs.Reaching.{reached_shut, reached_open}
+use Rattle.ways_out.proofs.Reaching.{reached_shut, reached_open, helps_with}
 use Rattle.ways_out.proofs.nearest.narrow.Goals as goal
 
 pub loop-reached-preserved-in-Refuted : goal.loop-reached-preserved-in-Refuted
@@ -13,6 +13,7 @@ loop-reached-preserved-in-Refuted g c =
     record {
       reached = reached_shut P c.args.asked.now.effort change mid c.requires.change (rw c.in-Refuted.is at c.in_ok-fewer.ensures);
       order = omega (arith, room);
+      within = inv.within;
       step = inv.step;
       roster = inv.roster;
     }
@@ -31,6 +32,14 @@ loop-reached-preserved g c =
     record {
       reached = reached_open P c.args.asked.now.effort change c.loop-reached.reached mid inv.reached (omega (arith, room)) step (rw c.in-Open.is at c.in_ok-fewer.ensures);
       order = omega (arith, room);
+      within = inv.within;
       step = inv.step;
       roster = inv.roster;
     }
+
+pub returns : goal.returns
+returns g c =
+    let inv = c.loop-reached.invariant in
+    let past = c.loop-reached-test.false in
+    helps_with c.args.asked.now.problem.now c.args.asked.now.effort c.args.change c.loop-reached.reached c.args.start.end c.loop-reached.nearest inv.reached c.requires.doubled.fewer inv.within inv.order
+    (λ less. omega (arith, less, past)) inv.step inv.roster

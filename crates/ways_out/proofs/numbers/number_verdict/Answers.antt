@@ -1,12 +1,14 @@
+use Rattle.std.proofs.Common.{refl}
 use Rattle.ways_out.specs.Loosened.{exact}
 use Rattle.ways_out.proofs.Helping.{log_refutes, none_meets}
-use Rattle.ways_out.proofs.Single.{exact_shape}
+use Rattle.ways_out.proofs.Staying.{exact_stays}
 use Rattle.ways_out.proofs.numbers.number_verdict.Goals as goal
 
-pub is_enough-requires-clause-roster : goal.is_enough-requires-clause-roster
-is_enough-requires-clause-roster g c =
+pub returns-in-Roster : goal.returns-in-Roster
+returns-in-Roster g c =
+    let roster = c.in-Roster.field-0 in
     let is = rw c.in-Roster.is at c.requires.plan in
-    exact_shape c.args.asked.now.problem.now c.args.change c.args.steps c.in-Roster.roster.cells c.requires.demand is.0.1
+    (refl, (roster.cells, exact_stays c.args.asked.now.problem.now c.args.change c.args.steps roster.cells c.requires.change is.0.1))
 
 pub returns-in-NoRoster : goal.returns-in-NoRoster
 returns-in-NoRoster g c =

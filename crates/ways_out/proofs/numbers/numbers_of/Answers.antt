@@ -27,6 +27,12 @@ returns-in-Enough g c =
     let next = found.0 in
     helps_next c.args.asked.now.problem.now c.args.asked.now.effort c.args.change c.loop-shut.shut c.in-Enough.steps c.requires.change next (omega (arith, room, all, next)) c.loop-shut.invariant.none found.1
 
+pub returns-in-Open : goal.returns-in-Open
+returns-in-Open g c =
+    let room = c.loop-shut-test.true in
+    let all = c.requires.most in
+    record { further = omega (arith, room, all); none = c.loop-shut.invariant.none; next = rw c.in-Open.is at c.in_ok-judge_number.ensures }
+
 pub returns : goal.returns
 returns g c =
     let end = c.loop-shut-test.false in

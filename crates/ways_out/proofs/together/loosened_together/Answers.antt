@@ -1,14 +1,10 @@
-use Rattle.std.proofs.Common.{sym, subst, ◌∙◌}
-use Rattle.rwsp_model.specs.Validity.{IsValid}
-use Rattle.rwsp_model.proofs.Limits.{keeps_valid}
+use Rattle.std.proofs.Common.{◌∙◌}
 use Rattle.ways_out.proofs.StillChanges.{all_stay, all_as}
 use Rattle.ways_out.proofs.together.loosened_together.Goals.{then-steps-gt0+then-is_member+in_ok-all, else-steps-gt0}
 use Rattle.ways_out.proofs.together.loosened_together.Goals as goal
 
-pub of_valid-all-requires : goal.of_valid-all-requires
-of_valid-all-requires g c =
-    let P = c.args.grouping.now.asked.now.problem.now in
-    subst IsValid (sym c.in_ok-parts.ensures) (keeps_valid P c.prove_limits.ensures)
+pub loop-place-init : goal.loop-place-init
+loop-place-init g c = all_as c.args.grouping.now.asked.now.problem.now c.in_ok-own.own c.args.grouping.now.changes.now c.in_ok-own.ensures c.requires
 
 pub loop-place-preserved : goal.loop-place-preserved
 loop-place-preserved g c = elim c.if-steps-gt0.branch [
