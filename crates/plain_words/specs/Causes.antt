@@ -1,5 +1,5 @@
 -- Why something is refused, and short answers, in words.
-use Rattle.std.specs.Prelude.{ℕ, ◌==◌, List, [], ◌++◌, Option, Some, None, cond, codes}
+use Rattle.std.specs.Prelude.{ℕ, List, [], ◌++◌, Option, Some, None, cond, codes}
 use Rattle.std.specs.Fmt.{decimal}
 use Rattle.std.specs.Str.{bytes_eq}
 use Rattle.plain_words.specs.declared.cause.Cause.{Cause}
@@ -21,21 +21,6 @@ cause_words Causes.LogTurn = codes "of the log turns to a symbol that need not b
 cause_words Causes.StaffForm = codes "of the text is no heading that may stand there"
 cause_words Causes.RosterUnknown = codes "of the roster has a name that is no shift's"
 cause_words Causes.RosterWidth = codes "of the roster has not one name for each day"
-cause_words Causes.FileEnds = codes "of the file is its last, and more is awaited"
-cause_words Causes.FileNumber = codes "of the file has no number where one is awaited"
-cause_words Causes.FileRow = codes "of the file, a shift's, has not five or six words"
-cause_words Causes.FileName = codes "of the file has a bad name for a shift"
-cause_words Causes.FileUnknown = codes "of the file has a name in a sequence that is no shift's"
-cause_words Causes.FileExtra = codes "of the file has a word behind the last sequence"
-cause_words Causes.FileDays = codes "of the file has no number of days from 1 to 28"
-cause_words Causes.FileWeeks = codes "of the file has no number of weeks from 1 to 600"
-cause_words Causes.FileCells = codes "of the file makes more than 4200 days in all"
-cause_words Causes.FileShifts = codes "of the file has no number of shifts from 1 to 8"
-cause_words Causes.FileDemand = codes "of the file has a demand above 600"
-cause_words Causes.FileMinutes = codes "of the file has a start or a length above 10000 minutes"
-cause_words Causes.FileBlock = codes "of the file has a length of a block above 10000 days"
-cause_words Causes.FilePairs = codes "of the file announces more than 64 forbidden pairs"
-cause_words Causes.FileTriples = codes "of the file announces more than 64 forbidden triples"
 
 -- an answer that has no number
 unfoldable pub short_words : Short → List ℕ
@@ -100,41 +85,3 @@ unfoldable pub staff_cause : List ℕ → Option Cause
 staff_cause w =
     cond (bytes_eq w (codes "form")) (Some Causes.StaffForm)
     None
-
--- the cause for which a problem's file is refused, by its word
-unfoldable pub file_cause : List ℕ → Option Cause
-file_cause w =
-    cond (bytes_eq w (codes "ends")) (Some Causes.FileEnds)
-    (cond (bytes_eq w (codes "number")) (Some Causes.FileNumber)
-    (cond (bytes_eq w (codes "row")) (Some Causes.FileRow)
-    (cond (bytes_eq w (codes "name")) (Some Causes.FileName)
-    (cond (bytes_eq w (codes "unknown")) (Some Causes.FileUnknown)
-    (cond (bytes_eq w (codes "extra")) (Some Causes.FileExtra)
-    None)))))
-
--- and by the number of its limit
-unfoldable pub range_cause : ℕ → Option Cause
-range_cause limit =
-    cond (limit == 1) (Some Causes.FileDays)
-    (cond (limit == 2) (Some Causes.FileWeeks)
-    (cond (limit == 3) (Some Causes.FileCells)
-    (cond (limit == 4) (Some Causes.FileShifts)
-    (cond (limit == 5) (Some Causes.FileDemand)
-    (cond (limit == 6) (Some Causes.FileMinutes)
-    (cond (limit == 7) (Some Causes.FileBlock)
-    (cond (limit == 8) (Some Causes.FilePairs)
-    (cond (limit == 9) (Some Causes.FileTriples)
-    None))))))))
-
--- a limit is broken
-abbrev pub IsRangeCause : Cause → Type 0
-IsRangeCause Causes.FileDays = Unit {0}
-IsRangeCause Causes.FileWeeks = Unit {0}
-IsRangeCause Causes.FileCells = Unit {0}
-IsRangeCause Causes.FileShifts = Unit {0}
-IsRangeCause Causes.FileDemand = Unit {0}
-IsRangeCause Causes.FileMinutes = Unit {0}
-IsRangeCause Causes.FileBlock = Unit {0}
-IsRangeCause Causes.FilePairs = Unit {0}
-IsRangeCause Causes.FileTriples = Unit {0}
-IsRangeCause c = ⊥

@@ -16,7 +16,7 @@ use Rattle.plain_words.specs.declared.statement.Statement.{Statement}
 use Rattle.plain_words.specs.declared.statement.Statement.TheVariants.{AtLine, Unnamed, Long, Plain, Numbered, Least, NoneTo, Breaks}
 use Rattle.plain_words.specs.Says.{OrElse}
 use Rattle.plain_words.specs.Words.{weeks_words}
-use Rattle.plain_words.specs.Causes.{log_cause, roster_cause, staff_cause, file_cause, range_cause}
+use Rattle.plain_words.specs.Causes.{log_cause, roster_cause, staff_cause}
 use Rattle.plain_words.specs.BrokenRules.{breach_at}
 use Rattle.plain_words.specs.Escapes.{EscapeSays}
 use Rattle.plain_words.specs.Statements.{statement_line}
@@ -67,15 +67,6 @@ unfoldable pub refused_roster_at : Words → Option Statement
 refused_roster_at [] = None
 refused_roster_at (w ∷ ws) =
     cond (bytes_eq w (codes "weeks")) (count_at Counts.RosterWeeks ws) (line_at (roster_cause w) ws)
-
--- the number of a limit, and the line
-unfoldable pub range_at : Words → Option Statement
-range_at ws = number_at 1 9 ws >>= (λ limit. line_at (range_cause limit.0) limit.1)
-
--- behind `file refused:`
-unfoldable pub refused_file_at : Words → Option Statement
-refused_file_at [] = None
-refused_file_at (w ∷ ws) = cond (bytes_eq w (codes "range")) (range_at ws) (line_at (file_cause w) ws)
 
 -- behind `rest refused:`
 unfoldable pub refused_rest_at : Words → Option Statement
@@ -171,8 +162,7 @@ failure P (w ∷ ws) =
 -- what the words of a line say that a command refuses a text with
 unfoldable pub refused_at : Instance → (what : List ℕ) → Words → Option Statement
 refused_at P what ws =
-    cond (bytes_eq what (codes "file")) (refused_file_at ws)
-    (cond (bytes_eq what (codes "rest")) (refused_rest_at ws) (failed_at P what ws))
+    cond (bytes_eq what (codes "rest")) (refused_rest_at ws) (failed_at P what ws)
 
 -- a line whose first word none of the short ones begins with
 unfoldable pub other_answer : Instance → (first : List ℕ) → Words → Option Statement

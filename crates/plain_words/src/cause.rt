@@ -1,6 +1,6 @@
 // Why something is refused, and short answers.
 ghost use Rattle.std.specs.Prelude.{◌≡◌, ◌++◌, OnOk};
-ghost use Rattle.plain_words.specs.Causes.{cause_words, short_words, count_front, count_behind, count_words, line_words, log_cause, roster_cause, staff_cause, file_cause, range_cause, IsRangeCause};
+ghost use Rattle.plain_words.specs.Causes.{cause_words, short_words, count_front, count_behind, count_words, line_words, log_cause, roster_cause, staff_cause};
 
 use rwsp_text::put_number;
 use std::alloc::AllocError;
@@ -18,21 +18,6 @@ pub enum Cause {
     StaffForm,
     RosterUnknown,
     RosterWidth,
-    FileEnds,
-    FileNumber,
-    FileRow,
-    FileName,
-    FileUnknown,
-    FileExtra,
-    FileDays,
-    FileWeeks,
-    FileCells,
-    FileShifts,
-    FileDemand,
-    FileMinutes,
-    FileBlock,
-    FilePairs,
-    FileTriples,
 }
 
 /// An answer that has no number.
@@ -87,52 +72,6 @@ fn put_cause(out: &mut Vec<u8>, cause: Cause) -> Result<(), AllocError>
             b"of the roster has a name that is no shift's",
         ),
         Cause::RosterWidth => out.extend_from_slice(b"of the roster has not one name for each day"),
-        Cause::FileEnds => out.extend_from_slice(b"of the file is its last, and more is awaited"),
-        Cause::FileNumber => out.extend_from_slice(
-            b"of the file has no number where one is awaited",
-        ),
-        Cause::FileRow => out.extend_from_slice(
-            b"of the file, a shift's, has not five or six words",
-        ),
-        Cause::FileName => out.extend_from_slice(b"of the file has a bad name for a shift"),
-        Cause::FileUnknown => out.extend_from_slice(
-            b"of the file has a name in a sequence that is no shift's",
-        ),
-        Cause::FileExtra => out.extend_from_slice(
-            b"of the file has a word behind the last sequence",
-        ),
-        _ => put_range_cause(out, cause),
-    }
-}
-
-// Appends which limit is broken.
-#[tactic(auto, unfolding(crate::specs::Causes::cause_words))]
-fn put_range_cause(out: &mut Vec<u8>, cause: Cause) -> Result<(), AllocError>
-    ensures { OnOk result (IsRangeCause cause → out.new.items ≡ out.old.items ++ cause_words cause) }
-{
-    match cause {
-        Cause::FileDays => out.extend_from_slice(b"of the file has no number of days from 1 to 28"),
-        Cause::FileWeeks => out.extend_from_slice(
-            b"of the file has no number of weeks from 1 to 600",
-        ),
-        Cause::FileCells => out.extend_from_slice(b"of the file makes more than 4200 days in all"),
-        Cause::FileShifts => out.extend_from_slice(
-            b"of the file has no number of shifts from 1 to 8",
-        ),
-        Cause::FileDemand => out.extend_from_slice(b"of the file has a demand above 600"),
-        Cause::FileMinutes => out.extend_from_slice(
-            b"of the file has a start or a length above 10000 minutes",
-        ),
-        Cause::FileBlock => out.extend_from_slice(
-            b"of the file has a length of a block above 10000 days",
-        ),
-        Cause::FilePairs => out.extend_from_slice(
-            b"of the file announces more than 64 forbidden pairs",
-        ),
-        Cause::FileTriples => out.extend_from_slice(
-            b"of the file announces more than 64 forbidden triples",
-        ),
-        _ => Ok(()),
     }
 }
 
@@ -263,46 +202,5 @@ pub(crate) fn staff_cause(word: &[u8]) -> Option<Cause>
         Some(Cause::StaffForm)
     } else {
         None
-    }
-}
-
-/// The cause for which a problem's file is refused, by its word.
-#[tactic(auto, unfolding(crate::specs::Causes::file_cause))]
-pub(crate) fn file_cause(word: &[u8]) -> Option<Cause>
-    ensures { result ≡ file_cause word.now }
-{
-    if word == b"ends".as_slice() {
-        Some(Cause::FileEnds)
-    } else if word == b"number".as_slice() {
-        Some(Cause::FileNumber)
-    } else if word == b"row".as_slice() {
-        Some(Cause::FileRow)
-    } else if word == b"name".as_slice() {
-        Some(Cause::FileName)
-    } else if word == b"unknown".as_slice() {
-        Some(Cause::FileUnknown)
-    } else if word == b"extra".as_slice() {
-        Some(Cause::FileExtra)
-    } else {
-        None
-    }
-}
-
-/// The cause by the number of its limit.
-#[tactic(auto, unfolding(crate::specs::Causes::range_cause))]
-pub(crate) fn range_cause(limit: u32) -> Option<Cause>
-    ensures { result ≡ range_cause limit }
-{
-    match limit {
-        1 => Some(Cause::FileDays),
-        2 => Some(Cause::FileWeeks),
-        3 => Some(Cause::FileCells),
-        4 => Some(Cause::FileShifts),
-        5 => Some(Cause::FileDemand),
-        6 => Some(Cause::FileMinutes),
-        7 => Some(Cause::FileBlock),
-        8 => Some(Cause::FilePairs),
-        9 => Some(Cause::FileTriples),
-        _ => None,
     }
 }

@@ -4,7 +4,7 @@ ghost use Rattle.rwsp_terms.specs.Instance.{cells, shift_count, IsClass, IsDay, 
 ghost use Rattle.rwsp_terms.specs.declared.data.Class.TheVariants.{Off, Work};
 ghost use Rattle.plain_words.specs.Counting.{is_misfit, lengths, shift_least, greatest_in_weeks, shift_greatest, shift_days, needed_days, left_on_day, left_days, off_days, work_days, rounds, are_few, all_days, fixed_rounds_words, ranging_rounds_words, rounds_words, needed_words, left_words, unlike_words, crossed_words_or, turns_words, off_misfit_words, counted_words};
 
-use crate::rule_words::{demand_of, least_of_day};
+use crate::rule_words::least_of_day;
 use crate::span::{
     MOST_ASKED, blocks_for, lengths_of, put_block_range, put_blocks, put_have, put_made,
     put_misfit, put_no_block, put_span, room_for,
@@ -33,7 +33,7 @@ fn shift_least(problem: &Problem, number: u8) -> u32
 {
     let mut sum = 0;
     for i in 0..problem.days() {
-        sum += demand_of(problem, number, i + 1).least;
+        sum += problem.demand(Symbol { number }, i + 1).least;
     }
     sum
 }
@@ -45,7 +45,8 @@ fn greatest_in_weeks(problem: &Problem, number: u8, day: u32) -> u32
     ensures value { result ≡ greatest_in_weeks problem.now number day }
     ensures few { result ≤ MOST_WEEKS }
 {
-    demand_of(problem, number, day)
+    problem
+        .demand(Symbol { number }, day)
         .greatest
         .min(problem.weeks())
 }

@@ -4,7 +4,7 @@ ghost use Rattle.rwsp_terms.specs.Instance.{shift_count, IsDay};
 ghost use Rattle.rwsp_terms.specs.declared.limits.TheConstants.{GREATEST_BOUND, MOST_DAYS, MOST_SHIFTS, MOST_WEEKS};
 ghost use Rattle.plain_words.specs.SentenceText.{next_shift_words, other_shifts_words, shifts_words, size_words, minutes_of, end_of, demanded_minutes, day_minutes, all_minutes, mean_tenths, tenths_words, mean_words, hours_words};
 
-use crate::rule_words::{demand_of, put_shift};
+use crate::rule_words::put_shift;
 use crate::words::{put_days, put_weeks};
 use rwsp_model::Problem;
 use rwsp_terms::{Bounds, Symbol};
@@ -85,7 +85,7 @@ fn demanded_minutes(problem: &Problem, is_most: bool, day: u32, number: u8) -> u
     ensures value { result ≡ demanded_minutes problem.now is_most day number }
     ensures few { result ≤ MOST_WEEKS * GREATEST_BOUND }
 {
-    let count = end_of(is_most, demand_of(problem, number, day));
+    let count = end_of(is_most, problem.demand(Symbol { number }, day));
     u64::from(count) * u64::from(minutes_of(problem, number))
 }
 

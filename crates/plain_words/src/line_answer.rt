@@ -4,13 +4,11 @@ ghost use Rattle.rwsp_terms.specs.Instance.{Instance};
 ghost use Rattle.rwsp_terms.specs.Rules.{rules};
 ghost use Rattle.rwsp_text.specs.Lines.{words_of};
 ghost use Rattle.plain_words.specs.Statements.{StatementFits, statement_line};
-ghost use Rattle.plain_words.specs.LineAnswers.{plain_at, count_at, line_at, rule_line, rule_line_at, refused_log_at, refused_staff_at, refused_roster_at, range_at, refused_file_at, refused_rest_at, least_at, none_at, accepted_at, no_at, too_long_kind, too_at, horizon_at, not_at, fill_at, staff_range_at, staff_at, breaks_at, failed_at, failure, refused_at, other_answer, short_answer, IsStatement, ReadSays, WordsSay, LineSays};
+ghost use Rattle.plain_words.specs.LineAnswers.{plain_at, count_at, line_at, rule_line, rule_line_at, refused_log_at, refused_staff_at, refused_roster_at, refused_rest_at, least_at, none_at, accepted_at, no_at, too_long_kind, too_at, horizon_at, not_at, fill_at, staff_range_at, staff_at, breaks_at, failed_at, failure, refused_at, other_answer, short_answer, IsStatement, ReadSays, WordsSay, LineSays};
 ghost use Rattle.plain_words.specs.AnswerWords.{IsSaid};
 
 use crate::breach::breach_at;
-use crate::cause::{
-    Cause, Count, Short, file_cause, log_cause, range_cause, roster_cause, staff_cause,
-};
+use crate::cause::{Cause, Count, Short, log_cause, roster_cause, staff_cause};
 use crate::escape::escape_words;
 use crate::staff_failure::staff_words;
 use crate::statement::{Statement, put_line};
@@ -132,30 +130,6 @@ fn refused_roster(fields: &mut Fields) -> Option<Statement>
         count_at(Count::RosterWeeks, fields)
     } else {
         line_at(roster_cause(word), fields)
-    }
-}
-
-// The limit that a number of a problem's file is beyond.
-#[tactic(auto, unfolding(crate::specs::LineAnswers::range_at))]
-fn range_at(fields: &mut Fields) -> Option<Statement>
-    ensures value { range_at fields.old ≡ result }
-    ensures own { (P : Instance) → IfSome result (StatementFits P) }
-{
-    let limit = fields.number(1, 9)?;
-    line_at(range_cause(limit), fields)
-}
-
-// Why a problem's file is refused.
-#[tactic(auto, unfolding(crate::specs::LineAnswers::refused_file_at))]
-fn refused_file(fields: &mut Fields) -> Option<Statement>
-    ensures value { refused_file_at fields.old ≡ result }
-    ensures own { (P : Instance) → IfSome result (StatementFits P) }
-{
-    let word = fields.next()?;
-    if word == b"range".as_slice() {
-        range_at(fields)
-    } else {
-        line_at(file_cause(word), fields)
     }
 }
 
@@ -376,9 +350,7 @@ fn refused_at(problem: &Problem, what: &[u8], fields: &mut Fields) -> Option<Sta
     ensures value { refused_at problem.now what.now fields.old ≡ result }
     ensures own { IfSome result (StatementFits problem.now) }
 {
-    if what == b"file".as_slice() {
-        refused_file(fields)
-    } else if what == b"rest".as_slice() {
+    if what == b"rest".as_slice() {
         refused_rest(fields)
     } else {
         failed_at(problem, what, fields)

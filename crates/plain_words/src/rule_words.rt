@@ -2,7 +2,7 @@
 ghost use Rattle.std.specs.Prelude.{◌≡◌, ◌++◌, ◌+◌, ◌-◌, ◌*◌, ◌<◌, ◌≤◌, length, slice_get, IfSome, OnOk};
 ghost use Rattle.std.specs.List.{flat_map, range_with_len};
 ghost use Rattle.rwsp_terms.specs.declared.limits.TheConstants.{MOST_WEEKS, MOST_SHIFTS};
-ghost use Rattle.rwsp_terms.specs.Instance.{bounds, shift_count, shift_demand, column_least, column_greatest, IsClass, IsDay, symbol_numbered};
+ghost use Rattle.rwsp_terms.specs.Instance.{bounds, shift_count, column_least, column_greatest, IsClass, IsDay, symbol_numbered};
 ghost use Rattle.rwsp_terms.specs.Roster.{IsRule};
 ghost use Rattle.rwsp_model.specs.Sequences.{IsPairOf, IsTripleOf};
 ghost use Rattle.plain_words.specs.RuleWords.{class_words, most_words, least_words, pair_words, triple_words, pair_in_words, triple_in_words, shift_words, wanted_words, off_range, needs_words, off_words, is_crossed, crossed_words, first_crossed, demand_words, day_words, rule_words};
@@ -105,23 +105,6 @@ pub fn put_triple_at(out: &mut Vec<u8>, problem: &Problem, place: u32) -> Result
     put_triple(out, problem, problem.triples()[place as usize])
 }
 
-/// The demand of a shift on a day, both from 1 on.
-pub fn demand_of(problem: &Problem, number: u8, day: u32) -> Bounds
-    requires shift { (0 < number) × (number ≤ shift_count problem.now) }
-    requires day { IsDay problem.now day }
-    ensures value { result ≡ shift_demand problem.now number day }
-    ensures few { (result.least ≤ MOST_WEEKS) × (result.greatest ≤ MOST_WEEKS) }
-{
-    problem.prove_limits();
-    let shift = Symbol { number };
-    let least = problem.demand_least(shift, day);
-    let greatest = problem.demand_greatest(shift, day);
-    Bounds {
-        least: least as u32,
-        greatest: greatest as u32,
-    }
-}
-
 /// Appends the name of a shift by its number.
 #[tactic(auto, unfolding(crate::specs::RuleWords::shift_words))]
 pub fn put_shift(out: &mut Vec<u8>, problem: &Problem, number: u8) -> Result<(), AllocError>
@@ -140,7 +123,7 @@ fn put_wanted(out: &mut Vec<u8>, problem: &Problem, day: u32, number: u8) -> Res
 {
     put_shift(out, problem, number)?;
     out.extend_from_slice(b" ")?;
-    put_range(out, demand_of(problem, number, day))?;
+    put_range(out, problem.demand(Symbol { number }, day))?;
     out.extend_from_slice(b", ")
 }
 
@@ -213,7 +196,7 @@ pub fn is_crossed(problem: &Problem, day: u32, number: u8) -> bool
     requires shift { (0 < number) × (number ≤ shift_count problem.now) }
     ensures { result ≡ is_crossed problem.now day number }
 {
-    let range = demand_of(problem, number, day);
+    let range = problem.demand(Symbol { number }, day);
     range.greatest < range.least
 }
 
@@ -229,7 +212,7 @@ pub fn put_crossed(
     requires shift { (0 < number) × (number ≤ shift_count problem.now) }
     ensures { OnOk result (out.new.items ≡ out.old.items ++ crossed_words problem.now day number) }
 {
-    let range = demand_of(problem, number, day);
+    let range = problem.demand(Symbol { number }, day);
     put_shift(out, problem, number)?;
     out.extend_from_slice(b" ")?;
     put_number(out, u64::from(range.least))?;

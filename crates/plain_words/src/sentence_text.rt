@@ -10,8 +10,8 @@ ghost use Rattle.plain_words.specs.SentenceText.{numbered_words, rule_in_words, 
 use crate::counted::put_counted;
 use crate::hours::{put_hours, put_size};
 use crate::rule_words::{
-    demand_of, least_of_day, put_crossed, put_least, put_most, put_pair_at, put_rule_words,
-    put_shift, put_triple_at,
+    least_of_day, put_crossed, put_least, put_most, put_pair_at, put_rule_words, put_shift,
+    put_triple_at,
 };
 use crate::sentence::Sentence;
 use crate::words::{put_name_words, put_range, put_weeks};
@@ -205,7 +205,7 @@ fn put_large_demand(
     put_day_front(out, problem, day)?;
     put_shift(out, problem, number)?;
     out.extend_from_slice(b" ")?;
-    put_range(out, demand_of(problem, number, day))?;
+    put_range(out, problem.demand(Symbol { number }, day))?;
     out.extend_from_slice(b", more than ")?;
     put_weeks(out, problem.weeks())?;
     Ok(())

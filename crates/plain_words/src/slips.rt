@@ -5,7 +5,7 @@ ghost use Rattle.rwsp_terms.specs.Instance.{shift_count, shift_demand, IsClass, 
 ghost use Rattle.plain_words.specs.Sentences.{crossed_blocks, long_blocks, shift_slips, is_same_pair, is_same_triple, twice_pair, twice_triple, pair_slips_at, triple_slips_at, is_large, demand_slips, day_slips, slips};
 ghost use Rattle.plain_words.specs.SentenceText.{lines};
 
-use crate::rule_words::{demand_of, is_crossed, least_of_day};
+use crate::rule_words::{is_crossed, least_of_day};
 use crate::sentence::Sentence;
 use crate::sentence_text::put_if;
 use rwsp_model::Problem;
@@ -228,7 +228,7 @@ fn put_demand_slips(
         is_crossed,
         Sentence::CrossedDemand(day, number),
     )?;
-    let is_large = is_large(problem, demand_of(problem, number, day));
+    let is_large = is_large(problem, problem.demand(Symbol { number }, day));
     put_if(out, problem, is_large, Sentence::LargeDemand(day, number))
 }
 

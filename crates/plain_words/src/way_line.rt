@@ -10,7 +10,6 @@ ghost use Rattle.plain_words.specs.Ways.{IsWider, length_front, range_text, dema
 ghost use Rattle.plain_words.specs.WayPlaces.{IsNumberBefore, HasNoNumber, IsEndBefore, HasNoEnd, IsNumberEndBefore, HasNoNumberEnd, IsLengthBefore, HasNoLength, IsOtherBefore, HasNoOther, IsGreatestBefore, HasNoGreatest, IsRangeEndBefore, HasNoRange, IsWiderRange, HasNoWiderRange, IsWiderBefore, HasNoWider, IsChangeBefore, HasNoChange, HasNoDemand, IsDroppedBefore, HasNoDropped, IsRuleChangeBefore, HasNoRuleChange, IsRuleNumberBefore, HasNoRuleNumber, IsPart, IsWayOf, HasNoWayOf, IsWayBefore, HasNoWay, AreWaysBefore};
 
 use crate::rule_label::whole_number;
-use crate::rule_words::demand_of;
 use crate::scan::{behind, behind_digits};
 use crate::way::{Change, Part, Way, part_of_rule};
 use roster_print::put_rule;
@@ -256,7 +255,7 @@ fn take_demand<'a>(
         (λ found. IsChangeBefore problem.now (Parts.Demand day) found.0 found.1 bytes.now found.2.now)) }
 {
     problem.prove_limits();
-    let from = demand_of(problem, shift.number, day);
+    let from = problem.demand(shift, day);
     let name = problem.name(shift);
     let found = take_wider(alloc, problem.weeks(), name, from, bytes)?;
     match found {

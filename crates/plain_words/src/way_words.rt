@@ -6,7 +6,7 @@ ghost use Rattle.rwsp_terms.specs.Roster.{IsRule};
 ghost use Rattle.plain_words.specs.Ways.{IsChange, IsWay};
 ghost use Rattle.plain_words.specs.WayWords.{blocks_words, length_words, widened_front, widened_words, dropped_words, change_words, nearest_words, way_words, ways_front, left_words, left_front, no_other_words, others_words, ways_words};
 
-use crate::rule_words::{demand_of, put_rule_words};
+use crate::rule_words::put_rule_words;
 use crate::way::{Change, Way};
 use crate::words::{put_days, put_name_words, put_range};
 use rwsp_model::{Problem, rule_at};
@@ -88,7 +88,7 @@ fn put_widened(
 {
     put_widened_front(out, problem, day, shift, to)?;
     out.extend_from_slice(b" in place of ")?;
-    put_range(out, demand_of(problem, shift.number, day))?;
+    put_range(out, problem.demand(shift, day))?;
     Ok(())
 }
 

@@ -8,6 +8,7 @@ mod explained;
 mod faults;
 mod fills;
 mod frees;
+mod largest;
 mod limits;
 mod logs;
 mod mends;

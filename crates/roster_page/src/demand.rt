@@ -1,6 +1,6 @@
 // The table of the demand.
-ghost use Rattle.std.specs.Prelude.{◌≡◌, ◌++◌, ◌+◌, ◌<◌, OnOk};
-ghost use Rattle.rwsp_terms.specs.Instance.{shift_count, shift_demand};
+ghost use Rattle.std.specs.Prelude.{◌≡◌, ◌++◌, ◌<◌, OnOk};
+ghost use Rattle.rwsp_terms.specs.Instance.{shift_count};
 ghost use Rattle.rwsp_terms.specs.Roster.{IsRoster};
 ghost use Rattle.roster_page.specs.PageText.{count_at, demand_cell, demand_cells, demand_row, demand_rows, demand_table};
 
@@ -9,25 +9,9 @@ use crate::pieces::{
 };
 use crate::words::{put_day_heads, put_range, put_shift_head, shift_at};
 use rwsp_model::{Problem, weeks_with};
-use rwsp_terms::{Bounds, Symbol};
+use rwsp_terms::Symbol;
 use rwsp_text::put_number;
 use std::alloc::AllocError;
-
-// How many are demanded of a shift on a day, where both count from 0.
-fn demand_of(problem: &Problem, place: u8, day: u32) -> Bounds
-    requires place { place < shift_count problem.now }
-    requires day { day < problem.now.days }
-    ensures { result ≡ shift_demand problem.now (place + 1) (day + 1) }
-{
-    problem.prove_limits();
-    let shift = shift_at(place);
-    let least = problem.demand_least(shift, day + 1);
-    let greatest = problem.demand_greatest(shift, day + 1);
-    Bounds {
-        least: least as u32,
-        greatest: greatest as u32,
-    }
-}
 
 // How many have a shift on a day, where both count from 0.
 #[tactic(auto, unfolding(crate::specs::PageText::count_at))]
@@ -55,10 +39,11 @@ fn put_demand_cell(
     requires day { day < problem.now.days }
     ensures { OnOk result (out.new.items ≡ out.old.items ++ demand_cell problem.now cells.now place day) }
 {
+    problem.prove_limits();
     put(out, PLAIN_CELL)?;
     put_number(out, u64::from(count_at(problem, cells, place, day)))?;
     put(out, OPENED)?;
-    put_range(out, demand_of(problem, place, day))?;
+    put_range(out, problem.demand(shift_at(place), day + 1))?;
     put(out, DEMAND_END)
 }
 

@@ -23,7 +23,7 @@ const TWO_DAYS_WORDS: &str =
 
 const NONE: &str = "no answer that rwsp prints for this problem\n";
 
-const CASES: [(&str, &str, &str, u8, &str); 8] = [
+const CASES: [(&str, &str, &str, u8, &str); 9] = [
     ("explain F", COMMA, "", 3, COMMA_WORDS),
     ("explain F A", COMMA, CLINIC_LOG, 3, COMMA_WORDS),
     ("explain F", TWO_DAYS, "", 0, TWO_DAYS_WORDS),
@@ -32,6 +32,14 @@ const CASES: [(&str, &str, &str, u8, &str); 8] = [
     // A log of another problem: this one has no rule 13.
     ("explain F A", TWO_DAYS, CLINIC_LOG, 5, NONE),
     ("explain F A", TWO_DAYS, "", 5, NONE),
+    // No file of a problem is refused.
+    (
+        "explain F A",
+        TWO_DAYS,
+        "file refused: ends line 1\n",
+        5,
+        NONE,
+    ),
     ("explain F F", TWO_DAYS, "", 5, NONE),
 ];
 

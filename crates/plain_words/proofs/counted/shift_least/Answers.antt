@@ -6,6 +6,6 @@ use Rattle.plain_words.proofs.counted.shift_least.Goals as goal
 
 pub loop-i-preserved : goal.loop-i-preserved
 loop-i-preserved c = record {
-  total = sum_more (λ j. (shift_demand c.args.problem.now c.args.number j).least) 1 c.loop-i.i (c.loop-i.i + 1) c.loop-i.sum (c.loop-i.sum + c.demand_of-sum.result.least) c.demand_of-sum.result.least (omega arith) c.loop-i.invariant.total (ap (λ (b : Bounds). b.least) c.demand_of-sum.ensures.value) refl;
-  few = omega (arith, c.loop-i.invariant.few, c.demand_of-sum.ensures.few.0);
+  total = sum_more (λ j. (shift_demand c.args.problem.now c.args.number j).least) 1 c.loop-i.i (c.loop-i.i + 1) c.loop-i.sum (c.loop-i.sum + c.demand-sum.result.least) c.demand-sum.result.least (omega arith) c.loop-i.invariant.total (ap (λ (b : Bounds). b.least) c.demand-sum.ensures.value) refl;
+  few = omega (arith, c.loop-i.invariant.few, c.demand-sum.ensures.few.0);
 }

@@ -1,7 +1,4 @@
 use Rattle.plain_words.proofs.line_answer.refused_at.Goals as goal
 
 pub returns-then-eq-clause-own : goal.returns-then-eq-clause-own
-returns-then-eq-clause-own c = c.refused_file.ensures.own c.args.problem.now
-
-pub returns-then-eq-2-clause-own : goal.returns-then-eq-2-clause-own
-returns-then-eq-2-clause-own c = c.refused_rest.ensures.own c.args.problem.now
+returns-then-eq-clause-own c = c.refused_rest.ensures.own c.args.problem.now

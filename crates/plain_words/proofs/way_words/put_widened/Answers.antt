@@ -12,4 +12,4 @@ returns c =
     let front = widened_front c.args.problem.now c.args.day c.args.shift c.args.to in
     piece_then old c.extend_from_slice.new.self.items c.put_range.new.out.items (front ++ codes " in place of ") (range_words _)
     (piece_then old c.put_widened_front.new.out.items c.extend_from_slice.new.self.items front (codes " in place of ") c.in_ok-put_widened_front.ensures c.in_ok-extend_from_slice.ensures.items)
-    (c.in_ok-put_range.ensures ∙ ap (λ b. c.extend_from_slice.new.self.items ++ range_words b) c.demand_of.ensures.value)
+    (c.in_ok-put_range.ensures ∙ ap (λ b. c.extend_from_slice.new.self.items ++ range_words b) c.demand.ensures.value)
