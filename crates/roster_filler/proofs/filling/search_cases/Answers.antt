@@ -1,12 +1,10 @@
 -- What the search finds is sharp, by the reasons of cases, which have all window and day leaves.
-use Rattle.std.proofs.Common.{sym, subst}
-use Rattle.rwsp_terms.specs.Instance.{Instance}
-use Rattle.domain_store.specs.Looks.{HasPlainLeaves}
+use Rattle.std.proofs.Common.{sym}
 use Rattle.roster_filler.proofs.Sharp.{search_found}
 use Rattle.roster_filler.proofs.filling.search_cases.Goals as goal
 
 pub search_given-found-requires-clause-plain : goal.search_given-found-requires-clause-plain
-search_given-found-requires-clause-plain c = subst (λ (P : Instance). HasPlainLeaves P _) (sym c.problem-problem.ensures) c.in_ok-reasons.ensures.reasons.plain
+search_given-found-requires-clause-plain c = rw (sym c.problem-problem.ensures) at c.in_ok-reasons.ensures.reasons.plain
 
 pub returns : goal.returns
 returns c =
