@@ -16,7 +16,7 @@ use Rattle.plain_words.specs.Counting.{can_be, off_days_fit, blocks_fit, is_misf
 at_most_decided : (a b : ℤ) → a ≤ℤ b → le_z a b ≡ true
 at_most_decided a b h = grind (arith, ints)
 
-is_at_most : (a b : ℤ) → le_z a b ≡ true → a ≤ℤ b
+pub is_at_most : (a b : ℤ) → le_z a b ≡ true → a ≤ℤ b
 is_at_most a b h = grind (arith, ints)
 
 -- a number passes a test

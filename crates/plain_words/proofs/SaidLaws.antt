@@ -1,20 +1,28 @@
--- What is said of a refutation names its rules and its leaves that count.
-use Rattle.std.proofs.Common.{◌≡◌, ℕ, zero, suc, ◌==◌, List, [], ◌∷◌, ◌++◌, map, refl, ap, sym, ◌∙◌, subst, arith, inl, inr, Option, Some, None, Bool, true, false}
-use Rattle.std.specs.Prelude.{slice_get, ◌||◌, if◌then◌else◌}
-use Rattle.std.specs.List.{flat_map, list_any}
+-- What is said of a refutation names its rules and its leaves that count, and is one.
+use Rattle.std.proofs.Common.{◌≡◌, ℕ, zero, suc, ◌+◌, ◌==◌, List, [], ◌∷◌, ◌++◌, map, refl, ap, sym, ◌∙◌, subst, arith, inl, inr, Option, Some, None, Bool, true, false, length}
+use Rattle.std.specs.Prelude.{Contains, slice_get, ◌||◌, ◌&&◌, if◌then◌else◌, count_by}
+use Rattle.std.specs.List.{flat_map, list_any, range_with_len}
+use Rattle.std.proofs.lemmas.Bool.{and_parts}
+use Rattle.std.proofs.lemmas.List.Elements.{Contains-append_cases}
 use Rattle.rwsp_terms.specs.declared.data.Symbol.{Symbol}
-use Rattle.rwsp_terms.specs.Instance.{Instance}
+use Rattle.rwsp_terms.specs.Instance.{Instance, shift_count, symbol_numbered}
 use Rattle.refutation_terms.specs.declared.lines.Turn.{Turn}
 use Rattle.refutation_terms.specs.declared.lines.Line.{Line}
 use Rattle.refutation_terms.specs.declared.lines.Line.TheVariants.{Closing}
 use Rattle.refutation_terms.specs.declared.lines.Leaf.TheVariants.{Blocks}
-use Rattle.refutation_terms.specs.BlocksLeaf.{BlocksHold}
+use Rattle.refutation_terms.specs.declared.lines.Opening.{Opening}
+use Rattle.refutation_terms.specs.declared.lines.Opening.TheVariants.{Full, Turned}
 use Rattle.refutation_terms.specs.Log.{Log}
-use Rattle.plain_words.specs.declared.statement.Rosters.{Rosters}
-use Rattle.plain_words.specs.declared.statement.Statement.{Statement}
-use Rattle.plain_words.specs.declared.statement.Statement.TheVariants.{Named, OnlyTurn, Counted}
-use Rattle.plain_words.specs.AnswerLaws.{FillRulesAreSaid}
-use Rattle.plain_words.specs.LogWords.{IsReason, rule_in, rule_statement, first_statement, reason_statements, day_number, AreThose, IsCounted, counts_blocks, symbols}
+use Rattle.crew_size.specs.Sizes.{with_weeks}
+use Rattle.crew_size.specs.declared.run.StaffEnd.{StaffEnd}
+use Rattle.crew_size.specs.declared.run.StaffEnd.TheVariants as Ends
+use Rattle.plain_words.specs.declared.reason.Rosters.{Rosters}
+use Rattle.plain_words.specs.declared.reason.Rosters.TheVariants.{Weeks}
+use Rattle.plain_words.specs.Counting.{is_misfit}
+use Rattle.plain_words.specs.Statements.{Statement, Named, OnlyTurn, Counted, OfSize, Then}
+use Rattle.plain_words.specs.LogTold.{Are, IsLoneTurn, day_number, rule_statement, counts_blocks, is_counted, counted_if, counted_statements, first_statement, reason_statements, is_open, IsSaidBy, IsSaidOfSize, IsSaidOfLast, IsSaidOfEnd}
+use Rattle.plain_words.specs.Laws.{rule_in, NamedRulesAreSaid, FillRulesAreSaid, CountedAreLeavesOf, LogsSayOne, StaffsSayOne}
+use Rattle.plain_words.proofs.Misfits.{misfits_are_leaves}
 
 -- rules
 
@@ -26,78 +34,81 @@ rule_of_statement : (P : Instance) (lone : Option Turn) (k : ℕ) → rule_in (r
 rule_of_statement P None k = refl
 rule_of_statement P (Some t) k = rule_by (k == day_number P t.day) t k
 
-no_rules : (counted : List Symbol) → flat_map rule_in (map (λ (x : Symbol). Counted x) counted) ≡ []
-no_rules [] = refl
-no_rules (x ∷ counted) = no_rules counted
+no_rule : (b : Bool) (x : Symbol) (rest : List Statement) → flat_map rule_in rest ≡ [] → flat_map rule_in ((if b then Counted x ∷ [] else []) ++ rest) ≡ []
+no_rule true x rest none = none
+no_rule false x rest none = none
 
-named_rules : (P : Instance) (lone : Option Turn) (R : List ℕ) (rest : List Statement) → flat_map rule_in rest ≡ [] → flat_map rule_in (map (rule_statement P lone) R ++ rest) ≡ R
-named_rules P lone [] rest none = none
-named_rules P lone (k ∷ R) rest none =
-    ap (λ (l : List ℕ). l ++ flat_map rule_in (map (rule_statement P lone) R ++ rest)) (rule_of_statement P lone k) ∙ ap (λ (l : List ℕ). k ∷ l) (named_rules P lone R rest none)
+no_rules : (P : Instance) (lines : List Line) (a n : ℕ) → flat_map rule_in (flat_map (λ x. counted_if P lines (symbol_numbered x)) (range_with_len a n)) ≡ []
+no_rules P lines a zero = refl
+no_rules P lines a (suc n) = no_rule (is_counted P lines (symbol_numbered a)) (symbol_numbered a) (flat_map (λ x. counted_if P lines (symbol_numbered x)) (range_with_len (a + 1) n)) (no_rules P lines (a + 1) n)
+
+named_rules : (f : ℕ → Statement) → ((k : ℕ) → rule_in (f k) ≡ k ∷ []) → (R : List ℕ) (rest : List Statement) → flat_map rule_in rest ≡ [] → flat_map rule_in (map f R ++ rest) ≡ R
+named_rules f names [] rest none = none
+named_rules f names (k ∷ R) rest none =
+    ap (λ (l : List ℕ). l ++ flat_map rule_in (map f R ++ rest)) (names k) ∙ ap (λ (l : List ℕ). k ∷ l) (named_rules f names R rest none)
 
 first_rule : (w : Rosters) (R : List ℕ) → rule_in (first_statement w R) ≡ []
 first_rule w [] = refl
 first_rule w (k ∷ R) = refl
 
-pub rules_said : (P : Instance) (w : Rosters) (g : Log) (statements : List Statement) → IsReason P w g statements → flat_map rule_in statements ≡ g.named
+pub rules_said : NamedRulesAreSaid
 rules_said P w g statements is =
-    ap (flat_map rule_in) is.said
-    ∙ (ap (λ (l : List ℕ). l ++ flat_map rule_in (map (rule_statement P is.lone) g.named ++ map (λ (x : Symbol). Counted x) is.counted)) (first_rule w g.named)
-    ∙ named_rules P is.lone g.named (map (λ (x : Symbol). Counted x) is.counted) (no_rules is.counted))
+    let counted = counted_statements P g.lines in
+    ap (flat_map rule_in) is.2
+    ∙ ap (λ (l : List ℕ). l ++ flat_map rule_in (map (rule_statement P is.0) g.named ++ counted)) (first_rule w g.named)
+    ∙ named_rules (rule_statement P is.0) (rule_of_statement P is.0) g.named counted (no_rules P g.lines 0 (shift_count P + 1))
+
+pub fill_rules_said : FillRulesAreSaid
+fill_rules_said P f = named_rules (rule_statement P None) (λ k. refl) f.log.named (counted_statements P f.log.lines) (no_rules P f.log.lines 0 (shift_count P + 1))
 
 -- leaves that count
 
--- a statement that a symbol is counted is among those of the symbols
-counted_by : (b : Bool) (t : Turn) (k : ℕ) (x : Symbol) → (if b then OnlyTurn k t else Named k) ≡ Counted x → ⊥
-counted_by true t k x e = absurd (cc)
-counted_by false t k x e = absurd (cc)
+-- no statement of a rule says what is counted
+abbrev Uncounted : Statement → Type 0
+Uncounted s = (x : Symbol) → s ≡ Counted x → ⊥
 
-rule_uncounted : (P : Instance) (lone : Option Turn) (k : ℕ) (x : Symbol) → rule_statement P lone k ≡ Counted x → ⊥
+uncounted_by : (b : Bool) (t : Turn) (k : ℕ) → Uncounted (if b then OnlyTurn k t else Named k)
+uncounted_by true t k x e = absurd (cc)
+uncounted_by false t k x e = absurd (cc)
+
+rule_uncounted : (P : Instance) (lone : Option Turn) (k : ℕ) → Uncounted (rule_statement P lone k)
 rule_uncounted P None k x e = absurd (cc)
-rule_uncounted P (Some t) k x e = counted_by (k == day_number P t.day) t k x e
+rule_uncounted P (Some t) k x e = uncounted_by (k == day_number P t.day) t k x e
 
-first_uncounted : (w : Rosters) (R : List ℕ) (x : Symbol) → first_statement w R ≡ Counted x → ⊥
+first_uncounted : (w : Rosters) (R : List ℕ) → Uncounted (first_statement w R)
 first_uncounted w [] x e = absurd (cc)
 first_uncounted w (k ∷ R) x e = absurd (cc)
 
-abbrev Holds : (Symbol → Type 0) → List Symbol → Type 0
-Holds Has [] = Unit {0}
-Holds Has (x ∷ xs) = Has x × Holds Has xs
+-- it is behind the rules
+behind_one : (s : Statement) (rest : List Statement) (x : Symbol) → Uncounted s → Contains (s ∷ rest) (Counted x) → Contains rest (Counted x)
+behind_one s rest x other (zero, less, is) = absurd (other x is)
+behind_one s rest x other (suc k, less, is) = (k, omega (arith, less), is)
 
-those_hold : (Has : Symbol → Type 0) (xs found : List Symbol) → AreThose Has xs found → Holds Has found
-those_hold Has [] found those = subst (Holds Has) (sym those) tt
-those_hold Has (x ∷ xs) [] those = tt
-those_hold Has (x ∷ xs) (y ∷ found) those = elim those [
-  | inl h ↦ (subst Has (sym h.1) h.0, those_hold Has xs found h.2)
-  | inr h ↦ those_hold Has xs (y ∷ found) h.1
-]
-
-same_some : (s t : Statement) → Some s ≡ Some t → s ≡ t
-same_some s t e = cc
+behind_rules : (P : Instance) (lone : Option Turn) (R : List ℕ) (rest : List Statement) (x : Symbol) → Contains (map (rule_statement P lone) R ++ rest) (Counted x) → Contains rest (Counted x)
+behind_rules P lone [] rest x h = h
+behind_rules P lone (k ∷ R) rest x h =
+    behind_rules P lone R rest x (behind_one (rule_statement P lone k) (map (rule_statement P lone) R ++ rest) x (rule_uncounted P lone k) h)
 
 same_counted : (x y : Symbol) → Counted x ≡ Counted y → x ≡ y
 same_counted x y e = cc
 
-counted_in : (Has : Symbol → Type 0) (counted : List Symbol) (i : ℕ) (x : Symbol) → Holds Has counted → slice_get (map (λ (y : Symbol). Counted y) counted) i ≡ Some (Counted x) → Has x
-counted_in Has [] zero x hold got = absurd (cc)
-counted_in Has [] (suc i) x hold got = absurd (cc)
-counted_in Has (y ∷ counted) zero x hold got = subst Has (same_counted y x (same_some (Counted y) (Counted x) got)) hold.0
-counted_in Has (y ∷ counted) (suc i) x hold got = counted_in Has counted i x hold.1 got
+counted_here : (b : Bool) (y x : Symbol) → Contains (if b then Counted y ∷ [] else []) (Counted x) → (b ≡ true) × (y ≡ x)
+counted_here true y x (zero, less, is) = (refl, same_counted y x is)
+counted_here true y x (suc k, less, is) = absurd (omega (arith, less))
+counted_here false y x h = absurd (omega (arith, h.1))
 
-behind_rules : (P : Instance) (lone : Option Turn) (R : List ℕ) (Has : Symbol → Type 0) (counted : List Symbol) (i : ℕ) (x : Symbol) → Holds Has counted
-    → slice_get (map (rule_statement P lone) R ++ map (λ (y : Symbol). Counted y) counted) i ≡ Some (Counted x) → Has x
-behind_rules P lone [] Has counted i x hold got = counted_in Has counted i x hold got
-behind_rules P lone (k ∷ R) Has counted zero x hold got = absurd (rule_uncounted P lone k x (same_some (rule_statement P lone k) (Counted x) got))
-behind_rules P lone (k ∷ R) Has counted (suc i) x hold got = behind_rules P lone R Has counted i x hold got
+counted_in : (P : Instance) (lines : List Line) (a n : ℕ) (x : Symbol) → Contains (flat_map (λ y. counted_if P lines (symbol_numbered y)) (range_with_len a n)) (Counted x) → is_counted P lines x ≡ true
+counted_in P lines a zero x h = absurd (omega (arith, h.1))
+counted_in P lines a (suc n) x h =
+    let y = symbol_numbered a in
+    elim (Contains-append_cases (counted_if P lines y) (flat_map (λ z. counted_if P lines (symbol_numbered z)) (range_with_len (a + 1) n)) (Counted x) h) [
+      | inl here ↦ let c = counted_here (is_counted P lines y) y x here in subst (λ z. is_counted P lines z ≡ true) c.1 c.0
+      | inr more ↦ counted_in P lines (a + 1) n x more
+    ]
 
-in_reason : (P : Instance) (w : Rosters) (R : List ℕ) (lone : Option Turn) (Has : Symbol → Type 0) (counted : List Symbol) (i : ℕ) (x : Symbol) → Holds Has counted
-    → slice_get (reason_statements P w R lone counted) i ≡ Some (Counted x) → Has x
-in_reason P w R lone Has counted zero x hold got = absurd (first_uncounted w R x (same_some (first_statement w R) (Counted x) got))
-in_reason P w R lone Has counted (suc i) x hold got = behind_rules P lone R Has counted i x hold got
-
--- a line of the lines counts the blocks of the symbol
+-- a line counts the blocks of the symbol
 abbrev Counts : List Line → Symbol → Type 0
-Counts lines x = (k : ℕ) × (line : Line) × (slice_get lines k ≡ Some line) × (line ≡ Closing (Blocks x))
+Counts lines x = (k : ℕ) × (slice_get lines k ≡ Some (Closing (Blocks x)))
 
 same_number : (x y : Symbol) → (y.number == x.number) ≡ true → y ≡ x
 same_number x y e = grind arith
@@ -107,19 +118,61 @@ counts_here x (Closing (Blocks y)) e = ap (λ (z : Symbol). Closing (Blocks z)) 
 counts_here x line e = absurd (cc)
 
 counts_by : (x : Symbol) (line : Line) (lines : List Line) (b : Bool) → counts_blocks x line ≡ b → (list_any (counts_blocks x) lines ≡ true → Counts lines x) → (b || list_any (counts_blocks x) lines) ≡ true → Counts (line ∷ lines) x
-counts_by x line lines true is rest e = (0, line, refl, counts_here x line is)
-counts_by x line lines false is rest e = let r = rest e in (suc r.0, r.1, r.2, r.3)
+counts_by x line lines true is rest e = (0, ap (λ (l : Line). Some l) (counts_here x line is))
+counts_by x line lines false is rest e = let r = rest e in (suc r.0, r.1)
 
 some_counts : (x : Symbol) (lines : List Line) → list_any (counts_blocks x) lines ≡ true → Counts lines x
 some_counts x [] e = absurd (cc)
 some_counts x (line ∷ lines) e = counts_by x line lines (counts_blocks x line) refl (some_counts x lines) e
 
-pub counted_said : (P : Instance) (w : Rosters) (g : Log) (statements : List Statement) (i : ℕ) (x : Symbol) → IsReason P w g statements → slice_get statements i ≡ Some (Counted x)
-    → Counts g.lines x × BlocksHold P x
-counted_said P w g statements i x is got =
-    let hold = those_hold (IsCounted P g.lines) (symbols P) is.counted is.are_counted in
-    let has = in_reason P w g.named is.lone (IsCounted P g.lines) is.counted i x hold (subst (λ (l : List Statement). slice_get l i ≡ Some (Counted x)) is.said got) in
-    (some_counts x g.lines has.0, has.1)
+pub counted_said : CountedAreLeavesOf
+counted_said P w g statements x known is there =
+    let counted = counted_statements P g.lines in
+    let h = subst (λ (l : List Statement). Contains l (Counted x)) is.2 there in
+    let behind = behind_one (first_statement w g.named) (map (rule_statement P is.0) g.named ++ counted) x (first_uncounted w g.named) h in
+    let c = counted_in P g.lines 0 (shift_count P + 1) x (behind_rules P is.0 g.named counted x behind) in
+    let b = and_parts (list_any (counts_blocks x) g.lines) (is_misfit P x) c in
+    (some_counts x g.lines b.0, (misfits_are_leaves P x).0 b.1)
 
-pub fill_rules_said : FillRulesAreSaid
-fill_rules_said P R counted = named_rules P None R (map (λ (x : Symbol). Counted x) counted) (no_rules counted)
+-- one
+
+abbrev pub IsOne : (List Statement → Type 0) → Type 0
+IsOne Said = (a b : List Statement) → Said a → Said b → a ≡ b
+
+lone_one : (P : Instance) (o : Opening) (lines : List Line) (a b : Option Turn) → IsLoneTurn P o lines a → IsLoneTurn P o lines b → a ≡ b
+lone_one P Full lines a b is other = is ∙ sym other
+lone_one P (Turned t) lines None None is other = refl
+lone_one P (Turned t) lines None (Some u) is other = absurd (other.1 is)
+lone_one P (Turned t) lines (Some u) None is other = absurd (is.1 other)
+lone_one P (Turned t) lines (Some u) (Some v) is other = ap (λ (x : Turn). Some x) (is.0 ∙ sym other.0)
+
+one_by : (n : ℕ) (P : Instance) (w : Rosters) (g : Log) → IsOne (IsSaidBy n P w g)
+one_by zero P w g a b is other =
+    is.2 ∙ ap (λ (l : Option Turn). reason_statements P w g.named l (counted_statements P g.lines)) (lone_one P g.opening g.lines is.0 other.0 is.1 other.1) ∙ sym other.2
+one_by (suc n) P w g a b is other = is ∙ sym other
+
+pub logs_say_one : LogsSayOne
+logs_say_one P w g a b is other = one_by (count_by is_open g.lines) P w g a b is other
+
+pub then_one : (First Second : List Statement → Type 0) → IsOne First → IsOne Second → IsOne (Then First Second)
+then_one First Second one two a b is other =
+    is.4 ∙ ap (λ l. l ++ is.1) (one is.0 other.0 is.2 other.2) ∙ ap (λ l. other.0 ++ l) (two is.1 other.1 is.3 other.3) ∙ sym other.4
+
+pub these_one : (these : List Statement) → IsOne (Are these)
+these_one these a b is other = is ∙ sym other
+
+size_one : (P : Instance) (m : ℕ) (g : Log) → IsOne (IsSaidOfSize P m g)
+size_one P m g a b is other =
+    is.2 ∙ ap (map (λ s. OfSize m s)) (logs_say_one (with_weeks P m) (Weeks m) g is.0 other.0 is.1 other.1) ∙ sym other.2
+
+last_one : (P : Instance) (low : ℕ) (before : List Log) (last : Option Log) → IsOne (IsSaidOfLast P low before last)
+last_one P low before None = these_one []
+last_one P low before (Some last) = then_one _ _ (size_one P (low + length before) last) (these_one _)
+
+end_one : (P : Instance) (low m : ℕ) (end : StaffEnd) → IsOne (IsSaidOfEnd P low m end)
+end_one P low m (Ends.Least s) = these_one _
+end_one P low m Ends.NoneTo = these_one _
+end_one P low m (Ends.Undecided g) = then_one _ _ (these_one _) (size_one P m g)
+
+pub staffs_say_one : StaffsSayOne
+staffs_say_one P run a b is other = then_one _ _ (end_one P run.low _ run.end) (last_one P run.low _ _) a b is other

@@ -1,33 +1,21 @@
 -- Which sentences there are.
 use Rattle.std.proofs.Common.{◌≡◌, ℕ, zero, suc, ◌+◌, ◌<◌, ◌≤◌, List, [], ◌∷◌, ◌++◌, length, map, Bool, true, false, cond, refl, ap, sym, subst, ◌∙◌, arith, inl, inr}
-use Rattle.std.specs.Prelude.{Contains, filter, Option, Some, None, nat_lt, slice_get, slice_index_or, position}
+use Rattle.std.specs.Prelude.{Contains, filter, slice_index_or}
 use Rattle.std.specs.List.{flat_map, range_with_len}
 use Rattle.std.proofs.lemmas.Bool.{false≢true}
 use Rattle.std.proofs.lemmas.List.{append-nil}
 use Rattle.std.proofs.lemmas.List.Elements.{filter-append, Contains-append_left, Contains-append_right, Contains-append_cases}
 use Rattle.rwsp_terms.specs.declared.data.Symbol.{Symbol}
-use Rattle.rwsp_terms.specs.declared.data.Class.{Class}
-use Rattle.rwsp_terms.specs.declared.data.Class.TheVariants as Classes
 use Rattle.rwsp_terms.specs.Instance.{Instance, shift_count, symbol_numbered, off_symbol}
 use Rattle.rwsp_terms.specs.Rules.{rules}
 use Rattle.refutation_terms.specs.BlocksLeaf.{BlocksHold}
 use Rattle.rwsp_file.specs.declared.long_numbers.LongNumber.{LongNumber}
 use Rattle.plain_words.specs.declared.sentence.Sentence.{Sentence}
-use Rattle.plain_words.specs.declared.sentence.Sentence.TheVariants.{Size, Hours, OfRule, CrossedBlocks, LongBlocks, TwicePair, TwiceTriple, CrossedDemand, LargeDemand, LargeDay, NumericName, Counted}
-use Rattle.plain_words.specs.Sentences.{said_if, crossed_blocks, long_blocks, shift_slips, twice_pair, twice_triple, pair_slips, triple_slips, pair_slips_at, triple_slips_at, is_same_pair, is_same_triple, demand_slips, day_slips, slips, counted_if, counted, rule_sentences, problem_sentences}
+use Rattle.plain_words.specs.declared.sentence.Sentence.TheVariants.{Size, Hours, OfRule, OfSlip, NumericName, Counted}
+use Rattle.plain_words.specs.Sentences.{slips, counted_if, counted, rule_sentences, problem_sentences}
 use Rattle.plain_words.specs.Counting.{is_misfit}
 use Rattle.plain_words.specs.Laws.{says_rule, RulesAreSaidOnce, CountedAreLeaves}
 use Rattle.plain_words.proofs.Misfits.{misfits_are_leaves}
-
--- a sentence that says neither a rule nor what is counted
-abbrev is_other : Sentence → Bool
-is_other (OfRule n) = false
-is_other (Counted x) = false
-is_other s = true
-
--- a test that no such sentence passes
-abbrev Skips : (Sentence → Bool) → Type 0
-Skips q = (s : Sentence) → is_other s ≡ true → q s ≡ false
 
 abbrev says_counted : Sentence → Bool
 says_counted (Counted x) = true
@@ -37,86 +25,30 @@ says_counted s = false
 both_none : (q : Sentence → Bool) (xs ys : List Sentence) → filter q xs ≡ [] → filter q ys ≡ [] → filter q (xs ++ ys) ≡ []
 both_none q xs ys none other = filter-append q xs ys ∙ ap (λ l. l ++ filter q ys) none ∙ other
 
-said_none : (q : Sentence → Bool) (b : Bool) (s : Sentence) → q s ≡ false → filter q (said_if b s) ≡ []
-said_none q true s is = ap (λ t. cond t (s ∷ []) []) is
-said_none q false s is = refl
+one_none : (q : Sentence → Bool) (s : Sentence) (xs : List Sentence) → q s ≡ false → filter q (s ∷ xs) ≡ filter q xs
+one_none q s xs is = ap (λ t. cond t (s ∷ filter q xs) (filter q xs)) is
+
+-- none of those that a list names
+named_none : {X : Type 0} (q : Sentence → Bool) (v : X → Sentence) → ((x : X) → q (v x) ≡ false) → (xs : List X) → filter q (map v xs) ≡ []
+named_none q v fails [] = refl
+named_none q v fails (x ∷ xs) = one_none q (v x) (map v xs) (fails x) ∙ named_none q v fails xs
+
+counted_none : (q : Sentence → Bool) (b : Bool) (x : Symbol) → q (Counted x) ≡ false → filter q (cond b (Counted x ∷ []) []) ≡ []
+counted_none q true x is = one_none q (Counted x) [] is
+counted_none q false x is = refl
 
 pieces_none : (q : Sentence → Bool) (g : ℕ → List Sentence) (a n : ℕ) → ((k : ℕ) → filter q (g k) ≡ []) → filter q (flat_map g (range_with_len a n)) ≡ []
 pieces_none q g a zero none = refl
 pieces_none q g a (suc n) none = both_none q (g a) (flat_map g (range_with_len (a + 1) n)) (none a) (pieces_none q g (a + 1) n none)
 
-names_none : (q : Sentence → Bool) → Skips q → (names : List LongNumber) → filter q (map NumericName names) ≡ []
-names_none q skips [] = refl
-names_none q skips (n ∷ names) = both_none q (NumericName n ∷ []) (map NumericName names) (said_none q true (NumericName n) (skips (NumericName n) refl)) (names_none q skips names)
-
-twice_pair_none : (q : Sentence → Bool) → Skips q → (k : ℕ) (place : Option ℕ) → filter q (twice_pair k place) ≡ []
-twice_pair_none q skips k None = refl
-twice_pair_none q skips k (Some i) = said_none q (nat_lt i k) (TwicePair i k) (skips (TwicePair i k) refl)
-
-twice_triple_none : (q : Sentence → Bool) → Skips q → (k : ℕ) (place : Option ℕ) → filter q (twice_triple k place) ≡ []
-twice_triple_none q skips k None = refl
-twice_triple_none q skips k (Some i) = said_none q (nat_lt i k) (TwiceTriple i k) (skips (TwiceTriple i k) refl)
-
-pair_none : (q : Sentence → Bool) → Skips q → (P : Instance) (k : ℕ) (x : Option (Symbol × Symbol)) → filter q (pair_slips P k x) ≡ []
-pair_none q skips P k None = refl
-pair_none q skips P k (Some x) = twice_pair_none q skips k (position (is_same_pair x) P.pairs)
-
-triple_none : (q : Sentence → Bool) → Skips q → (P : Instance) (k : ℕ) (x : Option (Symbol × Symbol × Symbol)) → filter q (triple_slips P k x) ≡ []
-triple_none q skips P k None = refl
-triple_none q skips P k (Some x) = twice_triple_none q skips k (position (is_same_triple x) P.triples)
-
-crossed_none : (q : Sentence → Bool) → Skips q → (P : Instance) (c : Class) → filter q (crossed_blocks P c) ≡ []
-crossed_none q skips P c = said_none q _ (CrossedBlocks c) (skips (CrossedBlocks c) refl)
-
-shift_none : (q : Sentence → Bool) → Skips q → (P : Instance) (x : ℕ) → filter q (shift_slips P x) ≡ []
-shift_none q skips P x = both_none q (crossed_blocks P (Classes.Shift (symbol_numbered x))) (long_blocks P x) (crossed_none q skips P (Classes.Shift (symbol_numbered x))) (said_none q _ (LongBlocks x) (skips (LongBlocks x) refl))
-
-demand_none : (q : Sentence → Bool) → Skips q → (P : Instance) (j x : ℕ) → filter q (demand_slips P j x) ≡ []
-demand_none q skips P j x = both_none q (said_if _ (CrossedDemand j x)) (said_if _ (LargeDemand j x)) (said_none q _ (CrossedDemand j x) (skips (CrossedDemand j x) refl)) (said_none q _ (LargeDemand j x) (skips (LargeDemand j x) refl))
-
-day_none : (q : Sentence → Bool) → Skips q → (P : Instance) (j : ℕ) → filter q (day_slips P j) ≡ []
-day_none q skips P j = both_none q (flat_map (demand_slips P j) (range_with_len 1 (shift_count P))) (said_if _ (LargeDay j)) (pieces_none q (demand_slips P j) 1 (shift_count P) (demand_none q skips P j)) (said_none q _ (LargeDay j) (skips (LargeDay j) refl))
-
-slips_none : (q : Sentence → Bool) → Skips q → (P : Instance) → filter q (slips P) ≡ []
-slips_none q skips P =
-    let a = flat_map (shift_slips P) (range_with_len 1 (shift_count P)) in
-    let b = crossed_blocks P Classes.Off in
-    let c = crossed_blocks P Classes.Work in
-    let d = flat_map (pair_slips_at P) (range_with_len 0 (length P.pairs)) in
-    let e = flat_map (triple_slips_at P) (range_with_len 0 (length P.triples)) in
-    let f = flat_map (day_slips P) (range_with_len 1 P.days) in
-    let first = pieces_none q (shift_slips P) 1 (shift_count P) (shift_none q skips P) in
-    let pairs = pieces_none q (pair_slips_at P) 0 (length P.pairs) (λ k. pair_none q skips P k (slice_get P.pairs k)) in
-    let triples = pieces_none q (triple_slips_at P) 0 (length P.triples) (λ k. triple_none q skips P k (slice_get P.triples k)) in
-    let days = pieces_none q (day_slips P) 1 P.days (day_none q skips P) in
-    let two = both_none q a b first (crossed_none q skips P Classes.Off) in
-    let three = both_none q (a ++ b) c two (crossed_none q skips P Classes.Work) in
-    let four = both_none q (a ++ b ++ c) d three pairs in
-    let five = both_none q (a ++ b ++ c ++ d) e four triples in
-    both_none q (a ++ b ++ c ++ d ++ e) f five days
-
 -- Rules.
-
-rule_skips : Skips says_rule
-rule_skips Size is = refl
-rule_skips Hours is = refl
-rule_skips (OfRule n) is = absurd (false≢true is)
-rule_skips (CrossedBlocks c) is = refl
-rule_skips (LongBlocks x) is = refl
-rule_skips (TwicePair i k) is = refl
-rule_skips (TwiceTriple i k) is = refl
-rule_skips (CrossedDemand j x) is = refl
-rule_skips (LargeDemand j x) is = refl
-rule_skips (LargeDay j) is = refl
-rule_skips (NumericName n) is = refl
-rule_skips (Counted x) is = refl
 
 rules_kept : (a n : ℕ) → filter says_rule (map OfRule (range_with_len a n)) ≡ map OfRule (range_with_len a n)
 rules_kept a zero = refl
 rules_kept a (suc n) = ap (λ l. OfRule a ∷ l) (rules_kept (a + 1) n)
 
 counted_no_rule : (P : Instance) (x : Symbol) → filter says_rule (counted_if P x) ≡ []
-counted_no_rule P x = said_none says_rule (is_misfit P x) (Counted x) refl
+counted_no_rule P x = counted_none says_rule (is_misfit P x) x refl
 
 all_counted_no_rule : (P : Instance) → filter says_rule (counted P) ≡ []
 all_counted_no_rule P =
@@ -130,31 +62,14 @@ pub rules_are_said_once : RulesAreSaidOnce
 rules_are_said_once P names =
     let front = Size ∷ Hours ∷ [] in
     let said = rule_sentences P in
+    let slipped = map OfSlip (slips P) in
     let named = map NumericName names in
-    none_behind says_rule (front ++ said ++ slips P ++ named) (counted P) (all_counted_no_rule P)
-    ∙ none_behind says_rule (front ++ said ++ slips P) named (names_none says_rule rule_skips names)
-    ∙ none_behind says_rule (front ++ said) (slips P) (slips_none says_rule rule_skips P)
+    none_behind says_rule (front ++ said ++ slipped ++ named) (counted P) (all_counted_no_rule P)
+    ∙ none_behind says_rule (front ++ said ++ slipped) named (named_none says_rule NumericName (λ n. refl) names)
+    ∙ none_behind says_rule (front ++ said) slipped (named_none says_rule OfSlip (λ s. refl) (slips P))
     ∙ filter-append says_rule front said ∙ rules_kept 1 (length (rules P))
 
 -- Counting.
-
-counted_skips : Skips says_counted
-counted_skips Size is = refl
-counted_skips Hours is = refl
-counted_skips (OfRule n) is = refl
-counted_skips (CrossedBlocks c) is = refl
-counted_skips (LongBlocks x) is = refl
-counted_skips (TwicePair i k) is = refl
-counted_skips (TwiceTriple i k) is = refl
-counted_skips (CrossedDemand j x) is = refl
-counted_skips (LargeDemand j x) is = refl
-counted_skips (LargeDay j) is = refl
-counted_skips (NumericName n) is = refl
-counted_skips (Counted x) is = absurd (false≢true is)
-
-rules_not_counted : (a n : ℕ) → filter says_counted (map OfRule (range_with_len a n)) ≡ []
-rules_not_counted a zero = refl
-rules_not_counted a (suc n) = rules_not_counted (a + 1) n
 
 -- what passes isn't in a list of which nothing does
 later : (q : Sentence → Bool) (x : Sentence) (xs : List Sentence) (t : Bool) → q x ≡ t → filter q (x ∷ xs) ≡ [] → (filter q xs ≡ [] → ⊥) → ⊥
@@ -205,12 +120,12 @@ abbrev counted_of : Sentence → Symbol
 counted_of (Counted x) = x
 counted_of s = off_symbol
 
-said_there : (b : Bool) (s t : Sentence) → Contains (said_if b s) t → (b ≡ true) × (s ≡ t)
+said_there : (b : Bool) (s t : Sentence) → Contains (cond b (s ∷ []) []) t → (b ≡ true) × (s ≡ t)
 said_there true s t (zero, less, is) = (refl, is)
 said_there true s t (suc k, less, is) = absurd (omega (arith, less))
 said_there false s t h = absurd (omega (arith, h.1))
 
-there_said : (b : Bool) (s : Sentence) → b ≡ true → Contains (said_if b s) s
+there_said : (b : Bool) (s : Sentence) → b ≡ true → Contains (cond b (s ∷ []) []) s
 there_said true s is = (0, omega arith, refl)
 there_said false s is = absurd (false≢true is)
 
@@ -242,24 +157,25 @@ not_in : (xs : List Sentence) (x : Symbol) → filter says_counted xs ≡ [] →
 not_in xs x none h = not_there says_counted xs (Counted x) h.0 h.1 h.2 refl none
 
 -- no sentence but those that are counted
-others_none : (P : Instance) (names : List LongNumber) → filter says_counted ((Size ∷ Hours ∷ []) ++ rule_sentences P ++ slips P ++ map NumericName names) ≡ []
+others_none : (P : Instance) (names : List LongNumber) → filter says_counted ((Size ∷ Hours ∷ []) ++ rule_sentences P ++ map OfSlip (slips P) ++ map NumericName names) ≡ []
 others_none P names =
     let front = Size ∷ Hours ∷ [] in
     let said = rule_sentences P in
-    let two = both_none says_counted front said refl (rules_not_counted 1 (length (rules P))) in
-    let three = both_none says_counted (front ++ said) (slips P) two (slips_none says_counted counted_skips P) in
-    both_none says_counted (front ++ said ++ slips P) (map NumericName names) three (names_none says_counted counted_skips names)
+    let slipped = map OfSlip (slips P) in
+    let two = both_none says_counted front said refl (named_none says_counted OfRule (λ n. refl) (range_with_len 1 (length (rules P)))) in
+    let three = both_none says_counted (front ++ said) slipped two (named_none says_counted OfSlip (λ s. refl) (slips P)) in
+    both_none says_counted (front ++ said ++ slipped) (map NumericName names) three (named_none says_counted NumericName (λ n. refl) names)
 
 only_counted : (P : Instance) (names : List LongNumber) (x : Symbol) → Contains (problem_sentences P names) (Counted x) → Contains (counted P) (Counted x)
 only_counted P names x h =
-    let others = (Size ∷ Hours ∷ []) ++ rule_sentences P ++ slips P ++ map NumericName names in
+    let others = (Size ∷ Hours ∷ []) ++ rule_sentences P ++ map OfSlip (slips P) ++ map NumericName names in
     elim (Contains-append_cases others (counted P) (Counted x) h) [
       | inl here ↦ absurd (not_in others x (others_none P names) here)
       | inr last ↦ last
     ]
 
 counted_in : (P : Instance) (names : List LongNumber) (s : Sentence) → Contains (counted P) s → Contains (problem_sentences P names) s
-counted_in P names s h = Contains-append_right ((Size ∷ Hours ∷ []) ++ rule_sentences P ++ slips P ++ map NumericName names) (counted P) s h
+counted_in P names s h = Contains-append_right ((Size ∷ Hours ∷ []) ++ rule_sentences P ++ map OfSlip (slips P) ++ map NumericName names) (counted P) s h
 
 pub counted_are_leaves : CountedAreLeaves
 counted_are_leaves P names x known = (

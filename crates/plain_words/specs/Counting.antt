@@ -1,5 +1,5 @@
 -- What counting days alone says against a roster: which symbols have no number of blocks that fits, and why, in words.
-use Rattle.std.specs.Prelude.{ℕ, zero, suc, ◌+◌, ◌-◌, ◌*◌, ◌/◌, List, ◌++◌, Bool, ◌&&◌, ◌==◌, not, nat_lt, nat_le, min, pos, codes, if◌then◌else◌}
+use Rattle.std.specs.Prelude.{ℕ, zero, suc, ◌+◌, ◌-◌, ◌*◌, ◌/◌, List, ◌++◌, Bool, ◌&&◌, ◌==◌, not, nat_lt, nat_le, min, pos, if◌then◌else◌}
 use Rattle.std.specs.Fmt.{decimal}
 use Rattle.std.specs.Int.Signed.{le_z}
 use Rattle.std.specs.List.{list_any, range_with_len, sum_by}
@@ -9,8 +9,10 @@ use Rattle.rwsp_terms.specs.declared.data.Class.{Class}
 use Rattle.rwsp_terms.specs.declared.data.Class.TheVariants.{Shift, Off, Work}
 use Rattle.rwsp_terms.specs.Instance.{Instance, bounds, cells, shift_demand, column_least, column_greatest, symbol_numbered}
 use Rattle.refutation_terms.specs.BlocksLeaf.{least_days, most_days, shortest}
-use Rattle.plain_words.specs.Words.{days_words}
+use Rattle.plain_words.specs.Words.{count_words, days_words}
 use Rattle.plain_words.specs.RuleWords.{class_words}
+use Rattle.plain_words.specs.Fixed.{fixed}
+use Rattle.plain_words.specs.declared.pieces.TheConstants.{AND_ALSO, AND_AT_MOST, AT_LEAST, BLOCK, BLOCKS, CANNOT_BE_MADE, COLON, COMMA, DAYS_OFF, DEMAND_LEAVES, DEMAND_NEEDS, FIXED_ROUNDS, HAS, HAVE, HAVE_AT_LEAST, HAVE_AT_MOST, MAKE, NO_BLOCK, OF, OF_WORK_THERE_ARE, ROUNDS, ROUNDS_TO, THERE_ARE, TO, UNLIKE}
 
 -- The tests of a leaf that counts blocks, as they are computed.
 
@@ -37,26 +39,19 @@ is_misfit P x = not (list_any (blocks_fit P x.number) (range_with_len 0 (cells P
 
 -- Words.
 
--- in front of a greatest number that is below the least
-unfoldable pub crossed_front : ℕ → List ℕ
-crossed_front least = codes "at least " ++ decimal least ++ codes " and at most "
-
--- from a least number to a greatest, which may be below it
-unfoldable pub span_front : Bounds → List ℕ
-span_front b =
-    if nat_lt b.least b.greatest then decimal b.least ++ codes " to "
-    else crossed_front b.least
-
--- so many days
+-- so many days, from a least number to a greatest, which may be below it
 unfoldable pub span_words : Bounds → List ℕ
-span_words b = if b.least == b.greatest then days_words b.least else span_front b ++ days_words b.greatest
+span_words b =
+    if b.least == b.greatest then days_words b.least
+    else if nat_lt b.least b.greatest then decimal b.least ++ fixed TO.now ++ days_words b.greatest
+    else fixed AT_LEAST.now ++ decimal b.least ++ fixed AND_AT_MOST.now ++ days_words b.greatest
 
 -- a number of blocks
 unfoldable pub blocks_words : ℕ → List ℕ
-blocks_words k = decimal k ++ (if k == 1 then codes " block" else codes " blocks")
+blocks_words k = count_words k BLOCK.now BLOCKS.now
 
 abbrev pub have_words : ℕ → List ℕ
-have_words k = if k == 1 then codes " has" else codes " have"
+have_words k = if k == 1 then fixed HAS.now else fixed HAVE.now
 
 -- the lengths of the blocks of a class, of at least one day
 abbrev pub lengths : Instance → Class → Bounds
@@ -73,18 +68,18 @@ are_few b days = nat_lt (room_for b days.greatest * b.greatest) days.least
 -- `4 blocks have at most 12 days, and 5 at least 15`
 unfoldable pub room_words : (room : ℕ) → Bounds → List ℕ
 room_words room b =
-    blocks_words room ++ have_words room ++ codes " at most " ++ days_words (room * b.greatest) ++ codes ", and "
-    ++ decimal (room + 1) ++ codes " at least " ++ decimal ((room + 1) * b.least)
+    blocks_words room ++ have_words room ++ fixed HAVE_AT_MOST.now ++ days_words (room * b.greatest) ++ fixed AND_ALSO.now
+    ++ decimal (room + 1) ++ fixed HAVE_AT_LEAST.now ++ decimal ((room + 1) * b.least)
 
 -- `14 days of N cannot be made of blocks of 3 days: ` and that
 unfoldable pub misfit_words : Instance → Class → Bounds → List ℕ
 misfit_words P c days =
-    span_words days ++ class_words P c ++ codes " cannot be made of blocks of " ++ span_words (lengths P c)
-    ++ codes ": " ++ room_words (room_for (lengths P c) days.greatest) (lengths P c)
+    span_words days ++ class_words P c ++ fixed CANNOT_BE_MADE.now ++ span_words (lengths P c)
+    ++ fixed COLON.now ++ room_words (room_for (lengths P c) days.greatest) (lengths P c)
 
 -- `no block has at least 5 and at most 3 days of work`
 unfoldable pub no_block_words : Instance → Class → List ℕ
-no_block_words P c = codes "no block has " ++ span_words (lengths P c) ++ class_words P c
+no_block_words P c = fixed NO_BLOCK.now ++ span_words (lengths P c) ++ class_words P c
 
 -- how many blocks of these lengths make so many days: as many as reach the least, and as there is room for
 abbrev pub blocks_for : Bounds → Bounds → Bounds
@@ -96,13 +91,13 @@ blocks_for b days = record {
 -- a range of numbers of blocks
 unfoldable pub block_range_words : Bounds → List ℕ
 block_range_words k =
-    if k.least == k.greatest then blocks_words k.least else decimal k.least ++ codes " to " ++ blocks_words k.greatest
+    if k.least == k.greatest then blocks_words k.least else decimal k.least ++ fixed TO.now ++ blocks_words k.greatest
 
 -- `8 days off make 4 blocks of 2 days`
 unfoldable pub made_words : Instance → Class → Bounds → List ℕ
 made_words P c days =
-    span_words days ++ class_words P c ++ codes " make " ++ block_range_words (blocks_for (lengths P c) days)
-    ++ codes " of " ++ span_words (lengths P c)
+    span_words days ++ class_words P c ++ fixed MAKE.now ++ block_range_words (blocks_for (lengths P c) days)
+    ++ fixed OF.now ++ span_words (lengths P c)
 
 -- Shifts.
 
@@ -148,59 +143,43 @@ rounds P = record {
   greatest = (lengths P Off).greatest + (lengths P Work).greatest;
 }
 
--- `k blocks of days off and of work take 5k days, and there are 28`
-unfoldable pub fixed_rounds_words : (length days : ℕ) → List ℕ
-fixed_rounds_words length days =
-    codes "k blocks of days off and of work take " ++ decimal length ++ codes "k days, and there are " ++ decimal days
-
+-- `k blocks of days off and of work take 5k days, and there are 28`, where all are of one length; or
 -- `5 blocks of days off and of work have at most 25 days, 6 at least 30, and there are 28`
-unfoldable pub ranging_rounds_words : (room : ℕ) → Bounds → (days : ℕ) → List ℕ
-ranging_rounds_words room b days =
-    blocks_words room ++ codes " of days off and of work" ++ have_words room ++ codes " at most "
-    ++ days_words (room * b.greatest) ++ codes ", " ++ decimal (room + 1) ++ codes " at least "
-    ++ decimal ((room + 1) * b.least) ++ codes ", and there are " ++ decimal days
-
-unfoldable pub rounds_words : Bounds → (days : ℕ) → List ℕ
-rounds_words b days =
-    if b.least == b.greatest then fixed_rounds_words b.least days
-    else ranging_rounds_words (room_for b days) b days
-
--- the demand needs more days of work than there are
-unfoldable pub needed_words : Instance → List ℕ
-needed_words P =
-    codes "the demand needs " ++ days_words (needed_days P) ++ codes " of work, and there are " ++ decimal (cells P)
-
--- the demand leaves at least more days off than at most
-unfoldable pub left_words : Instance → List ℕ
-left_words P = codes "the demand leaves " ++ span_words (off_days P) ++ codes " off"
+unfoldable pub rounds_words : Bounds → (room days : ℕ) → List ℕ
+rounds_words b room days =
+    if b.least == b.greatest
+    then fixed FIXED_ROUNDS.now ++ decimal b.least ++ fixed ROUNDS_TO.now ++ decimal days
+    else blocks_words room ++ fixed ROUNDS.now ++ have_words room ++ fixed HAVE_AT_MOST.now
+    ++ days_words (room * b.greatest) ++ fixed COMMA.now ++ decimal (room + 1) ++ fixed HAVE_AT_LEAST.now
+    ++ decimal ((room + 1) * b.least) ++ fixed THERE_ARE.now ++ decimal days
 
 -- days off, days of work and all days make different numbers of blocks
 unfoldable pub unlike_words : Instance → List ℕ
 unlike_words P =
-    made_words P Off (off_days P) ++ codes ", " ++ made_words P Work (work_days P) ++ codes ", and "
-    ++ days_words (cells P) ++ codes " make " ++ block_range_words (blocks_for (rounds P) (all_days P))
-    ++ codes " of each; but round the cycle there are as many blocks of one as of the other"
-
--- why no number of blocks has as many days off, and days of work between, as there have to be: the first of these that
--- says it. Lengths or demands that no number meets come first
-unfoldable pub crossed_words_or : Instance → List ℕ → List ℕ
-crossed_words_or P words =
-    if nat_lt (cells P) (needed_days P) then needed_words P
-    else if nat_lt (off_days P).greatest (off_days P).least then left_words P
-    else if nat_lt (lengths P Off).greatest (lengths P Off).least then no_block_words P Off
-    else if nat_lt (lengths P Work).greatest (lengths P Work).least then no_block_words P Work
-    else words
+    made_words P Off (off_days P) ++ fixed COMMA.now ++ made_words P Work (work_days P) ++ fixed AND_ALSO.now
+    ++ days_words (cells P) ++ fixed MAKE.now ++ block_range_words (blocks_for (rounds P) (all_days P))
+    ++ fixed UNLIKE.now
 
 -- the numbers of blocks of both together, of days off, of work, or all three
 unfoldable pub turns_words : Instance → List ℕ
 turns_words P =
-    if are_few (rounds P) (all_days P) then rounds_words (rounds P) (cells P)
+    if are_few (rounds P) (all_days P) then rounds_words (rounds P) (room_for (rounds P) (cells P)) (cells P)
     else if are_few (lengths P Off) (off_days P) then misfit_words P Off (off_days P)
     else if are_few (lengths P Work) (work_days P) then misfit_words P Work (work_days P)
     else unlike_words P
 
+-- why no number of blocks has as many days off, and days of work between, as there have to be: the first of these that
+-- says it. The demand may need more days of work than there are, or leave more days off at least than at most; and
+-- lengths that no number meets come before numbers of blocks
 unfoldable pub off_misfit_words : Instance → List ℕ
-off_misfit_words P = crossed_words_or P (turns_words P)
+off_misfit_words P =
+    if nat_lt (cells P) (needed_days P)
+    then fixed DEMAND_NEEDS.now ++ days_words (needed_days P) ++ fixed OF_WORK_THERE_ARE.now ++ decimal (cells P)
+    else if nat_lt (off_days P).greatest (off_days P).least
+    then fixed DEMAND_LEAVES.now ++ span_words (off_days P) ++ fixed DAYS_OFF.now
+    else if nat_lt (lengths P Off).greatest (lengths P Off).least then no_block_words P Off
+    else if nat_lt (lengths P Work).greatest (lengths P Work).least then no_block_words P Work
+    else turns_words P
 
 -- why no number of blocks of the symbol fits
 unfoldable pub counted_words : Instance → Symbol → List ℕ

@@ -1,5 +1,5 @@
 -- A rule in words.
-use Rattle.std.specs.Prelude.{ℕ, ◌-◌, List, [], ◌∷◌, ◌++◌, slice_get, Option, Some, None, Bool, nat_lt, codes, if◌then◌else◌}
+use Rattle.std.specs.Prelude.{ℕ, ◌-◌, List, [], ◌++◌, slice_get, Option, Some, None, Bool, nat_lt, if◌then◌else◌}
 use Rattle.std.specs.Fmt.{decimal}
 use Rattle.std.specs.List.{find, flat_map, range_with_len}
 use Rattle.rwsp_terms.specs.declared.data.Bounds.{Bounds}
@@ -8,31 +8,34 @@ use Rattle.rwsp_terms.specs.declared.data.Class.{Class}
 use Rattle.rwsp_terms.specs.declared.data.Class.TheVariants.{Shift, Off, Work}
 use Rattle.rwsp_terms.specs.declared.data.Rule.{Rule}
 use Rattle.rwsp_terms.specs.declared.data.Rule.TheVariants.{MaxShift, MinShift, MaxOff, MinOff, MaxWork, MinWork, Pair, Triple, Day}
+use Rattle.rwsp_terms.specs.Rules.{rule_of}
 use Rattle.rwsp_terms.specs.Instance.{Instance, bounds, shift_count, shift_demand, column_least, column_greatest, name_of, symbol_numbered}
 use Rattle.plain_words.specs.Words.{days_words, weeks_words, range_words, name_words, symbol_words}
+use Rattle.plain_words.specs.Fixed.{fixed}
+use Rattle.plain_words.specs.declared.pieces.TheConstants.{AT_LEAST, AT_MOST, BLANK, COLON, COMMA, DAYS_OFF, DAY_FRONT, DOTS, FOR_OFF, IN_A_ROW, IS_CROSSED, NEEDS, NEVER, OF, OF_WORK, THEN}
 
 -- the days that the blocks of a class are made of
 unfoldable pub class_words : Instance → Class → List ℕ
-class_words P (Shift x) = codes " of " ++ name_words (name_of P x)
-class_words P Off = codes " off"
-class_words P Work = codes " of work"
+class_words P (Shift x) = fixed OF.now ++ name_words (name_of P x)
+class_words P Off = fixed DAYS_OFF.now
+class_words P Work = fixed OF_WORK.now
 
 -- `at most 4 days of work in a row`
 unfoldable pub most_words : Instance → Class → List ℕ
-most_words P c = codes "at most " ++ days_words (bounds P c).greatest ++ class_words P c ++ codes " in a row"
+most_words P c = fixed AT_MOST.now ++ days_words (bounds P c).greatest ++ class_words P c ++ fixed IN_A_ROW.now
 
 -- `at least 2 days off in a row`
 unfoldable pub least_words : Instance → Class → List ℕ
-least_words P c = codes "at least " ++ days_words (bounds P c).least ++ class_words P c ++ codes " in a row"
+least_words P c = fixed AT_LEAST.now ++ days_words (bounds P c).least ++ class_words P c ++ fixed IN_A_ROW.now
 
 -- `never N, then D`
 unfoldable pub pair_words : Instance → Symbol × Symbol → List ℕ
-pair_words P x = codes "never " ++ symbol_words P x.0 ++ codes ", then " ++ symbol_words P x.1
+pair_words P x = fixed NEVER.now ++ symbol_words P x.0 ++ fixed THEN.now ++ symbol_words P x.1
 
 -- `never N, then a day off, then D`
 unfoldable pub triple_words : Instance → Symbol × Symbol × Symbol → List ℕ
 triple_words P x =
-    codes "never " ++ symbol_words P x.0 ++ codes ", then " ++ symbol_words P x.1 ++ codes ", then "
+    fixed NEVER.now ++ symbol_words P x.0 ++ fixed THEN.now ++ symbol_words P x.1 ++ fixed THEN.now
     ++ symbol_words P x.2
 
 unfoldable pub pair_in_words : Instance → Option (Symbol × Symbol) → List ℕ
@@ -49,20 +52,18 @@ shift_words P x = name_words (name_of P (symbol_numbered x))
 
 -- what is demanded of a shift on a day, as `D 4 to 5, `
 unfoldable pub wanted_words : Instance → (j x : ℕ) → List ℕ
-wanted_words P j x = shift_words P x ++ 32 ∷ [] ++ range_words (shift_demand P x j) ++ codes ", "
+wanted_words P j x = shift_words P x ++ fixed BLANK.now ++ range_words (shift_demand P x j) ++ fixed COMMA.now
 
 -- of how many weeks the shifts leave the day off
 abbrev pub off_range : Instance → (j : ℕ) → Bounds
 off_range P j = record { least = P.weeks - column_greatest P j; greatest = P.weeks - column_least P j }
 
 -- what the shifts of a day leave for the day off; or that they need more weeks than there are
-unfoldable pub needs_words : (needed weeks : ℕ) → List ℕ
-needs_words needed weeks = codes "which needs " ++ decimal needed ++ codes " of " ++ weeks_words weeks
-
 unfoldable pub off_words : Instance → (j : ℕ) → List ℕ
 off_words P j =
-    if nat_lt P.weeks (column_least P j) then needs_words (column_least P j) P.weeks
-    else codes "off " ++ range_words (off_range P j)
+    if nat_lt P.weeks (column_least P j)
+    then fixed NEEDS.now ++ decimal (column_least P j) ++ fixed OF.now ++ weeks_words P.weeks
+    else fixed FOR_OFF.now ++ range_words (off_range P j)
 
 -- the least number that is demanded of a shift is above the greatest
 abbrev pub is_crossed : Instance → (j x : ℕ) → Bool
@@ -71,8 +72,8 @@ is_crossed P j x = nat_lt (shift_demand P x j).greatest (shift_demand P x j).lea
 -- `D 5..4: the least is above the greatest`
 unfoldable pub crossed_words : Instance → (j x : ℕ) → List ℕ
 crossed_words P j x =
-    shift_words P x ++ 32 ∷ [] ++ decimal (shift_demand P x j).least ++ codes ".."
-    ++ decimal (shift_demand P x j).greatest ++ codes ": the least is above the greatest"
+    shift_words P x ++ fixed BLANK.now ++ decimal (shift_demand P x j).least ++ fixed DOTS.now
+    ++ decimal (shift_demand P x j).greatest ++ fixed IS_CROSSED.now
 
 -- the first shift whose demand no number meets on a day
 abbrev pub first_crossed : Instance → (j : ℕ) → Option ℕ
@@ -84,7 +85,7 @@ demand_words P j None = flat_map (wanted_words P j) (range_with_len 1 (shift_cou
 demand_words P j (Some x) = crossed_words P j x
 
 unfoldable pub day_words : Instance → (j : ℕ) → List ℕ
-day_words P j = codes "day " ++ decimal j ++ codes ": " ++ demand_words P j (first_crossed P j)
+day_words P j = fixed DAY_FRONT.now ++ decimal j ++ fixed COLON.now ++ demand_words P j (first_crossed P j)
 
 -- the words of a rule
 unfoldable pub rule_words : Instance → Rule → List ℕ
@@ -97,3 +98,11 @@ rule_words P MinWork = least_words P Work
 rule_words P (Pair k) = pair_in_words P (slice_get P.pairs k)
 rule_words P (Triple k) = triple_in_words P (slice_get P.triples k)
 rule_words P (Day j) = day_words P j
+
+unfoldable pub rule_in_words : Instance → Option Rule → List ℕ
+rule_in_words P None = []
+rule_in_words P (Some r) = rule_words P r
+
+-- a rule by its number: `5: at most 4 days of work in a row`
+unfoldable pub numbered_words : Instance → ℕ → List ℕ
+numbered_words P k = decimal k ++ fixed COLON.now ++ rule_in_words P (rule_of P k)

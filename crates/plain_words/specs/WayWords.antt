@@ -1,84 +1,66 @@
--- Single changes in words.
-use Rattle.std.specs.Prelude.{ℕ, List, [], ◌∷◌, ◌++◌, length, Bool, ◌&&◌, true, false, ◌==◌, Option, Some, None, codes, if◌then◌else◌}
+-- Words of single changes that give a roster.
+use Rattle.std.specs.Prelude.{ℕ, ◌+◌, ◌-◌, List, [], ◌++◌, Bool, true, false, ◌==◌, ◌&&◌, if◌then◌else◌, slice_get}
 use Rattle.std.specs.Fmt.{decimal}
-use Rattle.std.specs.List.{flat_map}
 use Rattle.rwsp_terms.specs.declared.data.Bounds.{Bounds}
 use Rattle.rwsp_terms.specs.declared.data.Class.{Class}
 use Rattle.rwsp_terms.specs.declared.data.Class.TheVariants.{Shift, Off, Work}
-use Rattle.rwsp_terms.specs.declared.data.Rule.{Rule}
 use Rattle.rwsp_terms.specs.declared.data.Symbol.{Symbol}
 use Rattle.rwsp_terms.specs.Instance.{Instance, bounds, shift_demand, name_of}
-use Rattle.rwsp_terms.specs.Rules.{rule_of}
-use Rattle.plain_words.specs.declared.way.Change.{Change}
-use Rattle.plain_words.specs.declared.way.Change.TheVariants.{Longer, Shorter, Demand, Dropped}
-use Rattle.plain_words.specs.declared.way.Way.{Way}
-use Rattle.plain_words.specs.Words.{days_words, range_words, name_words}
-use Rattle.plain_words.specs.RuleWords.{rule_words}
+use Rattle.rwsp_model.specs.RuleNumbers.{place_of}
+use Rattle.ways_out.specs.declared.change.Change.{Change}
+use Rattle.ways_out.specs.declared.change.Change.TheVariants.{LongerBlocks, ShorterBlocks, LowerDemand, HigherDemand, DroppedPair, DroppedTriple}
+use Rattle.ways_out.specs.Loosened.{raised, lowered, changed_rule}
+use Rattle.plain_words.specs.Words.{count_words, days_words, range_words, name_words}
+use Rattle.plain_words.specs.RuleWords.{pair_in_words, triple_in_words}
+use Rattle.plain_words.specs.Fixed.{fixed}
+use Rattle.plain_words.specs.declared.pieces.TheConstants.{BLANK, BLOCK_OF, BLOCK_OFF, BLOCK_OF_WORK, CHANGES_LEFT, CHANGE_LEFT, CHANGE_THE, COLON, DROP, FROM_NUMBER, GREATEST, IN_PLACE_OF, LEAST, LET_DAY, LET_HAVE, MAYBE_NEARER, NO_CHANGE, NO_OTHER_CHANGE, TO}
 
 -- the blocks of a class
 unfoldable pub blocks_words : Instance → Class → List ℕ
-blocks_words P (Shift x) = codes " block of " ++ name_words (name_of P x)
-blocks_words P Off = codes " block of days off"
-blocks_words P Work = codes " block of work"
+blocks_words P (Shift x) = fixed BLOCK_OF.now ++ name_words (name_of P x)
+blocks_words P Off = fixed BLOCK_OFF.now
+blocks_words P Work = fixed BLOCK_OF_WORK.now
 
 -- `change the greatest block of work from 4 to 5 days`
 unfoldable pub length_words : Instance → (which : List ℕ) → Class → (from to : ℕ) → List ℕ
 length_words P which c from to =
-    codes "change the " ++ which ++ blocks_words P c ++ codes " from " ++ decimal from ++ codes " to " ++ days_words to
-
--- `let day 1 have 0 to 2 D`
-unfoldable pub widened_front : Instance → ℕ → Symbol → Bounds → List ℕ
-widened_front P j x to =
-    codes "let day " ++ decimal j ++ codes " have " ++ range_words to ++ codes " " ++ name_words (name_of P x)
+    fixed CHANGE_THE.now ++ fixed which ++ blocks_words P c ++ fixed FROM_NUMBER.now ++ decimal from ++ fixed TO.now
+    ++ days_words to
 
 -- `let day 1 have 0 to 2 D in place of 2`
-unfoldable pub widened_words : Instance → ℕ → Symbol → (from to : Bounds) → List ℕ
-widened_words P j x from to = widened_front P j x to ++ codes " in place of " ++ range_words from
+unfoldable pub widened_words : Instance → (j : ℕ) → Symbol → (from to : Bounds) → List ℕ
+widened_words P j x from to =
+    fixed LET_DAY.now ++ decimal j ++ fixed LET_HAVE.now ++ range_words to ++ fixed BLANK.now
+    ++ name_words (name_of P x) ++ fixed IN_PLACE_OF.now ++ range_words from
 
--- `drop this rule: never N, then D`
-unfoldable pub dropped_words : Instance → Rule → List ℕ
-dropped_words P r = codes "drop this rule: " ++ rule_words P r
-
--- a change of the rule
-unfoldable pub change_words : Instance → Option Rule → Change → List ℕ
-change_words P None change = []
-change_words P (Some r) (Longer c to) = length_words P (codes "greatest") c (bounds P c).greatest to
-change_words P (Some r) (Shorter c to) = length_words P (codes "least") c (bounds P c).least to
-change_words P (Some r) (Demand j x to) = widened_words P j x (shift_demand P x.number j) to
-change_words P (Some r) Dropped = dropped_words P r
+-- what so many steps of a change make of a number, or that a sequence is dropped
+unfoldable pub change_words : Instance → Change → (steps : ℕ) → List ℕ
+change_words P (LongerBlocks c) n =
+    length_words P GREATEST.now c (bounds P c).greatest ((bounds P c).greatest + n)
+change_words P (ShorterBlocks c) n = length_words P LEAST.now c (bounds P c).least ((bounds P c).least - n)
+change_words P (LowerDemand j x) n =
+    widened_words P j x (shift_demand P x.number j) (lowered n (shift_demand P x.number j))
+change_words P (HigherDemand j x) n =
+    widened_words P j x (shift_demand P x.number j) (raised n (shift_demand P x.number j))
+change_words P (DroppedPair k) n = fixed DROP.now ++ pair_in_words P (slice_get P.pairs k)
+change_words P (DroppedTriple k) n = fixed DROP.now ++ triple_in_words P (slice_get P.triples k)
 
 -- whether a nearer change was left open
 unfoldable pub nearest_words : Bool → List ℕ
 nearest_words true = []
-nearest_words false = codes "; maybe a nearer number is enough"
+nearest_words false = fixed MAYBE_NEARER.now
 
 -- `5: change the greatest block of work from 4 to 5 days`
-unfoldable pub way_words : Instance → Way → List ℕ
-way_words P w =
-    decimal w.rule ++ codes ": " ++ change_words P (rule_of P w.rule) w.change ++ nearest_words w.is_nearest
-    ++ 10 ∷ []
+unfoldable pub way_words : Instance → Change → (steps : ℕ) → (is_nearest : Bool) → List ℕ
+way_words P change n is_nearest =
+    decimal (place_of P (changed_rule change) + 1) ++ fixed COLON.now ++ change_words P change n
+    ++ nearest_words is_nearest
 
--- said before the changes, where there are some
-unfoldable pub ways_front : List Way → List ℕ
-ways_front [] = []
-ways_front (w ∷ ways) = codes "each of these changes alone gives a roster:" ++ 10 ∷ []
-
--- how many were left open
+-- how many changes were left open, if any
 unfoldable pub left_words : ℕ → List ℕ
-left_words n = decimal n ++ (if n == 1 then codes " change was left open; " else codes " changes were left open; ")
+left_words n = if n == 0 then [] else count_words n CHANGE_LEFT.now CHANGES_LEFT.now
 
-unfoldable pub left_front : ℕ → List ℕ
-left_front n = if n == 0 then [] else left_words n
-
--- that no other change gives a roster; no change does where there is no line in front and none was left open
-unfoldable pub no_other_words : (is_alone : Bool) → List ℕ
-no_other_words true = codes "no single change gives a roster" ++ 10 ∷ []
-no_other_words false = codes "no other single change gives a roster" ++ 10 ∷ []
-
--- said behind the changes, of which there are some or none
+-- that no other change gives a roster; no change does where none stands in front and none was left open
 unfoldable pub others_words : (is_first : Bool) → ℕ → List ℕ
-others_words is_first n = left_front n ++ no_other_words (is_first && (n == 0))
-
--- what is said of these changes, and of so many that were left open
-unfoldable pub ways_words : Instance → List Way → ℕ → List ℕ
-ways_words P ways n = ways_front ways ++ flat_map (way_words P) ways ++ others_words (length ways == 0) n
+others_words is_first n =
+    left_words n ++ (if is_first && (n == 0) then fixed NO_CHANGE.now else fixed NO_OTHER_CHANGE.now)

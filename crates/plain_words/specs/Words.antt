@@ -7,19 +7,23 @@ use Rattle.rwsp_terms.specs.declared.data.Bounds.{Bounds}
 use Rattle.rwsp_terms.specs.declared.data.Symbol.{Symbol}
 use Rattle.rwsp_terms.specs.Instance.{Instance, name_of}
 use Rattle.shown_names.specs.ShownNames.{shown}
+use Rattle.plain_words.specs.Fixed.{fixed}
+use Rattle.plain_words.specs.declared.pieces.TheConstants.{DAY, DAYS, DAY_OFF, QUOTE, TO, WEEK, WEEKS}
 
--- a number of days
+-- a number of things, by the words for one and for any other number
+unfoldable pub count_words : (n : ℕ) → (one many : List ℕ) → List ℕ
+count_words n one many = decimal n ++ (if n == 1 then fixed one else fixed many)
+
 unfoldable pub days_words : ℕ → List ℕ
-days_words n = decimal n ++ (if n == 1 then codes " day" else codes " days")
+days_words n = count_words n DAY.now DAYS.now
 
--- a number of weeks
 unfoldable pub weeks_words : ℕ → List ℕ
-weeks_words n = decimal n ++ (if n == 1 then codes " week" else codes " weeks")
+weeks_words n = count_words n WEEK.now WEEKS.now
 
 -- from a least number to a greatest
 unfoldable pub range_words : Bounds → List ℕ
 range_words b =
-    if b.least == b.greatest then decimal b.least else decimal b.least ++ codes " to " ++ decimal b.greatest
+    if b.least == b.greatest then decimal b.least else decimal b.least ++ fixed TO.now ++ decimal b.greatest
 
 -- a digit or a dot
 abbrev pub is_of_number : ℕ → Bool
@@ -31,8 +35,8 @@ is_like_words name = bytes_eq name (codes "off") || bytes_eq name (codes "work")
 
 -- a name in a sentence
 unfoldable pub name_words : List ℕ → List ℕ
-name_words name = if is_like_words name then codes "\"" ++ shown name ++ codes "\"" else shown name
+name_words name = if is_like_words name then fixed QUOTE.now ++ shown name ++ fixed QUOTE.now else shown name
 
 -- a shift, or a day off, in a sentence
 unfoldable pub symbol_words : Instance → Symbol → List ℕ
-symbol_words P x = if x.number == 0 then codes "a day off" else name_words (name_of P x)
+symbol_words P x = if x.number == 0 then fixed DAY_OFF.now else name_words (name_of P x)

@@ -2,8 +2,12 @@
 ghost use Rattle.std.specs.Prelude.{◌≡◌, ◌+◌, ◌*◌, ◌<◌, ◌≤◌, ◌++◌, nat_lt, OnOk};
 ghost use Rattle.rwsp_terms.specs.Instance.{cells, shift_count, IsClass, IsDay, IsSymbol};
 ghost use Rattle.rwsp_terms.specs.declared.data.Class.TheVariants.{Off, Work};
-ghost use Rattle.plain_words.specs.Counting.{is_misfit, lengths, shift_least, greatest_in_weeks, shift_greatest, shift_days, needed_days, left_on_day, left_days, off_days, work_days, rounds, are_few, all_days, fixed_rounds_words, ranging_rounds_words, rounds_words, needed_words, left_words, unlike_words, crossed_words_or, turns_words, off_misfit_words, counted_words};
+ghost use Rattle.plain_words.specs.Counting.{is_misfit, lengths, shift_least, greatest_in_weeks, shift_greatest, shift_days, needed_days, left_on_day, left_days, off_days, work_days, rounds, are_few, all_days, rounds_words, unlike_words, turns_words, off_misfit_words, counted_words};
 
+use crate::pieces::{
+    AND_ALSO, COMMA, DAYS_OFF, DEMAND_LEAVES, DEMAND_NEEDS, Done, FIXED_ROUNDS, HAVE_AT_LEAST,
+    HAVE_AT_MOST, MAKE, OF_WORK_THERE_ARE, ROUNDS, ROUNDS_TO, THERE_ARE, UNLIKE, put,
+};
 use crate::rule_words::least_of_day;
 use crate::span::{
     MOST_ASKED, blocks_for, lengths_of, put_block_range, put_blocks, put_have, put_made,
@@ -15,7 +19,6 @@ use rwsp_model::Problem;
 use rwsp_terms::limits::{GREATEST_BOUND, MOST_WEEKS};
 use rwsp_terms::{Bounds, Class, Symbol};
 use rwsp_text::put_number;
-use std::alloc::AllocError;
 
 /// Whether no number of blocks of the symbol has as many days as the demand asks for.
 pub fn is_misfit(problem: &Problem, x: Symbol) -> bool
@@ -26,6 +29,7 @@ pub fn is_misfit(problem: &Problem, x: Symbol) -> bool
 }
 
 // On how many days of the cycle a shift is demanded at least.
+#[tactic(auto, using(crate::proofs::Joined::sum_more))]
 fn shift_least(problem: &Problem, number: u8) -> u32
     requires { (0 < number) × (number ≤ shift_count problem.now) }
     ensures value { result ≡ shift_least problem.now number }
@@ -52,6 +56,7 @@ fn greatest_in_weeks(problem: &Problem, number: u8, day: u32) -> u32
 }
 
 // On how many days of the cycle a shift is demanded at most.
+#[tactic(auto, using(crate::proofs::Joined::sum_more))]
 fn shift_greatest(problem: &Problem, number: u8) -> u32
     requires { (0 < number) × (number ≤ shift_count problem.now) }
     ensures value { result ≡ shift_greatest problem.now number }
@@ -77,6 +82,7 @@ fn shift_days(problem: &Problem, number: u8) -> Bounds
 }
 
 // How many days of work the demand needs at least.
+#[tactic(auto, using(crate::proofs::Joined::sum_more))]
 fn needed_days(problem: &Problem) -> u32
     ensures value { result ≡ needed_days problem.now }
     ensures few { result ≤ MOST_ASKED }
@@ -98,6 +104,7 @@ fn left_on_day(problem: &Problem, day: u32) -> u32
 }
 
 // How many days off the demand leaves at least.
+#[tactic(auto, using(crate::proofs::Joined::sum_more))]
 fn left_days(problem: &Problem) -> u32
     ensures value { result ≡ left_days problem.now }
     ensures few { result ≤ MOST_ASKED }
@@ -167,110 +174,62 @@ fn are_few(lengths: Bounds, days: Bounds) -> bool
     room_for(lengths, days.greatest) * lengths.greatest < days.least
 }
 
-// Appends how many days so many blocks of days off and of work take, where each two take as many.
-#[tactic(auto, unfolding(crate::specs::Counting::fixed_rounds_words))]
-fn put_fixed_rounds(out: &mut Vec<u8>, each: u32, days: u32) -> Result<(), AllocError>
-    ensures { OnOk result (out.new.items ≡ out.old.items ++ fixed_rounds_words each days) }
-{
-    out.extend_from_slice(b"k blocks of days off and of work take ")?;
-    put_number(out, u64::from(each))?;
-    out.extend_from_slice(b"k days, and there are ")?;
-    put_number(out, u64::from(days))?;
-    Ok(())
-}
-
-// Appends how many days so many have where their lengths range, and one more.
-#[tactic(auto, unfolding(crate::specs::Counting::ranging_rounds_words))]
-fn put_ranging_rounds(
-    out: &mut Vec<u8>,
-    room: u32,
-    rounds: Bounds,
-    days: u32,
-) -> Result<(), AllocError>
+// Appends how many days blocks of days off and of work take together, where there is room for so many.
+#[tactic(auto, unfolding(crate::specs::Counting::rounds_words))]
+fn put_rounds(out: &mut Vec<u8>, rounds: Bounds, room: u32, days: u32) -> Done
     requires few { room ≤ MOST_ASKED }
     requires short { (rounds.least ≤ 2 * GREATEST_BOUND) × (rounds.greatest ≤ 2 * GREATEST_BOUND) }
-    ensures { OnOk result (out.new.items ≡ out.old.items ++ ranging_rounds_words room rounds days) }
-{
-    put_blocks(out, room)?;
-    out.extend_from_slice(b" of days off and of work")?;
-    put_have(out, room)?;
-    out.extend_from_slice(b" at most ")?;
-    put_days(out, room * rounds.greatest)?;
-    out.extend_from_slice(b", ")?;
-    put_number(out, u64::from(room + 1))?;
-    out.extend_from_slice(b" at least ")?;
-    put_number(out, u64::from((room + 1) * rounds.least))?;
-    out.extend_from_slice(b", and there are ")?;
-    put_number(out, u64::from(days))?;
-    Ok(())
-}
-
-// Appends how many days blocks of days off and of work take together.
-#[tactic(auto, unfolding(crate::specs::Counting::rounds_words))]
-fn put_rounds(out: &mut Vec<u8>, rounds: Bounds, days: u32) -> Result<(), AllocError>
-    requires some { 1 ≤ rounds.least }
-    requires short { (rounds.least ≤ 2 * GREATEST_BOUND) × (rounds.greatest ≤ 2 * GREATEST_BOUND) }
-    requires few { days ≤ MOST_ASKED }
-    ensures { OnOk result (out.new.items ≡ out.old.items ++ rounds_words rounds days) }
+    ensures { OnOk result (out.new.items ≡ out.old.items ++ rounds_words rounds room days) }
 {
     if rounds.least == rounds.greatest {
-        put_fixed_rounds(out, rounds.least, days)
+        put(out, FIXED_ROUNDS)?;
+        put_number(out, u64::from(rounds.least))?;
+        put(out, ROUNDS_TO)?;
+        put_number(out, u64::from(days))
     } else {
-        put_ranging_rounds(out, room_for(rounds, days), rounds, days)
+        put_blocks(out, room)?;
+        put(out, ROUNDS)?;
+        put_have(out, room)?;
+        put(out, HAVE_AT_MOST)?;
+        put_days(out, room * rounds.greatest)?;
+        put(out, COMMA)?;
+        put_number(out, u64::from(room + 1))?;
+        put(out, HAVE_AT_LEAST)?;
+        put_number(out, u64::from((room + 1) * rounds.least))?;
+        put(out, THERE_ARE)?;
+        put_number(out, u64::from(days))
     }
-}
-
-// Appends that the demand needs more days of work than there are.
-#[tactic(auto, unfolding(crate::specs::Counting::needed_words))]
-fn put_needed(out: &mut Vec<u8>, problem: &Problem) -> Result<(), AllocError>
-    ensures { OnOk result (out.new.items ≡ out.old.items ++ needed_words problem.now) }
-{
-    out.extend_from_slice(b"the demand needs ")?;
-    put_days(out, needed_days(problem))?;
-    out.extend_from_slice(b" of work, and there are ")?;
-    put_number(out, u64::from(problem.cells()))?;
-    Ok(())
-}
-
-// Appends that the demand leaves at least more days off than at most.
-#[tactic(auto, unfolding(crate::specs::Counting::left_words))]
-fn put_left(out: &mut Vec<u8>, problem: &Problem) -> Result<(), AllocError>
-    ensures { OnOk result (out.new.items ≡ out.old.items ++ left_words problem.now) }
-{
-    out.extend_from_slice(b"the demand leaves ")?;
-    put_span(out, off_days(problem))?;
-    out.extend_from_slice(b" off")
 }
 
 // Appends that days off, days of work and all days make different numbers of blocks.
 #[tactic(auto, unfolding(crate::specs::Counting::unlike_words))]
-fn put_unlike(out: &mut Vec<u8>, problem: &Problem) -> Result<(), AllocError>
+fn put_unlike(out: &mut Vec<u8>, problem: &Problem) -> Done
     requires off { 1 ≤ (lengths problem.now Off).greatest }
     requires work { 1 ≤ (lengths problem.now Work).greatest }
     ensures { OnOk result (out.new.items ≡ out.old.items ++ unlike_words problem.now) }
 {
     put_made(out, problem, Class::Off, off_days(problem))?;
-    out.extend_from_slice(b", ")?;
+    put(out, COMMA)?;
     put_made(out, problem, Class::Work, work_days(problem))?;
-    out.extend_from_slice(b", and ")?;
+    put(out, AND_ALSO)?;
     put_days(out, problem.cells())?;
-    out.extend_from_slice(b" make ")?;
+    put(out, MAKE)?;
     put_block_range(out, blocks_for(rounds(problem), all_days(problem)))?;
-    out.extend_from_slice(
-        b" of each; but round the cycle there are as many blocks of one as of the other",
-    )?;
+    put(out, UNLIKE)?;
     Ok(())
 }
 
 // Appends which numbers of blocks do not agree.
 #[tactic(auto, unfolding(crate::specs::Counting::turns_words))]
-fn put_turns(out: &mut Vec<u8>, problem: &Problem) -> Result<(), AllocError>
+fn put_turns(out: &mut Vec<u8>, problem: &Problem) -> Done
     requires off { 1 ≤ (lengths problem.now Off).greatest }
     requires work { 1 ≤ (lengths problem.now Work).greatest }
     ensures { OnOk result (out.new.items ≡ out.old.items ++ turns_words problem.now) }
 {
     if are_few(rounds(problem), all_days(problem)) {
-        put_rounds(out, rounds(problem), problem.cells())
+        let rounds = rounds(problem);
+        let cells = problem.cells();
+        put_rounds(out, rounds, room_for(rounds, cells), cells)
     } else if are_few(lengths_of(problem, Class::Off), off_days(problem)) {
         put_misfit(out, problem, Class::Off, off_days(problem))
     } else if are_few(lengths_of(problem, Class::Work), work_days(problem)) {
@@ -290,15 +249,21 @@ fn has_no_block(problem: &Problem, class: Class) -> bool
 }
 
 // Appends why no number of blocks has as many days off, and days of work between, as there have to be.
-#[tactic(auto, unfolding(crate::specs::Counting::off_misfit_words, crate::specs::Counting::crossed_words_or))]
-fn put_off_misfit(out: &mut Vec<u8>, problem: &Problem) -> Result<(), AllocError>
+#[tactic(auto, unfolding(crate::specs::Counting::off_misfit_words))]
+fn put_off_misfit(out: &mut Vec<u8>, problem: &Problem) -> Done
     ensures { OnOk result (out.new.items ≡ out.old.items ++ off_misfit_words problem.now) }
 {
     let off = off_days(problem);
-    if problem.cells() < needed_days(problem) {
-        put_needed(out, problem)
+    let needed = needed_days(problem);
+    if problem.cells() < needed {
+        put(out, DEMAND_NEEDS)?;
+        put_days(out, needed)?;
+        put(out, OF_WORK_THERE_ARE)?;
+        put_number(out, u64::from(problem.cells()))
     } else if off.greatest < off.least {
-        put_left(out, problem)
+        put(out, DEMAND_LEAVES)?;
+        put_span(out, off)?;
+        put(out, DAYS_OFF)
     } else if has_no_block(problem, Class::Off) {
         put_no_block(out, problem, Class::Off)
     } else if has_no_block(problem, Class::Work) {
@@ -310,7 +275,7 @@ fn put_off_misfit(out: &mut Vec<u8>, problem: &Problem) -> Result<(), AllocError
 
 /// Appends why no number of blocks of the symbol fits.
 #[tactic(auto, unfolding(crate::specs::Counting::counted_words))]
-pub fn put_counted(out: &mut Vec<u8>, problem: &Problem, x: Symbol) -> Result<(), AllocError>
+pub fn put_counted(out: &mut Vec<u8>, problem: &Problem, x: Symbol) -> Done
     requires { IsSymbol problem.now x }
     ensures { OnOk result (out.new.items ≡ out.old.items ++ counted_words problem.now x) }
 {

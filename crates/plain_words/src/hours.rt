@@ -2,26 +2,27 @@
 ghost use Rattle.std.specs.Prelude.{◌≡◌, ◌+◌, ◌*◌, ◌<◌, ◌≤◌, ◌++◌, true, false, OnOk};
 ghost use Rattle.rwsp_terms.specs.Instance.{shift_count, IsDay};
 ghost use Rattle.rwsp_terms.specs.declared.limits.TheConstants.{GREATEST_BOUND, MOST_DAYS, MOST_SHIFTS, MOST_WEEKS};
-ghost use Rattle.plain_words.specs.SentenceText.{next_shift_words, other_shifts_words, shifts_words, size_words, minutes_of, end_of, demanded_minutes, day_minutes, all_minutes, mean_tenths, tenths_words, mean_words, hours_words};
+ghost use Rattle.plain_words.specs.SentenceText.{next_shift_words, other_shifts_words, size_words, minutes_of, end_of, demanded_minutes, day_minutes, all_minutes, mean_tenths, tenths_words, hours_words};
 
+use crate::pieces::{COMMA, DOT, Done, FROM, HOURS, OF, SHIFT, SHIFTS, TO, put};
 use crate::rule_words::put_shift;
-use crate::words::{put_days, put_weeks};
+use crate::words::{put_count, put_days, put_weeks};
 use rwsp_model::Problem;
 use rwsp_terms::{Bounds, Symbol};
 use rwsp_text::put_number;
-use std::alloc::AllocError;
 
 // Appends the name of a shift behind another.
-fn put_next_shift(out: &mut Vec<u8>, problem: &Problem, number: u8) -> Result<(), AllocError>
+fn put_next_shift(out: &mut Vec<u8>, problem: &Problem, number: u8) -> Done
     requires { (0 < number) × (number ≤ shift_count problem.now) }
     ensures { OnOk result (out.new.items ≡ out.old.items ++ next_shift_words problem.now number) }
 {
-    out.extend_from_slice(b", ")?;
+    put(out, COMMA)?;
     put_shift(out, problem, number)
 }
 
 // Appends the names of all shifts but the first.
-fn put_other_shifts(out: &mut Vec<u8>, problem: &Problem) -> Result<(), AllocError>
+#[tactic(auto, using(crate::proofs::Joined::piece_more))]
+fn put_other_shifts(out: &mut Vec<u8>, problem: &Problem) -> Done
     ensures { OnOk result (out.new.items ≡ out.old.items ++ other_shifts_words problem.now) }
 {
     problem.prove_limits();
@@ -32,30 +33,17 @@ fn put_other_shifts(out: &mut Vec<u8>, problem: &Problem) -> Result<(), AllocErr
     Ok(())
 }
 
-// Appends a number of shifts.
-#[tactic(auto, unfolding(crate::specs::SentenceText::shifts_words))]
-fn put_shifts(out: &mut Vec<u8>, count: u8) -> Result<(), AllocError>
-    ensures { OnOk result (out.new.items ≡ out.old.items ++ shifts_words count) }
-{
-    put_number(out, u64::from(count))?;
-    if count == 1 {
-        out.extend_from_slice(b" shift: ")
-    } else {
-        out.extend_from_slice(b" shifts: ")
-    }
-}
-
 /// Appends the weeks, the days and the shifts.
 #[tactic(auto, unfolding(crate::specs::SentenceText::size_words))]
-pub fn put_size(out: &mut Vec<u8>, problem: &Problem) -> Result<(), AllocError>
+pub fn put_size(out: &mut Vec<u8>, problem: &Problem) -> Done
     ensures { OnOk result (out.new.items ≡ out.old.items ++ size_words problem.now) }
 {
     let shifts = problem.shifts();
     put_weeks(out, problem.weeks())?;
-    out.extend_from_slice(b" of ")?;
+    put(out, OF)?;
     put_days(out, problem.days())?;
-    out.extend_from_slice(b", ")?;
-    put_shifts(out, shifts)?;
+    put(out, COMMA)?;
+    put_count(out, u64::from(shifts), SHIFT, SHIFTS)?;
     put_shift(out, problem, 1)?;
     put_other_shifts(out, problem)
 }
@@ -90,6 +78,7 @@ fn demanded_minutes(problem: &Problem, is_most: bool, day: u32, number: u8) -> u
 }
 
 // The minutes that a day demands.
+#[tactic(auto, using(crate::proofs::Joined::sum_more))]
 fn day_minutes(problem: &Problem, is_most: bool, day: u32) -> u64
     requires { IsDay problem.now day }
     ensures value { result ≡ day_minutes problem.now is_most day }
@@ -103,6 +92,7 @@ fn day_minutes(problem: &Problem, is_most: bool, day: u32) -> u64
 }
 
 // The minutes that all days demand.
+#[tactic(auto, using(crate::proofs::Joined::sum_more))]
 fn all_minutes(problem: &Problem, is_most: bool) -> u64
     ensures value { result ≡ all_minutes problem.now is_most }
     ensures few { result ≤ MOST_DAYS * (MOST_SHIFTS * (MOST_WEEKS * GREATEST_BOUND)) }
@@ -125,35 +115,30 @@ fn mean_tenths(problem: &Problem, is_most: bool) -> u64
 
 // Appends tenths.
 #[tactic(auto, unfolding(crate::specs::SentenceText::tenths_words))]
-fn put_tenths(out: &mut Vec<u8>, tenths: u64) -> Result<(), AllocError>
+fn put_tenths(out: &mut Vec<u8>, tenths: u64) -> Done
     ensures { OnOk result (out.new.items ≡ out.old.items ++ tenths_words tenths) }
 {
     put_number(out, tenths / 10)?;
-    out.extend_from_slice(b".")?;
+    put(out, DOT)?;
     put_number(out, tenths % 10)
-}
-
-// Appends from how many tenths to how many.
-#[tactic(auto, unfolding(crate::specs::SentenceText::mean_words))]
-fn put_mean(out: &mut Vec<u8>, least: u64, greatest: u64) -> Result<(), AllocError>
-    ensures { OnOk result (out.new.items ≡ out.old.items ++ mean_words least greatest) }
-{
-    if least == greatest {
-        put_tenths(out, least)
-    } else {
-        out.extend_from_slice(b"from ")?;
-        put_tenths(out, least)?;
-        out.extend_from_slice(b" to ")?;
-        put_tenths(out, greatest)
-    }
 }
 
 /// Appends the mean of the hours a week that the demand comes to. It costs a step for each shift on each day.
 #[tactic(auto, unfolding(crate::specs::SentenceText::hours_words))]
-pub fn put_hours(out: &mut Vec<u8>, problem: &Problem) -> Result<(), AllocError>
+pub fn put_hours(out: &mut Vec<u8>, problem: &Problem) -> Done
     ensures { OnOk result (out.new.items
         ≡ out.old.items ++ hours_words (mean_tenths problem.now false) (mean_tenths problem.now true)) }
 {
-    put_mean(out, mean_tenths(problem, false), mean_tenths(problem, true))?;
-    out.extend_from_slice(b" hours a week")
+    let least = mean_tenths(problem, false);
+    let greatest = mean_tenths(problem, true);
+    if least == greatest {
+        put_tenths(out, least)?;
+        put(out, HOURS)
+    } else {
+        put(out, FROM)?;
+        put_tenths(out, least)?;
+        put(out, TO)?;
+        put_tenths(out, greatest)?;
+        put(out, HOURS)
+    }
 }

@@ -1,55 +1,42 @@
-//! What a problem says, and what the answers of commands say of it, in words.
+//! What a problem says, and what is told of the answers of commands, in words.
 #![tactic(auto)]
 
-mod accepted;
-mod accepted_fill;
-mod answer;
-mod answer_laws;
-mod best_words;
-mod breach;
-mod cause;
+mod broken;
 mod counted;
-mod escape;
-mod fill_words;
 mod hours;
 mod laws;
-mod line_answer;
-mod log_text;
-mod log_words;
-mod mend_words;
-mod parts;
+mod log_told;
+pub mod pieces;
 mod problem;
-mod roster_words;
-mod rule_label;
+mod reason;
 mod rule_words;
-mod scan;
 mod sentence;
 mod sentence_text;
 mod slips;
 mod span;
-mod staff_failure;
-mod staff_parts;
-mod staff_words;
 mod statement;
-mod way;
-mod way_line;
+mod told;
 mod way_words;
-mod whole_answer;
-mod whole_laws;
 mod words;
 
-pub use answer::answer_words;
-pub use answer_laws::{
-    answers_say_one, counted_are_leaves_of, fill_rules_are_said, named_rules_are_said,
+pub use laws::{
+    broken_days_are_told, counted_are_leaves, counted_are_leaves_of, fill_rules_are_said,
+    logs_say_one, named_rules_are_said, rules_are_said_once, staffs_say_one,
 };
-pub use breach::Breach;
-pub use cause::{Cause, Count, Short};
-pub use laws::{counted_are_leaves, rules_are_said_once};
-pub use parts::{best_part, staff_part};
-pub use problem::problem_words;
+pub use log_told::{
+    put_accepted_told, put_end_told, put_fill_shown_told, put_fill_told, put_log_told,
+    put_reduced_told, put_staff_told, rosters_by,
+};
+pub use pieces::Done;
+pub use problem::{problem_words, put_slips_told};
+pub use reason::Rosters;
 pub use rule_words::put_rule_words;
-pub use sentence::Sentence;
-pub use statement::{Rosters, Statement};
-pub use way::{Change, Part, Way};
-pub use whole_laws::{bests_say_reasons, staffs_say_reasons};
+pub use sentence::{Sentence, Slip, Telling};
+pub use statement::{
+    put_forbidden_told, put_headed_told, put_numbered_told, put_plain_told, put_weekends_told,
+};
+pub use told::{
+    put_broken_told, put_log_refusal_told, put_roster_refusal_told, put_staff_refusal_told,
+    put_staffed_told, put_ways_told,
+};
 pub use words::{put_days, put_name_words, put_range, put_symbol_words, put_weeks};

@@ -1,91 +1,92 @@
 // A rule in words.
-ghost use Rattle.std.specs.Prelude.{◌≡◌, ◌++◌, ◌+◌, ◌-◌, ◌*◌, ◌<◌, ◌≤◌, length, slice_get, IfSome, OnOk};
+ghost use Rattle.std.specs.Prelude.{◌≡◌, ◌++◌, ◌+◌, ◌-◌, ◌*◌, ◌<◌, ◌≤◌, length, slice_get, IfSome, OnOk, Some};
 ghost use Rattle.std.specs.List.{flat_map, range_with_len};
 ghost use Rattle.rwsp_terms.specs.declared.limits.TheConstants.{MOST_WEEKS, MOST_SHIFTS};
 ghost use Rattle.rwsp_terms.specs.Instance.{bounds, shift_count, column_least, column_greatest, IsClass, IsDay, symbol_numbered};
 ghost use Rattle.rwsp_terms.specs.Roster.{IsRule};
+ghost use Rattle.rwsp_terms.specs.Rules.{rule_of};
+ghost use Rattle.rwsp_model.specs.RuleNumbers.{place_of};
 ghost use Rattle.rwsp_model.specs.Sequences.{IsPairOf, IsTripleOf};
-ghost use Rattle.plain_words.specs.RuleWords.{class_words, most_words, least_words, pair_words, triple_words, pair_in_words, triple_in_words, shift_words, wanted_words, off_range, needs_words, off_words, is_crossed, crossed_words, first_crossed, demand_words, day_words, rule_words};
+ghost use Rattle.plain_words.specs.RuleWords.{class_words, most_words, least_words, pair_words, triple_words, pair_in_words, triple_in_words, shift_words, wanted_words, off_range, off_words, is_crossed, crossed_words, first_crossed, demand_words, day_words, rule_words, rule_in_words, numbered_words};
 
+use crate::pieces::{
+    AT_LEAST, AT_MOST, BLANK, COLON, COMMA, DAY_FRONT, DAYS_OFF, DOTS, Done, FOR_OFF, IN_A_ROW,
+    IS_CROSSED, NEEDS, NEVER, OF, OF_WORK, THEN, put,
+};
 use crate::words::{put_days, put_name_words, put_range, put_symbol_words, put_weeks};
-use rwsp_model::Problem;
+use rwsp_model::{Problem, number_of, rule_at, rule_count};
 use rwsp_terms::{Bounds, Class, Rule, Symbol};
 use rwsp_text::put_number;
-use std::alloc::AllocError;
 
 /// Appends the days that the blocks of a class are made of.
 #[tactic(auto, unfolding(crate::specs::RuleWords::class_words))]
-pub fn put_class(out: &mut Vec<u8>, problem: &Problem, class: Class) -> Result<(), AllocError>
+pub fn put_class(out: &mut Vec<u8>, problem: &Problem, class: Class) -> Done
     requires { IsClass problem.now class }
     ensures { OnOk result (out.new.items ≡ out.old.items ++ class_words problem.now class) }
 {
     match class {
         Class::Shift(shift) => {
-            out.extend_from_slice(b" of ")?;
+            put(out, OF)?;
             put_name_words(out, problem.name(shift))
         }
-        Class::Off => out.extend_from_slice(b" off"),
-        Class::Work => out.extend_from_slice(b" of work"),
+        Class::Off => put(out, DAYS_OFF),
+        Class::Work => put(out, OF_WORK),
     }
 }
 
 /// Appends the greatest length of the blocks of a class.
 #[tactic(auto, unfolding(crate::specs::RuleWords::most_words))]
-pub fn put_most(out: &mut Vec<u8>, problem: &Problem, class: Class) -> Result<(), AllocError>
+pub fn put_most(out: &mut Vec<u8>, problem: &Problem, class: Class) -> Done
     requires { IsClass problem.now class }
     ensures { OnOk result (out.new.items ≡ out.old.items ++ most_words problem.now class) }
 {
-    out.extend_from_slice(b"at most ")?;
+    put(out, AT_MOST)?;
     put_days(out, problem.bounds(class).greatest)?;
     put_class(out, problem, class)?;
-    out.extend_from_slice(b" in a row")
+    put(out, IN_A_ROW)
 }
 
 /// Appends the least length of the blocks of a class.
 #[tactic(auto, unfolding(crate::specs::RuleWords::least_words))]
-pub fn put_least(out: &mut Vec<u8>, problem: &Problem, class: Class) -> Result<(), AllocError>
+pub fn put_least(out: &mut Vec<u8>, problem: &Problem, class: Class) -> Done
     requires { IsClass problem.now class }
     ensures { OnOk result (out.new.items ≡ out.old.items ++ least_words problem.now class) }
 {
-    out.extend_from_slice(b"at least ")?;
+    put(out, AT_LEAST)?;
     put_days(out, problem.bounds(class).least)?;
     put_class(out, problem, class)?;
-    out.extend_from_slice(b" in a row")
+    put(out, IN_A_ROW)
 }
 
 // Appends a forbidden pair.
 #[tactic(auto, unfolding(crate::specs::RuleWords::pair_words))]
-fn put_pair(out: &mut Vec<u8>, problem: &Problem, pair: (Symbol, Symbol)) -> Result<(), AllocError>
+fn put_pair(out: &mut Vec<u8>, problem: &Problem, pair: (Symbol, Symbol)) -> Done
     requires { IsPairOf problem.now pair }
     ensures { OnOk result (out.new.items ≡ out.old.items ++ pair_words problem.now pair) }
 {
-    out.extend_from_slice(b"never ")?;
+    put(out, NEVER)?;
     put_symbol_words(out, problem, pair.0)?;
-    out.extend_from_slice(b", then ")?;
+    put(out, THEN)?;
     put_symbol_words(out, problem, pair.1)
 }
 
 // Appends a forbidden triple.
 #[tactic(auto, unfolding(crate::specs::RuleWords::triple_words))]
-fn put_triple(
-    out: &mut Vec<u8>,
-    problem: &Problem,
-    triple: (Symbol, Symbol, Symbol),
-) -> Result<(), AllocError>
+fn put_triple(out: &mut Vec<u8>, problem: &Problem, triple: (Symbol, Symbol, Symbol)) -> Done
     requires { IsTripleOf problem.now triple }
     ensures { OnOk result (out.new.items ≡ out.old.items ++ triple_words problem.now triple) }
 {
-    out.extend_from_slice(b"never ")?;
+    put(out, NEVER)?;
     put_symbol_words(out, problem, triple.0)?;
-    out.extend_from_slice(b", then ")?;
+    put(out, THEN)?;
     put_symbol_words(out, problem, triple.1)?;
-    out.extend_from_slice(b", then ")?;
+    put(out, THEN)?;
     put_symbol_words(out, problem, triple.2)
 }
 
 /// Appends the forbidden pair at a place.
 #[tactic(auto, unfolding(crate::specs::RuleWords::pair_in_words))]
-pub fn put_pair_at(out: &mut Vec<u8>, problem: &Problem, place: u32) -> Result<(), AllocError>
+pub fn put_pair_at(out: &mut Vec<u8>, problem: &Problem, place: u32) -> Done
     requires { place < length problem.now.pairs }
     ensures { OnOk result (out.new.items
         ≡ out.old.items ++ pair_in_words problem.now (slice_get problem.now.pairs place)) }
@@ -96,7 +97,7 @@ pub fn put_pair_at(out: &mut Vec<u8>, problem: &Problem, place: u32) -> Result<(
 
 /// Appends the forbidden triple at a place.
 #[tactic(auto, unfolding(crate::specs::RuleWords::triple_in_words))]
-pub fn put_triple_at(out: &mut Vec<u8>, problem: &Problem, place: u32) -> Result<(), AllocError>
+pub fn put_triple_at(out: &mut Vec<u8>, problem: &Problem, place: u32) -> Done
     requires { place < length problem.now.triples }
     ensures { OnOk result (out.new.items
         ≡ out.old.items ++ triple_in_words problem.now (slice_get problem.now.triples place)) }
@@ -107,7 +108,7 @@ pub fn put_triple_at(out: &mut Vec<u8>, problem: &Problem, place: u32) -> Result
 
 /// Appends the name of a shift by its number.
 #[tactic(auto, unfolding(crate::specs::RuleWords::shift_words))]
-pub fn put_shift(out: &mut Vec<u8>, problem: &Problem, number: u8) -> Result<(), AllocError>
+pub fn put_shift(out: &mut Vec<u8>, problem: &Problem, number: u8) -> Done
     requires { (0 < number) × (number ≤ shift_count problem.now) }
     ensures { OnOk result (out.new.items ≡ out.old.items ++ shift_words problem.now number) }
 {
@@ -116,23 +117,20 @@ pub fn put_shift(out: &mut Vec<u8>, problem: &Problem, number: u8) -> Result<(),
 
 // Appends what is demanded of a shift on a day.
 #[tactic(auto, unfolding(crate::specs::RuleWords::wanted_words))]
-fn put_wanted(out: &mut Vec<u8>, problem: &Problem, day: u32, number: u8) -> Result<(), AllocError>
+fn put_wanted(out: &mut Vec<u8>, problem: &Problem, day: u32, number: u8) -> Done
     requires day { IsDay problem.now day }
     requires shift { (0 < number) × (number ≤ shift_count problem.now) }
     ensures { OnOk result (out.new.items ≡ out.old.items ++ wanted_words problem.now day number) }
 {
     put_shift(out, problem, number)?;
-    out.extend_from_slice(b" ")?;
+    put(out, BLANK)?;
     put_range(out, problem.demand(Symbol { number }, day))?;
-    out.extend_from_slice(b", ")
+    put(out, COMMA)
 }
 
 /// Appends what is demanded of each shift on a day.
-pub(crate) fn put_all_wanted(
-    out: &mut Vec<u8>,
-    problem: &Problem,
-    day: u32,
-) -> Result<(), AllocError>
+#[tactic(auto, using(crate::proofs::Joined::piece_more))]
+pub(crate) fn put_all_wanted(out: &mut Vec<u8>, problem: &Problem, day: u32) -> Done
     requires { IsDay problem.now day }
     ensures { OnOk result (out.new.items
         ≡ out.old.items ++ flat_map (wanted_words problem.now day) (range_with_len 1 (shift_count problem.now))) }
@@ -152,8 +150,8 @@ pub fn least_of_day(problem: &Problem, day: u32) -> u32
     (problem.weeks() as i32 - problem.demand_greatest(Symbol::OFF, day)) as u32
 }
 
-// Of how many weeks the shifts of a day leave the day off.
-fn off_range(problem: &Problem, day: u32) -> Bounds
+/// Of how many weeks the shifts of a day leave the day off.
+pub(crate) fn off_range(problem: &Problem, day: u32) -> Bounds
     requires { IsDay problem.now day }
     ensures { result ≡ off_range problem.now day }
 {
@@ -163,29 +161,20 @@ fn off_range(problem: &Problem, day: u32) -> Bounds
     }
 }
 
-// Appends that a day needs more weeks than there are.
-#[tactic(auto, unfolding(crate::specs::RuleWords::needs_words))]
-fn put_needs(out: &mut Vec<u8>, needed: u32, weeks: u32) -> Result<(), AllocError>
-    ensures { OnOk result (out.new.items ≡ out.old.items ++ needs_words needed weeks) }
-{
-    out.extend_from_slice(b"which needs ")?;
-    put_number(out, u64::from(needed))?;
-    out.extend_from_slice(b" of ")?;
-    put_weeks(out, weeks)?;
-    Ok(())
-}
-
 // Appends what the shifts of a day leave for the day off, or that they need more weeks than there are.
 #[tactic(auto, unfolding(crate::specs::RuleWords::off_words))]
-fn put_off(out: &mut Vec<u8>, problem: &Problem, day: u32) -> Result<(), AllocError>
+fn put_off(out: &mut Vec<u8>, problem: &Problem, day: u32) -> Done
     requires { IsDay problem.now day }
     ensures { OnOk result (out.new.items ≡ out.old.items ++ off_words problem.now day) }
 {
     let needed = least_of_day(problem, day);
     if problem.weeks() < needed {
-        put_needs(out, needed, problem.weeks())
+        put(out, NEEDS)?;
+        put_number(out, u64::from(needed))?;
+        put(out, OF)?;
+        put_weeks(out, problem.weeks())
     } else {
-        out.extend_from_slice(b"off ")?;
+        put(out, FOR_OFF)?;
         put_range(out, off_range(problem, day))
     }
 }
@@ -202,26 +191,22 @@ pub fn is_crossed(problem: &Problem, day: u32, number: u8) -> bool
 
 /// Appends that no number meets the demand of a shift on a day.
 #[tactic(auto, unfolding(crate::specs::RuleWords::crossed_words))]
-pub fn put_crossed(
-    out: &mut Vec<u8>,
-    problem: &Problem,
-    day: u32,
-    number: u8,
-) -> Result<(), AllocError>
+pub fn put_crossed(out: &mut Vec<u8>, problem: &Problem, day: u32, number: u8) -> Done
     requires day { IsDay problem.now day }
     requires shift { (0 < number) × (number ≤ shift_count problem.now) }
     ensures { OnOk result (out.new.items ≡ out.old.items ++ crossed_words problem.now day number) }
 {
     let range = problem.demand(Symbol { number }, day);
     put_shift(out, problem, number)?;
-    out.extend_from_slice(b" ")?;
+    put(out, BLANK)?;
     put_number(out, u64::from(range.least))?;
-    out.extend_from_slice(b"..")?;
+    put(out, DOTS)?;
     put_number(out, u64::from(range.greatest))?;
-    out.extend_from_slice(b": the least is above the greatest")
+    put(out, IS_CROSSED)
 }
 
 /// The first shift whose demand no number meets on a day.
+#[tactic(auto, using(crate::proofs::Joined::none_found))]
 pub(crate) fn first_crossed(problem: &Problem, day: u32) -> Option<u8>
     requires { IsDay problem.now day }
     ensures value { result ≡ first_crossed problem.now day }
@@ -237,7 +222,7 @@ pub(crate) fn first_crossed(problem: &Problem, day: u32) -> Option<u8>
 
 // Appends what is wanted on a day.
 #[tactic(auto, unfolding(crate::specs::RuleWords::demand_words))]
-fn put_demand(out: &mut Vec<u8>, problem: &Problem, day: u32) -> Result<(), AllocError>
+fn put_demand(out: &mut Vec<u8>, problem: &Problem, day: u32) -> Done
     requires { IsDay problem.now day }
     ensures { OnOk result (out.new.items
         ≡ out.old.items ++ demand_words problem.now day (first_crossed problem.now day)) }
@@ -253,19 +238,19 @@ fn put_demand(out: &mut Vec<u8>, problem: &Problem, day: u32) -> Result<(), Allo
 
 // Appends the rule of a day.
 #[tactic(auto, unfolding(crate::specs::RuleWords::day_words))]
-fn put_day(out: &mut Vec<u8>, problem: &Problem, day: u32) -> Result<(), AllocError>
+fn put_day(out: &mut Vec<u8>, problem: &Problem, day: u32) -> Done
     requires { IsDay problem.now day }
     ensures { OnOk result (out.new.items ≡ out.old.items ++ day_words problem.now day) }
 {
-    out.extend_from_slice(b"day ")?;
+    put(out, DAY_FRONT)?;
     put_number(out, u64::from(day))?;
-    out.extend_from_slice(b": ")?;
+    put(out, COLON)?;
     put_demand(out, problem, day)
 }
 
 /// Appends a rule in words. That of a day costs a step for each shift, the others a few steps.
 #[tactic(auto, unfolding(crate::specs::RuleWords::rule_words))]
-pub fn put_rule_words(out: &mut Vec<u8>, problem: &Problem, rule: Rule) -> Result<(), AllocError>
+pub fn put_rule_words(out: &mut Vec<u8>, problem: &Problem, rule: Rule) -> Done
     requires { IsRule problem.now rule }
     ensures { OnOk result (out.new.items ≡ out.old.items ++ rule_words problem.now rule) }
 {
@@ -280,4 +265,35 @@ pub fn put_rule_words(out: &mut Vec<u8>, problem: &Problem, rule: Rule) -> Resul
         Rule::Triple(place) => put_triple_at(out, problem, place),
         Rule::Day(day) => put_day(out, problem, day),
     }
+}
+
+/// The number of a rule.
+pub(crate) fn rule_number(problem: &Problem, rule: Rule) -> u32
+    requires { IsRule problem.now rule }
+    ensures value { result ≡ place_of problem.now rule + 1 }
+    ensures named { rule_of problem.now result ≡ Some rule }
+{
+    number_of(problem, rule)
+}
+
+// Appends the rule with a number, or nothing where there is none.
+#[tactic(auto, unfolding(crate::specs::RuleWords::rule_in_words))]
+pub(crate) fn put_rule_in(out: &mut Vec<u8>, problem: &Problem, number: u32) -> Done
+    ensures { OnOk result (out.new.items ≡ out.old.items ++ rule_in_words problem.now (rule_of problem.now number)) }
+{
+    if 0 < number && number <= rule_count(problem) {
+        put_rule_words(out, problem, rule_at(problem, number))
+    } else {
+        Ok(())
+    }
+}
+
+/// Appends a rule behind its number.
+#[tactic(auto, unfolding(crate::specs::RuleWords::numbered_words))]
+pub(crate) fn put_numbered(out: &mut Vec<u8>, problem: &Problem, number: u32) -> Done
+    ensures { OnOk result (out.new.items ≡ out.old.items ++ numbered_words problem.now number) }
+{
+    put_number(out, u64::from(number))?;
+    put(out, COLON)?;
+    put_rule_in(out, problem, number)
 }

@@ -2,15 +2,9 @@
 use rwsp_file::LongNumber;
 use rwsp_terms::{Class, Symbol};
 
-/// A sentence about a problem. Rules, days and shifts count from 1, pairs and triples from 0.
+/// What looks like a slip. Days and shifts count from 1, pairs and triples from 0.
 #[derive(Clone, Copy)]
-pub enum Sentence {
-    /// Its weeks, days and shifts.
-    Size,
-    /// The mean of the hours a week that the demand comes to.
-    Hours,
-    /// A rule by its number.
-    OfRule(u32),
+pub enum Slip {
     /// The least block of a class is longer than the greatest.
     CrossedBlocks(Class),
     /// The least block of a shift is longer than the greatest of work.
@@ -25,8 +19,36 @@ pub enum Sentence {
     LargeDemand(u32, u8),
     /// A day demands more than there are weeks.
     LargeDay(u32),
+}
+
+/// A sentence about a problem.
+#[derive(Clone, Copy)]
+pub enum Sentence {
+    /// Its weeks, days and shifts.
+    Size,
+    /// The mean of the hours a week that the demand comes to.
+    Hours,
+    /// A rule by its number.
+    OfRule(u32),
+    /// What looks like a slip.
+    OfSlip(Slip),
     /// A shift's long name is a number.
     NumericName(LongNumber),
     /// No number of blocks of a symbol has as many days as the demand asks for.
     Counted(Symbol),
+}
+
+/// Which sentences about a problem are told, of it or behind an answer to it.
+#[derive(Clone, Copy)]
+pub enum Telling {
+    /// All, as `explain` prints them.
+    Explained,
+    /// Long names that are numbers.
+    LongNames,
+    /// What looks like a slip, such names too.
+    Slips,
+    /// So much of it as another number of weeks doesn't change.
+    Unsized,
+    /// What looks like a slip, and what counting alone says against a roster.
+    WithCounts,
 }

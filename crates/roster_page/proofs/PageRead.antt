@@ -14,14 +14,16 @@ use Rattle.rwsp_terms.specs.declared.limits.TheConstants.{DAYS_OF_WEEK}
 use Rattle.rwsp_model.specs.Validity.{KeepsLimits}
 use Rattle.rwsp_model.proofs.Names.{symbol_named}
 use Rattle.roster_print.specs.RosterText.{week_at}
-use Rattle.roster_page.specs.Fixed.{fixed}
+use Rattle.plain_words.specs.Fixed.{fixed}
 use Rattle.roster_page.specs.Clock.{hours_text}
 use Rattle.roster_page.specs.Escaped.{escaped, unescaped}
 use Rattle.roster_page.specs.Hours.{minutes_in}
-use Rattle.roster_page.specs.PageText.{IsPage, page_text, page_head, page_rest, style_text, weeks_words, day_head, day_heads, weekend_head, roster_head, roster_table, week_rows, week_row, week_top, week_end, hours_cell, weekend_cell, free_text, is_free, cells_text, cell_text, name_text}
+use Rattle.roster_page.specs.PageText.{IsPage, page_text, page_head, page_rest, style_text, day_head, day_heads, weekend_head, roster_head, roster_table, week_rows, week_row, week_top, week_end, hours_cell, weekend_cell, free_text, is_free, cells_text, cell_text, name_text}
 use Rattle.roster_page.specs.ReadPage.{before, behind, parts, Cell, cell_in, Row, row_in, first_body, rows_in, cell_of, row_of, symbols_named}
 use Rattle.roster_page.specs.Laws.{PagesAreReadBack}
-use Rattle.roster_page.specs.declared.pieces.TheConstants.{AFTER_STYLE, AFTER_TITLE, BODY_TOP, CELL_END, CELL_TOP, CLASS_END, DAY_HEAD, FREE, HEAD, HEAD_END, HOURS_HEAD, PLAIN_CELL, ROSTER_TOP, ROW_END, TABLE_END, WEEKEND_HEAD, WEEKS_WORD, WEEK_TOP, WEEK_WORD}
+use Rattle.roster_page.specs.declared.pieces.TheConstants.{AFTER_STYLE, AFTER_TITLE, BODY_TOP, CELL_END, CELL_TOP, CLASS_END, DAY_HEAD, FREE, HEAD, HEAD_END, HOURS_HEAD, PLAIN_CELL, ROSTER_TOP, ROW_END, TABLE_END, WEEKEND_HEAD, WEEK_TOP}
+use Rattle.plain_words.specs.declared.pieces.TheConstants.{WEEK, WEEKS}
+use Rattle.plain_words.specs.Words.{count_words, weeks_words}
 use Rattle.roster_page.proofs.Places.{is_clear, IsClear, clear_both, clear_all, clear_without, before_past, before_to, behind_past, behind_to, parts_past, parts_none, parts_here}
 use Rattle.roster_page.proofs.Signs.{decimal_lacks, hours_lack, escaped_lacks, no_bracket, no_quote}
 use Rattle.roster_page.proofs.ReadBack.{names_are_read_back}
@@ -222,10 +224,10 @@ row_clear P s k =
 -- The body of the first table.
 
 weeks_clear : (n : ℕ) → IsClear (60 ∷ body_top) (weeks_words n)
-unfolding weeks_words fixed
+unfolding weeks_words count_words fixed
 weeks_clear n =
-    clear_both (60 ∷ body_top) (decimal n) (if n == 1 then fixed WEEK_WORD.now else fixed WEEKS_WORD.now) (decimal_clear body_top n)
-    (elim (n == 1) as (λ (t : Bool). IsClear (60 ∷ body_top) (if t then fixed WEEK_WORD.now else fixed WEEKS_WORD.now)) [
+    clear_both (60 ∷ body_top) (decimal n) (if n == 1 then fixed WEEK.now else fixed WEEKS.now) (decimal_clear body_top n)
+    (elim (n == 1) as (λ (t : Bool). IsClear (60 ∷ body_top) (if t then fixed WEEK.now else fixed WEEKS.now)) [
       | true ↦ refl
       | false ↦ refl
     ])

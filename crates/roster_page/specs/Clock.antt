@@ -2,7 +2,7 @@
 use Rattle.std.specs.Prelude.{ℕ, ◌+◌, ◌/◌, ◌%◌, List, [], ◌∷◌, ◌++◌, ◌==◌, if◌then◌else◌}
 use Rattle.std.specs.Fmt.{decimal}
 use Rattle.made_problems.specs.Times.{day_minutes}
-use Rattle.roster_page.specs.Fixed.{fixed}
+use Rattle.plain_words.specs.Fixed.{fixed}
 use Rattle.roster_page.specs.declared.pieces.TheConstants.{CLOSED, LATER}
 
 -- a number below 100, in two digits

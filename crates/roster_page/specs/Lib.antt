@@ -1,4 +1,3 @@
-pub mod Fixed
 pub mod Escaped
 pub mod Clock
 pub mod Hours

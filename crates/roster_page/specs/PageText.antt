@@ -12,22 +12,14 @@ use Rattle.roster_print.specs.RosterText.{week_at}
 use Rattle.refutation_terms.specs.FreeWeekends.{free_weekends, is_off_at}
 use Rattle.made_problems.specs.Rested.{shift_at}
 use Rattle.made_problems.specs.Times.{start_of, end_of}
-use Rattle.roster_page.specs.Fixed.{fixed}
+use Rattle.plain_words.specs.Fixed.{fixed}
 use Rattle.roster_page.specs.Escaped.{escaped}
 use Rattle.roster_page.specs.Clock.{hours_text, moment_text}
 use Rattle.roster_page.specs.Hours.{minutes_of, minutes_in}
 use Rattle.roster_page.specs.LeastRest.{IsLeastRest}
-use Rattle.roster_page.specs.declared.pieces.TheConstants.{AFTER_STYLE, AFTER_TITLE, AND_THEN, BLOCKS_TOP, BODY_TOP, CELL_END, CELL_TOP, CLASS_END, COLON, DAY_HEAD, DAY_OFF, DEMAND_END, DEMAND_TOP, END, FREE, HEAD, HEAD_END, HOURS_HEAD, LAST_CELL, LEAST_REST_ITEM, LEGEND_TOP, NEVER, NEXT_CELL, NO_SHIFT, OFF_TOP, OF_WORD, OPENED, PLAIN_CELL, ROSTER_TOP, ROW_END, RULES_END, RULES_TOP, RULE_END, SHIFT_TOP, SHORT_END, SHORT_TOP, STYLE_IN_THE_DARK, STYLE_OF_COLOURS, STYLE_OF_TABLES, STYLE_OF_TEXT, STYLE_ON_PAPER, TABLE_END, THEN, TO_WORD, WEEKENDS_ITEM, WEEKEND_HEAD, WEEKS_WORD, WEEK_TOP, WEEK_WORD, WORK_TOP}
-
--- a number of weeks, in words
-unfoldable pub weeks_words : ℕ → List ℕ
-weeks_words n = decimal n ++ (if n == 1 then fixed WEEK_WORD.now else fixed WEEKS_WORD.now)
-
--- a range of numbers, in words
-unfoldable pub range_words : Bounds → List ℕ
-range_words range =
-    if range.least == range.greatest then decimal range.least
-    else decimal range.least ++ fixed TO_WORD.now ++ decimal range.greatest
+use Rattle.roster_page.specs.declared.pieces.TheConstants.{AFTER_STYLE, AFTER_TITLE, AND_THEN, BLOCKS_TOP, BODY_TOP, CELL_END, CELL_TOP, CLASS_END, COLON, DAY_HEAD, DEMAND_END, DEMAND_TOP, END, FREE, HEAD, HEAD_END, HOURS_HEAD, LAST_CELL, LEAST_REST_ITEM, LEGEND_TOP, NEVER, NEXT_CELL, NO_SHIFT, OFF_TOP, OF_WORD, OPENED, PLAIN_CELL, ROSTER_TOP, ROW_END, RULES_END, RULES_TOP, RULE_END, SHIFT_TOP, SHORT_END, SHORT_TOP, STYLE_IN_THE_DARK, STYLE_OF_COLOURS, STYLE_OF_TABLES, STYLE_OF_TEXT, STYLE_ON_PAPER, TABLE_END, WEEKENDS_ITEM, WEEKEND_HEAD, WEEK_TOP, WORK_TOP}
+use Rattle.plain_words.specs.declared.pieces.TheConstants.{DAY_OFF, THEN}
+use Rattle.plain_words.specs.Words.{weeks_words, range_words}
 
 -- the name of a symbol
 unfoldable pub name_text : Instance → Symbol → List ℕ

@@ -7,7 +7,8 @@ ghost use Rattle.roster_page.specs.PageText.{count_at, demand_cell, demand_cells
 use crate::pieces::{
     BODY_TOP, DEMAND_END, DEMAND_TOP, OPENED, PLAIN_CELL, ROW_END, TABLE_END, put,
 };
-use crate::words::{put_day_heads, put_range, put_shift_head, shift_at};
+use crate::words::{put_day_heads, put_shift_head, shift_at};
+use plain_words::put_range;
 use rwsp_model::{Problem, weeks_with};
 use rwsp_terms::Symbol;
 use rwsp_text::put_number;

@@ -13,7 +13,7 @@ use crate::pieces::{
 use crate::rules::put_rules;
 use crate::short::put_short;
 use crate::table::put_roster_table;
-use crate::words::put_weeks;
+use plain_words::put_weeks;
 use rwsp_model::{Problem, Roster};
 use std::alloc::{AllocError, Global};
 

@@ -1,8 +1,5 @@
 // The fixed pieces of a page. The definition of the page cites them.
-ghost use Rattle.std.specs.Prelude.{◌≡◌, ◌++◌, OnOk};
-ghost use Rattle.roster_page.specs.Fixed.{fixed};
-
-use std::alloc::AllocError;
+pub use plain_words::pieces::put;
 
 // The page.
 
@@ -19,12 +16,6 @@ pub const AFTER_TITLE: &[u8] = b"</title>\n<style>\n";
 
 /// Between the style and the heading.
 pub const AFTER_STYLE: &[u8] = b"</style>\n</head>\n<body>\n<main>\n<h1>Roster for ";
-
-/// Behind the number 1.
-pub const WEEK_WORD: &[u8] = b" week";
-
-/// Behind another number.
-pub const WEEKS_WORD: &[u8] = b" weeks";
 
 /// The end of the page.
 pub const END: &[u8] = b"</main>\n</body>\n</html>\n";
@@ -197,9 +188,6 @@ pub const OPENED: &[u8] = b" (";
 /// Behind a demand.
 pub const DEMAND_END: &[u8] = b")</td>";
 
-/// Between the least and the greatest number.
-pub const TO_WORD: &[u8] = b" to ";
-
 // The rules.
 
 /// In front of the rules.
@@ -225,22 +213,8 @@ pub const RULE_END: &[u8] = b".</li>\n";
 /// In front of what is forbidden.
 pub const NEVER: &[u8] = b"<li>Never ";
 
-/// Between the first and the second of three.
-pub const THEN: &[u8] = b", then ";
-
 /// In front of the last.
 pub const AND_THEN: &[u8] = b" and then ";
 
-/// The day off in a rule.
-pub const DAY_OFF: &[u8] = b"a day off";
-
 /// The end of the rules.
 pub const RULES_END: &[u8] = b"</ul>\n";
-
-/// Appends a piece.
-#[tactic(auto, unfolding(crate::specs::Fixed::fixed))]
-pub fn put(out: &mut Vec<u8>, piece: &[u8]) -> Result<(), AllocError>
-    ensures { OnOk result (out.new.items ≡ out.old.items ++ fixed piece.now) }
-{
-    out.extend_from_slice(piece)
-}

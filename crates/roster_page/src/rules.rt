@@ -5,10 +5,11 @@ ghost use Rattle.rwsp_model.specs.Sequences.{IsPairOf, IsTripleOf};
 ghost use Rattle.roster_page.specs.PageText.{block_rule, block_rules, off_rule, work_rule, symbol_words, pair_rule, pair_rules, triple_rule, triple_rules, rules_list};
 
 use crate::pieces::{
-    AND_THEN, BLOCKS_TOP, COLON, DAY_OFF, NEVER, OFF_TOP, RULE_END, RULES_END, RULES_TOP, THEN,
-    WORK_TOP, put,
+    AND_THEN, BLOCKS_TOP, COLON, NEVER, OFF_TOP, RULE_END, RULES_END, RULES_TOP, WORK_TOP, put,
 };
-use crate::words::{put_name, put_range, shift_at};
+use crate::words::{put_name, shift_at};
+use plain_words::pieces::{DAY_OFF, THEN};
+use plain_words::put_range;
 use rwsp_model::Problem;
 use rwsp_terms::{Class, Symbol};
 use std::alloc::AllocError;

@@ -2,43 +2,15 @@
 ghost use Rattle.std.specs.Prelude.{◌≡◌, ◌++◌, ◌<◌, OnOk};
 ghost use Rattle.rwsp_terms.specs.Instance.{shift_count, IsSymbol};
 ghost use Rattle.made_problems.specs.Rested.{shift_at};
-ghost use Rattle.roster_page.specs.PageText.{weeks_words, range_words, name_text, day_head, day_heads, shift_head};
+ghost use Rattle.roster_page.specs.PageText.{name_text, day_head, day_heads, shift_head};
 
 use crate::escaped::put_escaped;
-use crate::pieces::{
-    CLASS_END, DAY_HEAD, HEAD_END, SHIFT_TOP, TO_WORD, WEEK_WORD, WEEKS_WORD, put,
-};
+use crate::pieces::{CLASS_END, DAY_HEAD, HEAD_END, SHIFT_TOP, put};
 use rwsp_model::Problem;
+use rwsp_terms::Symbol;
 use rwsp_terms::limits::{MOST_DAYS, MOST_SHIFTS};
-use rwsp_terms::{Bounds, Symbol};
 use rwsp_text::put_number;
 use std::alloc::AllocError;
-
-/// Appends a number of weeks, in words.
-#[tactic(auto, unfolding(crate::specs::PageText::weeks_words))]
-pub fn put_weeks(out: &mut Vec<u8>, count: u32) -> Result<(), AllocError>
-    ensures { OnOk result (out.new.items ≡ out.old.items ++ weeks_words count) }
-{
-    put_number(out, u64::from(count))?;
-    if count == 1 {
-        put(out, WEEK_WORD)
-    } else {
-        put(out, WEEKS_WORD)
-    }
-}
-
-/// Appends a range of numbers, in words.
-#[tactic(auto, unfolding(crate::specs::PageText::range_words))]
-pub fn put_range(out: &mut Vec<u8>, range: Bounds) -> Result<(), AllocError>
-    ensures { OnOk result (out.new.items ≡ out.old.items ++ range_words range) }
-{
-    put_number(out, u64::from(range.least))?;
-    if range.least != range.greatest {
-        put(out, TO_WORD)?;
-        put_number(out, u64::from(range.greatest))?;
-    }
-    Ok(())
-}
 
 /// Appends the name of a symbol.
 #[tactic(auto, unfolding(crate::specs::PageText::name_text))]

@@ -19,5 +19,6 @@ mod ways;
 pub use answer::WaysOut;
 pub use change::{Change, Outcome};
 pub use laws::{changes_are_listed, other_rules_stay, rosters_stay, ways_agree};
+pub use listed::{changed_rule, changes_in};
 pub use print::{print_ways, status_of_ways};
 pub use ways::ways_out;

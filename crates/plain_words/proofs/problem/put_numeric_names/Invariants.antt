@@ -6,4 +6,4 @@ use Rattle.plain_words.proofs.problem.put_numeric_names.Given as goal
 
 abbrev pub invariant-loop-i : goal.invariant-loop-i
 invariant-loop-i l =
-    l.out.items ≡ l.fn.out.items ++ flat_map (λ n. sentence_line l.problem (NumericName n)) (take l.i l.names)
+    l.out.items ≡ l.fn.out.items ++ flat_map (λ n. sentence_line l.telling l.problem (NumericName n)) (take l.i l.names)

@@ -5,4 +5,4 @@ use Rattle.plain_words.specs.SentenceText.{lines}
 use Rattle.plain_words.proofs.problem.put_rules.Given as goal
 
 abbrev pub invariant-loop-place : goal.invariant-loop-place
-invariant-loop-place l = l.out.items ≡ l.fn.out.items ++ lines l.problem (map OfRule (range_with_len 1 l.place))
+invariant-loop-place l = l.out.items ≡ l.fn.out.items ++ lines l.telling l.problem (map OfRule (range_with_len 1 l.place))

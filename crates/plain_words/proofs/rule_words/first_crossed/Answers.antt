@@ -1,8 +1,8 @@
-use Rattle.std.proofs.Common.{◌≡◌, ◌+◌, ◌<◌, ap, sym, ◌∙◌, arith, below_more}
+use Rattle.std.proofs.Common.{◌≡◌, ◌+◌, ◌<◌, ap, sym, ◌∙◌, arith}
 use Rattle.std.specs.Prelude.{Some}
 use Rattle.rwsp_terms.specs.Instance.{shift_count}
 use Rattle.plain_words.specs.RuleWords.{is_crossed}
-use Rattle.plain_words.proofs.Pieces.{found_at, none_found}
+use Rattle.plain_words.proofs.Joined.{found_at}
 use Rattle.plain_words.proofs.rule_words.first_crossed.Goals as goal
 
 pub returns-then-is_crossed-clause-value : goal.returns-then-is_crossed-clause-value
@@ -12,13 +12,3 @@ returns-then-is_crossed-clause-value c =
     let next : k + 1 ≡ 1 + k = omega arith in
     let within : k < shift_count c.args.problem.now = omega (arith, c.loop-place-test.true, c.shifts-place-end.ensures.value) in
     ap (λ n. Some n) next ∙ sym (found_at test 1 (shift_count c.args.problem.now) k within c.loop-place.invariant (ap test (sym next) ∙ sym c.is_crossed.ensures ∙ c.if-is_crossed.true))
-
-pub loop-place-preserved : goal.loop-place-preserved
-loop-place-preserved c =
-    let test = is_crossed c.args.problem.now c.args.day in
-    let next : c.loop-place.place + 1 ≡ 1 + c.loop-place.place = omega arith in
-    below_more _ _ c.loop-place.invariant (ap test (sym next) ∙ sym c.is_crossed.ensures ∙ c.if-is_crossed.false)
-
-pub returns-clause-value : goal.returns-clause-value
-returns-clause-value c =
-    sym (none_found (is_crossed c.args.problem.now c.args.day) 1 (shift_count c.args.problem.now) (λ i less. c.loop-place.invariant i (omega (arith, less, c.loop-place-test.false, c.shifts-place-end.ensures.value))))

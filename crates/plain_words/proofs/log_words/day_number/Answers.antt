@@ -1,7 +1,0 @@
-use Rattle.std.proofs.Common.{sym}
-use Rattle.rwsp_terms.specs.declared.data.Rule.TheVariants.{Day}
-use Rattle.rwsp_model.proofs.Numbering.{rule_numbered}
-use Rattle.plain_words.proofs.log_words.day_number.Goals as goal
-
-pub returns-clause-value : goal.returns-clause-value
-returns-clause-value c = sym (rule_numbered c.args.problem.now c.number_of.result (Day c.args.day) c.number_of.ensures.value).1

@@ -1,6 +1,0 @@
-use Rattle.std.proofs.Common.{◌≡◌, ◌+◌, drop}
-use Rattle.plain_words.specs.AnswerParts.{lines_len}
-use Rattle.plain_words.proofs.parts.lines_len.Given as goal
-
-abbrev pub invariant-loop-i : goal.invariant-loop-i
-invariant-loop-i l = lines_len l.weeks l.bytes ≡ l.i + lines_len l.left (drop l.i l.bytes)

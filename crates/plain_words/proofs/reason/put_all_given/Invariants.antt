@@ -1,0 +1,7 @@
+use Rattle.std.proofs.Common.{◌≡◌, ◌++◌, take}
+use Rattle.std.specs.List.{flat_map}
+use Rattle.plain_words.specs.ReasonWords.{given_words}
+use Rattle.plain_words.proofs.reason.put_all_given.Given as goal
+
+abbrev pub invariant-loop-cell : goal.invariant-loop-cell
+invariant-loop-cell l = l.out.items ≡ l.fn.out.items ++ flat_map (given_words l.problem) (take l.cell-index l.given)

@@ -1,4 +1,0 @@
-use Rattle.plain_words.proofs.staff_parts.sized_log.Goals as goal
-
-pub returns : goal.returns
-returns c = rw c.in_ok-sized.ensures at c.in_ok-found.ensures

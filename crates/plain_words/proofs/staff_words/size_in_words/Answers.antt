@@ -1,4 +1,0 @@
-use Rattle.plain_words.proofs.staff_words.size_in_words.Goals as goal
-
-pub returns : goal.returns
-returns c = rw c.in_ok-sized.ensures at c.in_ok-text.ensures
