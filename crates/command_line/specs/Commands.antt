@@ -117,11 +117,7 @@ on_form = record {
 }
 
 abbrev pub explain_form : Form Command
-explain_form = record {
-  word = codes "explain";
-  fields = problem_file ∷ Perhaps (File (codes "ANSWER")) ∷ [];
-  make = λ v. Explain v.0 v.1.0;
-}
+explain_form = record { word = codes "explain"; fields = problem_file ∷ []; make = λ v. Explain v.0 }
 
 -- the table, in the order of the line of usage
 abbrev pub forms : List (Form Command)
@@ -155,13 +151,12 @@ abbrev pub file_of : Command → List ℕ
 file_of (Trial number weeks) = []
 file_of (OnProblem file task) = file
 file_of (OnFiles file second task) = file
-file_of (Explain file answer) = file
+file_of (Explain file) = file
 
--- the name of the second file; where `explain` is given no answer, it has the bytes of the problem's file to explain
+-- the name of the second file; `explain` has the bytes of the problem's file to explain
 abbrev pub second_of : Command → List ℕ
 second_of (OnFiles file second task) = second
-second_of (Explain file None) = file
-second_of (Explain file (Some answer)) = answer
+second_of (Explain file) = file
 second_of command = []
 
 -- the command reads a problem's file
@@ -172,7 +167,7 @@ ReadsProblem command = Unit {0}
 -- the command reads a second file
 abbrev pub ReadsSecond : Command → Type 0
 ReadsSecond (OnFiles file second task) = Unit {0}
-ReadsSecond (Explain file answer) = Unit {0}
+ReadsSecond (Explain file) = Unit {0}
 ReadsSecond command = ⊥
 
 -- n is from 1 to a limit
@@ -207,7 +202,7 @@ abbrev pub IsInRange : Command → Type 0
 IsInRange (Trial number weeks) = IsUpTo MOST_WEEKS weeks
 IsInRange (OnProblem file task) = IsProblemTaskInRange task
 IsInRange (OnFiles file second task) = IsFilesTaskInRange task
-IsInRange (Explain file answer) = Unit {0}
+IsInRange (Explain file) = Unit {0}
 
 -- a calendar that the task asks for ends by 9999-12-31, with all duties, and a date isn't before the roster's first day
 abbrev pub EndsInTime : FilesTask → Type 0

@@ -30,10 +30,9 @@ pub enum Command<'a> {
         second: FileName<'a>,
         task: FilesTask,
     },
-    /// Words on what a problem's file says, or why it is refused; or on what an answer says that was printed for it.
+    /// Words on what a problem's file says, or why it is refused.
     Explain {
         file: FileName<'a>,
-        answer: Option<FileName<'a>>,
     },
 }
 

@@ -12,7 +12,7 @@ use rwsp_terms::limits::{
 };
 
 const USAGE: &str =
-    "usage: rwsp plan FILE [--budget B] | check FILE LOG [--workers N] | verify FILE ROSTER | reduce FILE LOG | show FILE | trial NUMBER WEEKS | best FILE [--budget B] | check-free FILE LOG | staff FILE LOW HIGH [--budget B] | check-staff FILE TEXT | crew FILE ROSTER DATE DAYS [EMPLOYEE] | mend FILE [--budget B] | fill FILE CELLS [--budget B] | check-fill FILE LOG | rest FILE MINUTES | page FILE ROSTER | ics FILE ROSTER DATE DAYS EMPLOYEE | on FILE ROSTER START DATE | roster FILE ANSWER | explain FILE [ANSWER]";
+    "usage: rwsp plan FILE [--budget B] | check FILE LOG [--workers N] | verify FILE ROSTER | reduce FILE LOG | show FILE | trial NUMBER WEEKS | best FILE [--budget B] | check-free FILE LOG | staff FILE LOW HIGH [--budget B] | check-staff FILE TEXT | crew FILE ROSTER DATE DAYS [EMPLOYEE] | mend FILE [--budget B] | fill FILE CELLS [--budget B] | check-fill FILE LOG | rest FILE MINUTES | page FILE ROSTER | ics FILE ROSTER DATE DAYS EMPLOYEE | on FILE ROSTER START DATE | roster FILE ANSWER | explain FILE";
 
 /// The line that lists all forms, without its LF.
 #[tactic(auto, unfolding(crate::specs::Commands::usage_text))]
@@ -230,10 +230,5 @@ fn explain<'a>(words: &mut Words<'a>) -> Option<Command<'a>>
     ensures range { IfSome result IsInRange }
 {
     let file = words.file()?;
-    let answer = if words.is_empty() {
-        None
-    } else {
-        Some(words.file()?)
-    };
-    Some(Command::Explain { file, answer })
+    Some(Command::Explain { file })
 }

@@ -39,17 +39,21 @@ employee_there P employee e here is past =
 right : (employee : Option ℕ) (P : Instance) (bytes : List ℕ) (date : Date) (days : ℕ) (text : List ℕ) → IsCalendarOf employee P bytes date days text → SpellsRight P bytes
 right employee P bytes date days text h = (h.0, h.1, h.2)
 
+shown_alike : (text other : List ℕ) (d e : Date) → text ≡ other → d ≡ e → Shown text d ≡ Shown other e
+shown_alike text other d e f g = cc
+
 pub one_crew : (P : Instance) (bytes : List ℕ) (date : Date) (days : ℕ) (employee : Option ℕ) (a b : Answer) → KeepsLimits P → IsCrewAnswer P bytes date days employee a → IsCrewAnswer P bytes date days employee b → a ≡ b
-one_crew P bytes date days employee (Shown text) (Shown other) limits h k = ap Shown (one_calendar employee P bytes date days text other limits h.1 k.1)
-one_crew P bytes date days employee (Shown text) (NoEmployee e) limits h k = absurd (employee_there P employee e h.0 k.1 k.2)
-one_crew P bytes date days employee (Shown text) (Fails fault) limits h k = absurd (right_or_fault P bytes fault (right employee P bytes date days text h.1) k)
-one_crew P bytes date days employee (NoEmployee e) (Shown text) limits h k = absurd (employee_there P employee e k.0 h.1 h.2)
+one_crew P bytes date days employee (Shown text d) (Shown other e) limits h k =
+    shown_alike text other d e (one_calendar employee P bytes date days text other limits h.2 k.2) (h.0 ∙ sym k.0)
+one_crew P bytes date days employee (Shown text d) (NoEmployee e) limits h k = absurd (employee_there P employee e h.1 k.1 k.2)
+one_crew P bytes date days employee (Shown text d) (Fails fault) limits h k = absurd (right_or_fault P bytes fault (right employee P bytes date days text h.2) k)
+one_crew P bytes date days employee (NoEmployee e) (Shown text d) limits h k = absurd (employee_there P employee e k.1 h.1 h.2)
 one_crew P bytes date days employee (NoEmployee e) (NoEmployee f) limits h k =
     let both : Some e ≡ Some f = sym h.1 ∙ k.1 in
     let same : e ≡ f = cc in
     ap NoEmployee same
 one_crew P bytes date days employee (NoEmployee e) (Fails fault) limits h k = absurd (right_or_fault P bytes fault h.0 k)
-one_crew P bytes date days employee (Fails fault) (Shown text) limits h k = absurd (right_or_fault P bytes fault (right employee P bytes date days text k.1) h)
+one_crew P bytes date days employee (Fails fault) (Shown text d) limits h k = absurd (right_or_fault P bytes fault (right employee P bytes date days text k.2) h)
 one_crew P bytes date days employee (Fails fault) (NoEmployee e) limits h k = absurd (right_or_fault P bytes fault k.0 h)
 one_crew P bytes date days employee (Fails fault) (Fails other) limits h k = ap Fails (one_fault P bytes fault other h k)
 
@@ -72,20 +76,24 @@ duty_and_none P bytes date days e text h k =
     let both = same_roster P bytes (HasEvents P date days e text) (λ s. HasNoDuty P s days e) h k in
     duty_or_none P both.0 days e both.1.0 both.2
 
+events_alike : (text other : List ℕ) (c d : Date) → text ≡ other → c ≡ d → Icss.Shown text c ≡ Icss.Shown other d
+events_alike text other c d e f = cc
+
 pub one_ics : (P : Instance) (bytes : List ℕ) (date : Date) (days e : ℕ) (a b : Ics) → KeepsLimits P → IsIcsAnswer P bytes date days e a → IsIcsAnswer P bytes date days e b → a ≡ b
-one_ics P bytes date days e (Icss.Shown text) (Icss.Shown other) limits h k = ap Icss.Shown (same_events P bytes date days e text other limits h.1 k.1)
-one_ics P bytes date days e (Icss.Shown text) Icss.NoDuty limits h k = absurd (duty_and_none P bytes date days e text h.1 k.1)
-one_ics P bytes date days e (Icss.Shown text) (Icss.NoEmployee n) limits h k = absurd (omega (arith, h.0, k.2))
-one_ics P bytes date days e (Icss.Shown text) (Icss.Fails fault) limits h k = absurd (right_or_fault P bytes fault (right_with P bytes (HasEvents P date days e text) h.1) k)
-one_ics P bytes date days e Icss.NoDuty (Icss.Shown text) limits h k = absurd (duty_and_none P bytes date days e text k.1 h.1)
+one_ics P bytes date days e (Icss.Shown text c) (Icss.Shown other d) limits h k =
+    events_alike text other c d (same_events P bytes date days e text other limits h.2 k.2) (h.0 ∙ sym k.0)
+one_ics P bytes date days e (Icss.Shown text d) Icss.NoDuty limits h k = absurd (duty_and_none P bytes date days e text h.2 k.1)
+one_ics P bytes date days e (Icss.Shown text d) (Icss.NoEmployee n) limits h k = absurd (omega (arith, h.1, k.2))
+one_ics P bytes date days e (Icss.Shown text d) (Icss.Fails fault) limits h k = absurd (right_or_fault P bytes fault (right_with P bytes (HasEvents P date days e text) h.2) k)
+one_ics P bytes date days e Icss.NoDuty (Icss.Shown text d) limits h k = absurd (duty_and_none P bytes date days e text k.2 h.1)
 one_ics P bytes date days e Icss.NoDuty Icss.NoDuty limits h k = refl
 one_ics P bytes date days e Icss.NoDuty (Icss.NoEmployee n) limits h k = absurd (omega (arith, h.0, k.2))
 one_ics P bytes date days e Icss.NoDuty (Icss.Fails fault) limits h k = absurd (right_or_fault P bytes fault (right_with P bytes (λ s. HasNoDuty P s days e) h.1) k)
-one_ics P bytes date days e (Icss.NoEmployee n) (Icss.Shown text) limits h k = absurd (omega (arith, k.0, h.2))
+one_ics P bytes date days e (Icss.NoEmployee n) (Icss.Shown text d) limits h k = absurd (omega (arith, k.1, h.2))
 one_ics P bytes date days e (Icss.NoEmployee n) Icss.NoDuty limits h k = absurd (omega (arith, k.0, h.2))
 one_ics P bytes date days e (Icss.NoEmployee n) (Icss.NoEmployee m) limits h k = ap Icss.NoEmployee (h.1 ∙ sym k.1)
 one_ics P bytes date days e (Icss.NoEmployee n) (Icss.Fails fault) limits h k = absurd (right_or_fault P bytes fault h.0 k)
-one_ics P bytes date days e (Icss.Fails fault) (Icss.Shown text) limits h k = absurd (right_or_fault P bytes fault (right_with P bytes (HasEvents P date days e text) k.1) h)
+one_ics P bytes date days e (Icss.Fails fault) (Icss.Shown text d) limits h k = absurd (right_or_fault P bytes fault (right_with P bytes (HasEvents P date days e text) k.2) h)
 one_ics P bytes date days e (Icss.Fails fault) Icss.NoDuty limits h k = absurd (right_or_fault P bytes fault (right_with P bytes (λ s. HasNoDuty P s days e) k.1) h)
 one_ics P bytes date days e (Icss.Fails fault) (Icss.NoEmployee n) limits h k = absurd (right_or_fault P bytes fault k.0 h)
 one_ics P bytes date days e (Icss.Fails fault) (Icss.Fails other) limits h k = ap Icss.Fails (one_fault P bytes fault other h k)

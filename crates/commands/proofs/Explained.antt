@@ -10,11 +10,9 @@ use Rattle.rwsp_file.specs.RefusalText.{refused_line}
 use Rattle.rwsp_file.specs.RefusalWords.{refusal_words}
 use Rattle.rwsp_file.specs.declared.refusal.FileRefusal.{FileRefusal}
 use Rattle.rwsp_file.proofs.Explained.{refusals_are_explained}
-use Rattle.rwsp_model.specs.Validity.{KeepsLimits}
-use Rattle.plain_words.proofs.OneSaid.{answers_one}
-use Rattle.commands.specs.Explain.{IsRefusalOf, IsAnswerExplanation}
+use Rattle.commands.specs.Explain.{IsRefusalOf}
 use Rattle.commands.specs.declared.explain.Answer.{Answer}
-use Rattle.commands.specs.declared.explain.Answer.TheVariants.{Refused, Said, NoAnswer}
+use Rattle.commands.specs.declared.explain.Answer.TheVariants.{Refused}
 
 -- a refused file has some words
 abbrev HasWords : List ℕ → Option FileRefusal → Type 0
@@ -66,12 +64,3 @@ refused_by file text (Some why) words h = (why, refl)
 -- a file that has words is refused
 pub refused_of : (file text : List ℕ) → refusal_words file ≡ Some text → (why : FileRefusal) × (file_refusal file ≡ Some why)
 refused_of file text h = refused_by file text (file_refusal file) (explained file) h
-
--- one thing is said of the bytes of an answer
-pub said_once : (P : Instance) (bytes : List ℕ) (v w : Answer) → KeepsLimits P → IsAnswerExplanation P bytes v → IsAnswerExplanation P bytes w → v ≡ w
-said_once P bytes (Said s) (Said t) limits h k = ap Said (answers_one P bytes s t limits h k)
-said_once P bytes (Said s) NoAnswer limits h k = absurd (k s h)
-said_once P bytes NoAnswer (Said t) limits h k = absurd (h t k)
-said_once P bytes NoAnswer NoAnswer limits h k = refl
-said_once P bytes (Refused s) w limits h k = absurd h
-said_once P bytes v (Refused t) limits h k = absurd k

@@ -48,7 +48,7 @@ use Rattle.commands.proofs.RosterAnswers.{one_taken}
 given : (P : Instance) (bytes : List ℕ) (m : ℕ) (s : List Symbol) → KeepsLimits P → StandsIn P bytes m s → MeetsAll (with_weeks P m) s → GivesBack P bytes (roster_text (with_weeks P m) s)
 given P bytes m s limits stands meets answer h =
     let text = roster_text (with_weeks P m) s in
-    one_taken P bytes answer (Shown text) limits h (m, s, stands, (meets, refl))
+    one_taken P bytes answer (Shown text) limits h (m, record { days = P.days; cells = s }, refl, stands, (meets, refl))
 
 pub plans_given_back : PlansAreGivenBack
 plans_given_back P s limits meets =
@@ -271,6 +271,6 @@ of_staff P bytes m s (low, e) =
     }
 
 pub shown_rosters_stand : ShownRostersStand
-shown_rosters_stand P bytes text (m, s, inl (weeks, spells), judged) = (m, s, inl (weeks, spells.1), judged.1)
-shown_rosters_stand P bytes text (m, s, inr (none, inl (weeks, best)), judged) = (m, s, inr (inl (of_best P bytes s best)), judged.1)
-shown_rosters_stand P bytes text (m, s, inr (none, inr least), judged) = (m, s, inr (inr (of_staff P bytes m s least)), judged.1)
+shown_rosters_stand P bytes text (m, s, days, inl (weeks, spells), judged) = (m, s.cells, inl (weeks, spells.1), judged.1)
+shown_rosters_stand P bytes text (m, s, days, inr (none, inl (weeks, best)), judged) = (m, s.cells, inr (inl (of_best P bytes s.cells best)), judged.1)
+shown_rosters_stand P bytes text (m, s, days, inr (none, inr least), judged) = (m, s.cells, inr (inr (of_staff P bytes m s.cells least)), judged.1)

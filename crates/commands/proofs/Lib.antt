@@ -1,4 +1,6 @@
 pub mod Appends
+pub mod Behind
+pub mod TellingLines
 pub mod Demand
 pub mod Refusals
 pub mod Reductions
@@ -6,6 +8,7 @@ pub mod Unread
 pub mod Tried
 pub mod Owned
 pub mod ProblemFiles
+pub mod Told
 pub mod Rosters
 pub mod Logs
 pub mod Bests

@@ -13,7 +13,7 @@ use Rattle.refutation_terms.specs.Log.{Log, Passes}
 use Rattle.refutation_terms.specs.LogText.{log_text}
 use Rattle.refutation_terms.specs.Laws.{HasGoal}
 use Rattle.refutation_terms.specs.Strip.{IsReduced}
-use Rattle.refutation_terms.specs.Verdict.{kind_by, IsAccepted, IsVerdict}
+use Rattle.refutation_terms.specs.Verdict.{kind_by, IsAccepted, IsRefused, IsVerdict}
 use Rattle.refutation_terms.proofs.Sound.{passing_leaves_none}
 use Rattle.refutation_terms.proofs.Named.{named-IsRule}
 use Rattle.refutation_terms.proofs.Unique.{verdict_unique}
@@ -72,6 +72,11 @@ not_both_ways : (P : Instance) (kind : LogKind) (bytes : List ℕ) (g : Log) (wh
 not_both_ways P kind bytes g why limits a r =
     let both : Ok g ≡ Err why = one_verdict P kind bytes (Ok g) (Err why) limits a r in
     absurd (cc)
+
+-- a log that passes isn't refused
+pub passing_is_not_refused : (P : Instance) (g : Log) (why : LogRefusal) → KeepsLimits P → Passes P g → IsRefused P (kind_by g.goal) (log_text P g) why → ⊥
+passing_is_not_refused P g why limits passes refused =
+    not_both_ways P (kind_by g.goal) (log_text P g) g why limits (record { of_kind = refl; is_text = refl; passes = passes }) refused
 
 same_acceptance : (goal other : Option ℕ) (R S : List ℕ) → goal ≡ other → R ≡ S → Checks.Accepted goal R ≡ Checks.Accepted other S
 same_acceptance goal other R S e f = cc

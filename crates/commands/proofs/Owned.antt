@@ -13,7 +13,7 @@ use Rattle.commands.specs.Best.{IsBestOf}
 
 pub plan_owned : (P : Instance) (budget : ℕ) (found : Found) → IsPlanned P budget found → IsPlanOf P found
 plan_owned P budget (Founds.Roster s) h = (h.0, h.1.is_roster)
-plan_owned P budget (Founds.NoRoster g) h = h.0.grounded.fits
+plan_owned P budget (Founds.NoRoster g) h = h.0
 plan_owned P budget (Founds.Undecided g) h = h.0.grounded.fits
 
 pub best_owned : (P : Instance) (budget : ℕ) (found : BestFound) → P.days ≡ 7 → IsBestFound P budget found → IsBestOf P found

@@ -3,32 +3,35 @@ use Rattle.std.proofs.Common.{◌≡◌, ℕ, List, [], ◌∷◌, ◌++◌, get
 use Rattle.rwsp_terms.specs.declared.data.Symbol.{Symbol}
 use Rattle.rwsp_terms.specs.Instance.{Instance}
 use Rattle.rwsp_model.specs.Validity.{KeepsLimits}
+use Rattle.rwsp_model.specs.declared.roster.Roster.{Roster}
 use Rattle.roster_print.proofs.Spelling.{one_roster}
 use Rattle.roster_checker.proofs.FirstBroken.{first_broken-not_met, first_broken-same}
-use Rattle.roster_checker.specs.declared.broken.Broken.{Broken}
 use Rattle.refutation_terms.specs.Log.{Log}
 use Rattle.crew_size.specs.Sizes.{with_weeks}
 use Rattle.crew_size.specs.Texts.{sections_text, roster_line}
 use Rattle.crew_checker.specs.Least.{HasLeast}
 use Rattle.crew_checker.proofs.LeastEnds.{one_least}
 use Rattle.commands.specs.ReadBest.{IsBestWith}
-use Rattle.commands.specs.Verify.{fault_line}
-use Rattle.commands.specs.declared.verify.RosterFault.TheVariants as Faults
+use Rattle.commands.specs.declared.verify.BrokenRoster.{BrokenRoster}
 use Rattle.commands.specs.Roster.{IsJudged, SpellsNone, StandsIn, SaysOf, IsRosterAnswer}
 use Rattle.commands.specs.declared.roster.Answer.{Answer}
 use Rattle.commands.specs.declared.roster.Answer.TheVariants.{Shown, Breaks, NoRoster}
 use Rattle.commands.proofs.ReadBest.{one_best}
+use Rattle.commands.proofs.Rosters.{same_schedule, same_breach}
 
-one_judged : (P : Instance) (s : List Symbol) (a b : Answer) → IsJudged P s a → IsJudged P s b → a ≡ b
-one_judged P s (Shown text) (Shown other) h k = ap Shown (h.1 ∙ sym k.1)
-one_judged P s (Shown text) (Breaks other) h k = absurd (first_broken-not_met P s k.0 k.1 h.0)
-one_judged P s (Shown text) NoRoster h k = absurd k
-one_judged P s (Breaks text) (Shown other) h k = absurd (first_broken-not_met P s h.0 h.1 k.0)
-one_judged P s (Breaks text) (Breaks other) h k =
-    let same : h.0 ≡ k.0 = first_broken-same P s h.0 k.0 h.1 k.1 in
-    ap Breaks (h.2 ∙ ap (λ (b : Broken). fault_line P (Faults.Breaks b)) same ∙ sym k.2)
-one_judged P s (Breaks text) NoRoster h k = absurd k
-one_judged P s NoRoster b h k = absurd h
+breaks_alike : (m n : ℕ) (b c : BrokenRoster) → m ≡ n → b ≡ c → Breaks m b ≡ Breaks n c
+breaks_alike m n b c e f = cc
+
+one_judged : (P : Instance) (m : ℕ) (s : Roster) (a b : Answer) → IsJudged P m s a → IsJudged P m s b → a ≡ b
+one_judged P m s (Shown text) (Shown other) h k = ap Shown (h.1 ∙ sym k.1)
+one_judged P m s (Shown text) (Breaks n c) h k = absurd (first_broken-not_met (with_weeks P m) s.cells c.broken k.2 h.0)
+one_judged P m s (Shown text) NoRoster h k = absurd k
+one_judged P m s (Breaks l b) (Shown other) h k = absurd (first_broken-not_met (with_weeks P m) s.cells b.broken h.2 k.0)
+one_judged P m s (Breaks l b) (Breaks n c) h k =
+    let same : b.broken ≡ c.broken = first_broken-same (with_weeks P m) s.cells b.broken c.broken h.2 k.2 in
+    breaks_alike l n b c (h.0 ∙ sym k.0) (same_breach b c same (h.1 ∙ sym k.1))
+one_judged P m s (Breaks l b) NoRoster h k = absurd k
+one_judged P m s NoRoster b h k = absurd h
 
 -- an answer of `best` is none of `staff`
 not_both : (P : Instance) (bytes : List ℕ) (s : List Symbol) (n : ℕ) (t : List Symbol) → IsBestWith P bytes s → HasLeast P bytes n t → ⊥
@@ -49,20 +52,21 @@ stands_once P bytes m n s t limits (inr (none, inr h)) (inr (other, inl k)) = ab
 stands_once P bytes m n s t limits (inr (none, inr h)) (inr (other, inr k)) = one_least P bytes m n s t limits h k
 
 one_said : (P : Instance) (bytes : List ℕ) (a b : Answer) → KeepsLimits P → SaysOf P bytes a → SaysOf P bytes b → a ≡ b
-one_said P bytes a b limits (m, s, here, h) (n, t, there, k) =
-    let same = stands_once P bytes m n s t limits here there in
-    let moved : IsJudged (with_weeks P m) s b = subst (λ (i : ℕ). IsJudged (with_weeks P i) s b) (sym same.0) (subst (λ (r : List Symbol). IsJudged (with_weeks P n) r b) (sym same.1) k) in
-    one_judged (with_weeks P m) s a b h moved
+one_said P bytes a b limits (m, s, days, here, h) (n, t, others, there, k) =
+    let same = stands_once P bytes m n s.cells t.cells limits here there in
+    let rosters : s ≡ t = same_schedule s t (days ∙ sym others) same.1 in
+    let moved : IsJudged P m s b = subst (λ (i : ℕ). IsJudged P i s b) (sym same.0) (subst (λ (r : Roster). IsJudged P n r b) (sym rosters) k) in
+    one_judged P m s a b h moved
 
 pub one_taken : (P : Instance) (bytes : List ℕ) (a b : Answer) → KeepsLimits P → IsRosterAnswer P bytes a → IsRosterAnswer P bytes b → a ≡ b
 one_taken P bytes (Shown x) (Shown y) limits h k = one_said P bytes (Shown x) (Shown y) limits h k
-one_taken P bytes (Shown x) (Breaks y) limits h k = one_said P bytes (Shown x) (Breaks y) limits h k
-one_taken P bytes (Breaks x) (Shown y) limits h k = one_said P bytes (Breaks x) (Shown y) limits h k
-one_taken P bytes (Breaks x) (Breaks y) limits h k = one_said P bytes (Breaks x) (Breaks y) limits h k
-one_taken P bytes (Shown x) NoRoster limits h k = absurd (k h.0 h.1 h.2)
-one_taken P bytes (Breaks x) NoRoster limits h k = absurd (k h.0 h.1 h.2)
-one_taken P bytes NoRoster (Shown y) limits h k = absurd (h k.0 k.1 k.2)
-one_taken P bytes NoRoster (Breaks y) limits h k = absurd (h k.0 k.1 k.2)
+one_taken P bytes (Shown x) (Breaks y v) limits h k = one_said P bytes (Shown x) (Breaks y v) limits h k
+one_taken P bytes (Breaks x u) (Shown y) limits h k = one_said P bytes (Breaks x u) (Shown y) limits h k
+one_taken P bytes (Breaks x u) (Breaks y v) limits h k = one_said P bytes (Breaks x u) (Breaks y v) limits h k
+one_taken P bytes (Shown x) NoRoster limits h k = absurd (k h.0 h.1.cells h.3)
+one_taken P bytes (Breaks x u) NoRoster limits h k = absurd (k h.0 h.1.cells h.3)
+one_taken P bytes NoRoster (Shown y) limits h k = absurd (h k.0 k.1.cells k.3)
+one_taken P bytes NoRoster (Breaks y v) limits h k = absurd (h k.0 k.1.cells k.3)
 one_taken P bytes NoRoster NoRoster limits h k = refl
 
 -- no roster stands in bytes that are none of the three

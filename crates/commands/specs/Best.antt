@@ -1,5 +1,5 @@
 -- What `best` answers.
-use Rattle.std.specs.Prelude.{◌≡◌, ℕ, ◌+◌, ◌*◌, ◌^◌, ◌<◌, Bool, List, [], ◌++◌, codes, Option, Some, None}
+use Rattle.std.specs.Prelude.{◌≡◌, ℕ, ◌+◌, ◌*◌, ◌^◌, ◌<◌, Bool, List, [], ◌∷◌, ◌++◌, codes, Option, Some, None}
 use Rattle.std.specs.Fmt.{decimal}
 use Rattle.rwsp_terms.specs.declared.limits.TheConstants.{DAYS_OF_WEEK}
 use Rattle.rwsp_terms.specs.Instance.{Instance, cells, shift_count}
@@ -12,6 +12,10 @@ use Rattle.roster_print.specs.RosterText.{roster_text}
 use Rattle.refutation_log.specs.Bests.{IsBestFound, IsBestCounted, IsUndecided}
 use Rattle.refutation_log.specs.declared.best_found.BestFound.{BestFound}
 use Rattle.refutation_log.specs.declared.best_found.BestFound.TheVariants.{Best, NoRoster, Undecided}
+use Rattle.plain_words.specs.Statements.{Statement, FreeWeekends, Then}
+use Rattle.plain_words.specs.LogTold.{Are, IsSaidOfLog, rosters_by}
+use Rattle.plain_words.specs.declared.pieces.TheConstants.{BUDGET_SPENT}
+use Rattle.commands.specs.Told.{IsTold, IsSaidOfSpent, refuted_statements}
 use Rattle.commands.specs.Lines.{line}
 
 -- a roster with a proof that none has more free weekends; or a proof that there is no roster; or what is known where
@@ -49,6 +53,17 @@ abbrev pub IsBestOf : Instance → BestFound → Type 0
 IsBestOf P (Best s g) = IsWeeklyRoster P s × Fits P g
 IsBestOf P (NoRoster g) = Fits P g
 IsBestOf P (Undecided s g) = IsRosterFound P s × Fits P g
+
+-- which statements are told of an answer
+abbrev pub AreBestStatements : Instance → BestFound → List Statement → Type 0
+AreBestStatements P (Best s g) =
+    Then (Are (FreeWeekends (free_weekends s.cells) ∷ [])) (IsSaidOfLog P (rosters_by g.goal) g)
+AreBestStatements P (NoRoster g) = Then (Are (refuted_statements g)) (IsSaidOfLog P (rosters_by g.goal) g)
+AreBestStatements P (Undecided s g) = IsSaidOfSpent P BUDGET_SPENT.now g
+
+-- what is told of an answer
+abbrev pub IsBestTold : Instance → BestFound → List ℕ → Type 0
+IsBestTold P found text = IsTold P (AreBestStatements P found) text
 
 abbrev pub best_status : BestFound → ℕ
 best_status (Best s g) = 0

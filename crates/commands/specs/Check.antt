@@ -1,5 +1,5 @@
 -- What `check` and `check-free` answer.
-use Rattle.std.specs.Prelude.{◌≡◌, ℕ, ◌≤◌, List, ◌∷◌, ◌++◌, codes, Option, Some, None}
+use Rattle.std.specs.Prelude.{◌≡◌, ℕ, ◌≤◌, List, [], ◌∷◌, ◌++◌, codes, Option, Some, None}
 use Rattle.std.specs.List.{flat_map}
 use Rattle.std.specs.Fmt.{decimal}
 use Rattle.rwsp_terms.specs.Instance.{Instance}
@@ -9,6 +9,9 @@ use Rattle.refutation_terms.specs.declared.lines.LogKind.{LogKind}
 use Rattle.refutation_terms.specs.Log.{Log}
 use Rattle.refutation_terms.specs.Verdict.{IsAccepted, IsRefused}
 use Rattle.refutation_terms.specs.FreeWeekends.{free_weekends}
+use Rattle.plain_words.specs.Statements.{Statement, told_lines}
+use Rattle.plain_words.specs.LogTold.{accepted_statements}
+use Rattle.plain_words.specs.Told.{log_refusal_statement}
 use Rattle.commands.specs.Lines.{line}
 use Rattle.refutation_log.specs.RefusalText.{log_refusal_text, HasSymbols}
 use Rattle.commands.specs.declared.check.Answer.{Answer}
@@ -43,6 +46,15 @@ check_text P (Refused why) = line (log_refusal_text P why)
 abbrev pub IsCheckedOf : Instance → Answer → Type 0
 IsCheckedOf P (Accepted goal R) = Unit {0}
 IsCheckedOf P (Refused why) = HasSymbols P why
+
+-- what the statements about an answer are
+abbrev pub check_statements : Instance → Answer → List Statement
+check_statements P (Accepted goal R) = accepted_statements P goal R
+check_statements P (Refused why) = log_refusal_statement why ∷ []
+
+-- what is told of an answer
+abbrev pub IsCheckTold : Instance → Answer → List ℕ → Type 0
+IsCheckTold P answer text = text ≡ told_lines P (check_statements P answer)
 
 abbrev pub check_status : Answer → ℕ
 check_status (Accepted goal R) = 0

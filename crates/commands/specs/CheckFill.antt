@@ -1,5 +1,5 @@
 -- What `check-fill` answers.
-use Rattle.std.specs.Prelude.{ℕ, List, ◌∷◌, ◌++◌, codes}
+use Rattle.std.specs.Prelude.{◌≡◌, ℕ, List, [], ◌∷◌, ◌++◌, codes}
 use Rattle.rwsp_terms.specs.Instance.{Instance}
 use Rattle.rwsp_terms.specs.Rules.{Meets}
 use Rattle.rwsp_terms.specs.declared.data.Symbol.{Symbol}
@@ -9,6 +9,9 @@ use Rattle.refutation_log.specs.FillText.{IsFillRefused, cells_text}
 use Rattle.refutation_checker.specs.PassedFill.{IsPassedFill}
 use Rattle.refutation_checker.specs.declared.fill_verdict.PassedFill.{PassedFill}
 use Rattle.refutation_log.specs.RefusalText.{log_refusal_text, HasSymbols}
+use Rattle.plain_words.specs.Statements.{Statement, told_lines}
+use Rattle.plain_words.specs.LogTold.{fill_shown_statements}
+use Rattle.plain_words.specs.Told.{log_refusal_statement}
 use Rattle.commands.specs.Lines.{line}
 use Rattle.commands.specs.Check.{rules_text}
 use Rattle.commands.specs.declared.check_fill.Answer.{Answer}
@@ -36,6 +39,15 @@ check_fill_text P (Refused why) = line (log_refusal_text P why)
 abbrev pub IsCheckedFillOf : Instance → Answer → Type 0
 IsCheckedFillOf P (Accepted passed) = AreGivenIn P passed.given
 IsCheckedFillOf P (Refused why) = HasSymbols P why
+
+-- what the statements about an answer are
+abbrev pub check_fill_statements : Instance → Answer → List Statement
+check_fill_statements P (Accepted passed) = fill_shown_statements P passed.given passed.named
+check_fill_statements P (Refused why) = log_refusal_statement why ∷ []
+
+-- what is told of an answer
+abbrev pub IsCheckFillTold : Instance → Answer → List ℕ → Type 0
+IsCheckFillTold P answer text = text ≡ told_lines P (check_fill_statements P answer)
 
 abbrev pub check_fill_status : Answer → ℕ
 check_fill_status (Accepted passed) = 0

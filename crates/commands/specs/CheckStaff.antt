@@ -1,5 +1,5 @@
 -- What `check-staff` answers.
-use Rattle.std.specs.Prelude.{ℕ, List, ◌++◌, codes}
+use Rattle.std.specs.Prelude.{◌≡◌, ℕ, List, ◌++◌, codes}
 use Rattle.std.specs.Fmt.{decimal}
 use Rattle.rwsp_terms.specs.Instance.{Instance}
 use Rattle.crew_size.specs.Laws.{AreSizesDecided}
@@ -7,6 +7,8 @@ use Rattle.crew_size.specs.Verdict.{IsStaffAccepted, IsStaffRefused}
 use Rattle.crew_size.specs.declared.verdict.Staffed.{Staffed}
 use Rattle.crew_size.specs.declared.verdict.Staffed.TheVariants as Decided
 use Rattle.crew_size.specs.RefusalText.{staff_refusal_text, NamesItsOwn}
+use Rattle.plain_words.specs.Statements.{Statement, told_lines}
+use Rattle.plain_words.specs.Told.{staffed_statements, staff_refusal_statements}
 use Rattle.commands.specs.Lines.{line}
 use Rattle.commands.specs.declared.check_staff.Answer.{Answer}
 use Rattle.commands.specs.declared.check_staff.Answer.TheVariants.{Accepted, Refused}
@@ -29,6 +31,15 @@ check_staff_text P (Refused why) = line (staff_refusal_text P why)
 abbrev pub IsCheckedStaffOf : Instance → Answer → Type 0
 IsCheckedStaffOf P (Accepted staffed) = Unit {0}
 IsCheckedStaffOf P (Refused why) = NamesItsOwn P why
+
+-- what the statements about an answer are
+abbrev pub check_staff_statements : Instance → Answer → List Statement
+check_staff_statements P (Accepted staffed) = staffed_statements staffed
+check_staff_statements P (Refused why) = staff_refusal_statements P why
+
+-- what is told of an answer
+abbrev pub IsCheckStaffTold : Instance → Answer → List ℕ → Type 0
+IsCheckStaffTold P answer text = text ≡ told_lines P (check_staff_statements P answer)
 
 abbrev pub check_staff_status : Answer → ℕ
 check_staff_status (Accepted staffed) = 0

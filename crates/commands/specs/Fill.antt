@@ -1,5 +1,5 @@
 -- What `fill` answers.
-use Rattle.std.specs.Prelude.{◌≡◌, ℕ, List, Some}
+use Rattle.std.specs.Prelude.{◌≡◌, ℕ, List, [], ◌∷◌, Some}
 use Rattle.rwsp_terms.specs.Instance.{Instance}
 use Rattle.rwsp_terms.specs.Roster.{IsRoster}
 use Rattle.roster_print.specs.RosterText.{roster_text}
@@ -10,6 +10,10 @@ use Rattle.refutation_log.specs.Filled.{IsCountedFirst, IsFilledWith}
 use Rattle.refutation_log.specs.CellsText.{SpellsGiven, refusal_of_cells}
 use Rattle.refutation_log.specs.declared.filled.Filled.{Filled}
 use Rattle.refutation_log.specs.declared.filled.Filled.TheVariants.{Roster, NoRoster, Undecided}
+use Rattle.plain_words.specs.Statements.{Statement, Plain, told_lines}
+use Rattle.plain_words.specs.LogTold.{fill_statements}
+use Rattle.plain_words.specs.Told.{roster_refusal_statement}
+use Rattle.plain_words.specs.declared.pieces.TheConstants.{BUDGET_SPENT, NONE_WITH_CELLS}
 use Rattle.commands.specs.Verify.{fault_line}
 use Rattle.commands.specs.declared.verify.RosterFault.TheVariants as Faults
 use Rattle.commands.specs.declared.fill.Answer.{Answer}
@@ -46,6 +50,20 @@ abbrev pub filled_status : Filled → ℕ
 filled_status (Roster s) = 0
 filled_status (NoRoster f) = 1
 filled_status (Undecided f) = 4
+
+-- what the statements about what was found are
+abbrev pub filled_statements : Instance → Filled → List Statement
+filled_statements P (Roster s) = []
+filled_statements P (NoRoster f) = Plain NONE_WITH_CELLS.now ∷ fill_statements P f
+filled_statements P (Undecided f) = Plain BUDGET_SPENT.now ∷ fill_statements P f
+
+abbrev pub fill_answer_statements : Instance → Answer → List Statement
+fill_answer_statements P (Found found) = filled_statements P found
+fill_answer_statements P (Refused why) = roster_refusal_statement why ∷ []
+
+-- what is told of an answer
+abbrev pub IsFillTold : Instance → Answer → List ℕ → Type 0
+IsFillTold P answer text = text ≡ told_lines P (fill_answer_statements P answer)
 
 abbrev pub fill_status : Answer → ℕ
 fill_status (Found found) = filled_status found

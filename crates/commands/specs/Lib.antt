@@ -1,4 +1,5 @@
 pub mod Lines
+pub mod Told
 pub mod Files
 pub mod ProblemFile
 pub mod Plan

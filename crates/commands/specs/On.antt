@@ -1,10 +1,11 @@
 -- What `on` answers.
-use Rattle.std.specs.Prelude.{ℕ, List}
+use Rattle.std.specs.Prelude.{◌≡◌, ℕ, List, [], ◌∷◌}
 use Rattle.rwsp_terms.specs.Instance.{Instance}
 use Rattle.crew_calendar.specs.Calendar.{Date}
 use Rattle.crew_calendar.specs.OnDate.{IsOn}
+use Rattle.plain_words.specs.Statements.{Statement, told_lines}
 use Rattle.commands.specs.Ics.{SpellsRightWith}
-use Rattle.commands.specs.Verify.{IsRosterFault, fault_line, IsFaultOf, fault_status}
+use Rattle.commands.specs.Verify.{IsRosterFault, fault_line, IsFaultOf, fault_statement, fault_status}
 use Rattle.commands.specs.declared.on.Answer.{Answer}
 use Rattle.commands.specs.declared.on.Answer.TheVariants.{Shown, Fails}
 
@@ -21,6 +22,15 @@ on_text P (Fails fault) = fault_line P fault
 abbrev pub IsOnAnswerOf : Instance → Answer → Type 0
 IsOnAnswerOf P (Shown text) = Unit {0}
 IsOnAnswerOf P (Fails fault) = IsFaultOf P fault
+
+-- what is said of an answer
+abbrev pub on_statements : Instance → Answer → List Statement
+on_statements P (Shown shown) = []
+on_statements P (Fails fault) = fault_statement P fault ∷ []
+
+-- what is told of it
+abbrev pub IsOnTold : Instance → Answer → List ℕ → Type 0
+IsOnTold P answer text = text ≡ told_lines P (on_statements P answer)
 
 abbrev pub on_status : Answer → ℕ
 on_status (Shown text) = 0

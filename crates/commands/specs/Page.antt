@@ -1,11 +1,12 @@
 -- What `page` answers.
-use Rattle.std.specs.Prelude.{ℕ, List}
+use Rattle.std.specs.Prelude.{◌≡◌, ℕ, List, [], ◌∷◌}
 use Rattle.rwsp_terms.specs.Instance.{Instance}
 use Rattle.rwsp_terms.specs.Roster.{MeetsAll}
 use Rattle.rwsp_terms.specs.declared.data.Symbol.{Symbol}
 use Rattle.roster_print.specs.RosterText.{SpellsRoster}
 use Rattle.roster_page.specs.PageText.{IsPage}
-use Rattle.commands.specs.Verify.{IsRosterFault, fault_line, IsFaultOf, fault_status}
+use Rattle.plain_words.specs.Statements.{Statement, told_lines}
+use Rattle.commands.specs.Verify.{IsRosterFault, fault_line, IsFaultOf, fault_statement, fault_status}
 use Rattle.commands.specs.declared.page.Answer.{Answer}
 use Rattle.commands.specs.declared.page.Answer.TheVariants.{Shown, Fails}
 
@@ -26,6 +27,15 @@ page_answer_text P (Fails fault) = fault_line P fault
 abbrev pub IsPageAnswerOf : Instance → Answer → Type 0
 IsPageAnswerOf P (Shown text) = Unit {0}
 IsPageAnswerOf P (Fails fault) = IsFaultOf P fault
+
+-- what is said of an answer
+abbrev pub page_statements : Instance → Answer → List Statement
+page_statements P (Shown page) = []
+page_statements P (Fails fault) = fault_statement P fault ∷ []
+
+-- what is told of it
+abbrev pub IsPageTold : Instance → Answer → List ℕ → Type 0
+IsPageTold P answer text = text ≡ told_lines P (page_statements P answer)
 
 abbrev pub page_status : Answer → ℕ
 page_status (Shown text) = 0

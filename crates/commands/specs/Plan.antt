@@ -1,13 +1,20 @@
 -- What `plan` answers.
-use Rattle.std.specs.Prelude.{◌≡◌, ℕ, Bool, List}
+use Rattle.std.specs.Prelude.{◌≡◌, ℕ, Bool, true, false, List, [], ◌∷◌, length, nat_le}
 use Rattle.rwsp_terms.specs.Instance.{Instance}
 use Rattle.rwsp_terms.specs.Roster.{IsRoster}
-use Rattle.refutation_terms.specs.Log.{Fits}
+use Rattle.refutation_terms.specs.Log.{Log, Fits, Passes}
+use Rattle.refutation_terms.specs.Strip.{IsReduced}
 use Rattle.refutation_terms.specs.LogText.{log_text}
 use Rattle.roster_print.specs.RosterText.{roster_text}
 use Rattle.refutation_log.specs.Planned.{IsPlanned, IsCounted}
 use Rattle.refutation_log.specs.declared.found.Found.{Found}
 use Rattle.refutation_log.specs.declared.found.Found.TheVariants.{Roster, NoRoster, Undecided}
+use Rattle.plain_words.specs.Statements.{Statement, Plain, Then}
+use Rattle.plain_words.specs.LogTold.{Are, IsSaidOfLog, IsSaidOfReduced}
+use Rattle.plain_words.specs.declared.reason.Rosters.TheVariants.{Every}
+use Rattle.plain_words.specs.declared.pieces.TheConstants.{BUDGET_SPENT, MEND_LOOKS, REDUCE_MAY}
+use Rattle.commands.specs.Told.{IsTold, IsSaidOfSpent, refuted_statements}
+use Rattle.commands.specs.declared.plan.TheConstants.{MOST_LINES_REDUCED}
 
 -- what a plan finds within the budget, which counts blocks or not
 abbrev pub IsPlanAnswer : Instance → ℕ → Bool → Found → Type 0
@@ -18,11 +25,29 @@ plan_text P (Roster s) = roster_text P s.cells
 plan_text P (NoRoster g) = log_text P g
 plan_text P (Undecided g) = log_text P g
 
--- what the answer names is the instance's
+-- what the answer names is the instance's, and where there is no roster the log passes
 abbrev pub IsPlanOf : Instance → Found → Type 0
 IsPlanOf P (Roster s) = (s.days ≡ P.days) × IsRoster P s.cells
-IsPlanOf P (NoRoster g) = Fits P g
+IsPlanOf P (NoRoster g) = Passes P g
 IsPlanOf P (Undecided g) = Fits P g
+
+-- of a log that isn't long, what is said of its reduction; of another, that reducing it may help
+abbrev pub IsSaidShortly : Bool → Instance → Log → List Statement → Type 0
+IsSaidShortly true P g statements =
+    (h : Log) × IsReduced P g h × IsSaidOfReduced P (length g.named) h statements
+IsSaidShortly false P g statements = Then (IsSaidOfLog P Every g) (Are (Plain REDUCE_MAY.now ∷ [])) statements
+
+-- which statements are told of an answer
+abbrev pub ArePlanStatements : Instance → Found → List Statement → Type 0
+ArePlanStatements P (Roster s) = Are []
+ArePlanStatements P (NoRoster g) =
+    Then (Are (refuted_statements g))
+    (Then (IsSaidShortly (nat_le (length g.lines) MOST_LINES_REDUCED) P g) (Are (Plain MEND_LOOKS.now ∷ [])))
+ArePlanStatements P (Undecided g) = IsSaidOfSpent P BUDGET_SPENT.now g
+
+-- what is told of an answer
+abbrev pub IsPlanTold : Instance → Found → List ℕ → Type 0
+IsPlanTold P found text = IsTold P (ArePlanStatements P found) text
 
 abbrev pub plan_status : Found → ℕ
 plan_status (Roster s) = 0

@@ -1,5 +1,5 @@
 -- What `reduce` answers.
-use Rattle.std.specs.Prelude.{ℕ, List}
+use Rattle.std.specs.Prelude.{◌≡◌, ℕ, List, [], ◌∷◌}
 use Rattle.rwsp_terms.specs.Instance.{Instance}
 use Rattle.refutation_terms.specs.declared.lines.LogKind.TheVariants.{WithoutGoal}
 use Rattle.refutation_terms.specs.Log.{Log, Fits, Passes}
@@ -7,6 +7,11 @@ use Rattle.refutation_terms.specs.LogText.{log_text}
 use Rattle.refutation_terms.specs.Strip.{IsReduced}
 use Rattle.refutation_terms.specs.Verdict.{IsAccepted, IsRefused}
 use Rattle.refutation_log.specs.Needs.{NeedsEach, NeedsTogether}
+use Rattle.plain_words.specs.Statements.{told_lines}
+use Rattle.plain_words.specs.LogTold.{IsSaidOfLog}
+use Rattle.plain_words.specs.Told.{log_refusal_statement}
+use Rattle.plain_words.specs.declared.reason.Rosters.TheVariants.{Every}
+use Rattle.commands.specs.Told.{IsTold}
 use Rattle.commands.specs.Lines.{line}
 use Rattle.refutation_log.specs.RefusalText.{log_refusal_text, HasSymbols}
 use Rattle.commands.specs.declared.reduce.Answer.{Answer}
@@ -31,6 +36,11 @@ reduce_text P (Refused why) = line (log_refusal_text P why)
 abbrev pub IsReductionOf : Instance → Answer → Type 0
 IsReductionOf P (Reduced g) = Fits P g
 IsReductionOf P (Refused why) = HasSymbols P why
+
+-- what is told of an answer
+abbrev pub IsReduceTold : Instance → Answer → List ℕ → Type 0
+IsReduceTold P (Reduced g) text = IsTold P (IsSaidOfLog P Every g) text
+IsReduceTold P (Refused why) text = text ≡ told_lines P (log_refusal_statement why ∷ [])
 
 abbrev pub reduce_status : Answer → ℕ
 reduce_status (Reduced g) = 0

@@ -1,14 +1,17 @@
 // Whether a log passes, with a goal or without.
 ghost use Rattle.std.specs.Prelude.{◌≡◌, ◌++◌, ◌≤◌, IfOk, OnOk};
 ghost use Rattle.refutation_log.specs.ReadLog.{HasLogsOf};
+ghost use Rattle.plain_words.specs.Statements.{told_lines};
+ghost use Rattle.plain_words.specs.LogTold.{accepted_statements};
 ghost use Rattle.commands.specs.Files.{IsWithinLimit};
 ghost use Rattle.commands.specs.Lines.{line};
-ghost use Rattle.commands.specs.Check.{IsChecked, IsCheckedOf, check_text, check_status, accepted_words, rules_text};
+ghost use Rattle.commands.specs.Check.{IsCheckTold, IsChecked, IsCheckedOf, check_text, check_status, accepted_words, rules_text};
 ghost use Rattle.commands.specs.declared.second_file.SecondKind.TheVariants as Kinds;
 
-use crate::log_refusal::log_refusal_line;
+use crate::log_refusal::{log_refusal_line, log_refusal_told};
 use crate::put::put_numbers;
 use clean_words::Gate;
+use plain_words::put_accepted_told;
 use refutation_checker::{UncheckedLog, check_with};
 use refutation_log::{LogKind, LogRefusal};
 use rwsp_model::{Fail, Problem};
@@ -107,6 +110,31 @@ fn put_accepted(out: &mut Vec<u8>, goal: Option<u32>) -> Result<(), AllocError>
         }
     }
     Ok(())
+}
+
+/// What is told of the answer.
+pub fn told(alloc: Global, problem: &Problem, answer: &Answer) -> Result<Vec<u8>, AllocError>
+    requires { IsCheckedOf problem.now answer.now }
+    ensures { IfOk result (λ v. IsCheckTold problem.now answer.now v.items) }
+{
+    match answer {
+        Answer::Accepted { goal, rules } => accepted_told(alloc, problem, *goal, rules),
+        Answer::Refused(why) => log_refusal_told(alloc, problem, why),
+    }
+}
+
+// What is told of an accepted log.
+fn accepted_told(
+    alloc: Global,
+    problem: &Problem,
+    goal: Option<u32>,
+    rules: &RuleList,
+) -> Result<Vec<u8>, AllocError>
+    ensures { IfOk result (λ v. v.items ≡ told_lines problem.now (accepted_statements problem.now goal rules.now)) }
+{
+    let mut out = Vec::new(alloc);
+    put_accepted_told(&mut out, problem, goal, rules.numbers())?;
+    Ok(out)
 }
 
 /// The status of the answer.

@@ -1,13 +1,16 @@
 // Whether a fill log passes.
 ghost use Rattle.std.specs.Prelude.{◌≡◌, ◌++◌, IfOk, OnOk};
 ghost use Rattle.refutation_log.specs.GivenCells.{AreGivenIn};
+ghost use Rattle.plain_words.specs.Statements.{told_lines};
+ghost use Rattle.plain_words.specs.LogTold.{fill_shown_statements};
 ghost use Rattle.commands.specs.Files.{IsWithinLimit};
-ghost use Rattle.commands.specs.CheckFill.{IsCheckedFill, IsCheckedFillOf, accepted_text, check_fill_text, check_fill_status};
+ghost use Rattle.commands.specs.CheckFill.{IsCheckFillTold, IsCheckedFill, IsCheckedFillOf, accepted_text, check_fill_text, check_fill_status};
 ghost use Rattle.commands.specs.declared.second_file.SecondKind.TheVariants as Kinds;
 
-use crate::log_refusal::log_refusal_line;
+use crate::log_refusal::{log_refusal_line, log_refusal_told};
 use crate::put::put_numbers;
 use clean_words::Gate;
+use plain_words::put_fill_shown_told;
 use refutation_checker::{PassedFill, check_fill_with};
 use refutation_log::{LogRefusal, put_cells_line};
 use rwsp_model::{Fail, Problem};
@@ -68,6 +71,37 @@ fn accepted_line(
     put_numbers(&mut out, passed.named.numbers())?;
     out.push(b' ')?;
     put_cells_line(&mut out, problem, &passed.given)?;
+    Ok(out)
+}
+
+/// What is told of the answer.
+pub fn told(alloc: Global, problem: &Problem, answer: &Answer) -> Result<Vec<u8>, AllocError>
+    requires { IsCheckedFillOf problem.now answer.now }
+    ensures { IfOk result (λ v. IsCheckFillTold problem.now answer.now v.items) }
+{
+    match answer {
+        Answer::Accepted(passed) => accepted_told(alloc, problem, passed),
+        Answer::Refused(why) => log_refusal_told(alloc, problem, why),
+    }
+}
+
+// What is told of an accepted fill log.
+fn accepted_told(
+    alloc: Global,
+    problem: &Problem,
+    passed: &PassedFill,
+) -> Result<Vec<u8>, AllocError>
+    requires { AreGivenIn problem.now passed.now.given }
+    ensures { IfOk result (λ v.
+        v.items ≡ told_lines problem.now (fill_shown_statements problem.now passed.now.given passed.now.named)) }
+{
+    let mut out = Vec::new(alloc);
+    put_fill_shown_told(
+        &mut out,
+        problem,
+        passed.given.cells(),
+        passed.named.numbers(),
+    )?;
     Ok(out)
 }
 

@@ -1,7 +1,7 @@
 // Whether a text that shows the least crew is right.
 ghost use Rattle.std.specs.Prelude.{◌≡◌, IfOk};
 ghost use Rattle.commands.specs.Files.{IsWithinLimit};
-ghost use Rattle.commands.specs.CheckStaff.{IsCheckedStaff, IsCheckedStaffOf, check_staff_text, check_staff_status};
+ghost use Rattle.commands.specs.CheckStaff.{IsCheckStaffTold, IsCheckedStaff, IsCheckedStaffOf, check_staff_text, check_staff_status};
 ghost use Rattle.commands.specs.declared.second_file.SecondKind.TheVariants as Kinds;
 
 mod texts;
@@ -13,7 +13,7 @@ use rwsp_model::{Fail, Problem};
 use rwsp_terms::limits::USUAL_WORKERS;
 use std::alloc::{AllocError, Global};
 use std::thread::Threads;
-use texts::{staff_refusal_line, staffed_line};
+use texts::{staff_refusal_line, staff_refusal_told, staffed_line, staffed_told};
 
 /// Whether a staff text is right.
 #[derive(Drop)]
@@ -51,6 +51,17 @@ pub fn text(alloc: Global, problem: &Problem, answer: &Answer) -> Result<Vec<u8>
     match answer {
         Answer::Accepted(staffed) => staffed_line(alloc, *staffed),
         Answer::Refused(why) => staff_refusal_line(alloc, problem, why),
+    }
+}
+
+/// What is told of the answer.
+pub fn told(alloc: Global, problem: &Problem, answer: &Answer) -> Result<Vec<u8>, AllocError>
+    requires { IsCheckedStaffOf problem.now answer.now }
+    ensures { IfOk result (λ v. IsCheckStaffTold problem.now answer.now v.items) }
+{
+    match answer {
+        Answer::Accepted(staffed) => staffed_told(alloc, problem, *staffed),
+        Answer::Refused(why) => staff_refusal_told(alloc, problem, why),
     }
 }
 

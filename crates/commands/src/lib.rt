@@ -24,10 +24,16 @@ pub mod roster;
 mod second_file;
 pub mod staff;
 mod stop;
+mod telling;
+mod text;
 pub mod trial;
 pub mod verify;
 
-pub use problem_file::{ProblemRefusal, problem_bytes_in, problem_in, problem_refusal_line};
+pub use problem_file::{
+    ProblemRefusal, Subject, problem_in, problem_refusal_line, problem_refusal_told,
+};
 pub use put::not_weekly_line;
 pub use second_file::{SecondKind, second_in, too_long_line};
 pub use stop::Stop;
+pub use telling::behind_rwsp;
+pub use text::Text;

@@ -1,56 +1,20 @@
 // The page of a roster that meets every rule.
-ghost use Rattle.std.specs.Prelude.{◌≡◌, ℕ, List, IfOk};
-ghost use Rattle.rwsp_terms.specs.Roster.{IsRoster};
-ghost use Rattle.roster_print.specs.RosterText.{SpellsRoster};
+ghost use Rattle.std.specs.Prelude.{◌≡◌, IfOk};
 ghost use Rattle.commands.specs.Files.{IsWithinLimit};
-ghost use Rattle.commands.specs.Page.{IsPageAnswer, IsPageAnswerOf, page_answer_text, page_status};
+ghost use Rattle.commands.specs.Page.{IsPageAnswer, IsPageAnswerOf, IsPageTold, page_answer_text, page_status};
 ghost use Rattle.commands.specs.declared.second_file.SecondKind.TheVariants as Kinds;
 
-use crate::verify::{RosterFault, fault_line, fault_status};
-use roster_checker::first_broken;
+use crate::text::Text;
+use crate::verify::{RosterFault, fault_line, fault_status, fault_told, right_roster};
 use roster_page::page_text;
-use roster_print::read_roster;
-use rwsp_model::{Fail, Problem, Roster};
+use rwsp_model::Problem;
 use std::alloc::{AllocError, Global};
-use std::marker::Model;
-
-/// The text of a page.
-#[derive(Drop)]
-pub struct Page {
-    text: Vec<u8>,
-}
-
-impl Model for Page {
-    ghost use Rattle.std.specs.Prelude.{List, ℕ};
-
-    ghost Value = { List ℕ };
-
-    ghost view = { λ page. page.text.items };
-}
-
-impl Page {
-    ghost use Rattle.std.specs.Prelude.{◌≡◌};
-
-    // The page with this text.
-    fn of(text: Vec<u8>) -> Page
-        ensures { result ≡ text.items }
-    {
-        Page { text }
-    }
-
-    /// Its text.
-    pub fn text(&self) -> &[u8]
-        ensures { result.now ≡ self.now }
-    {
-        &self.text
-    }
-}
 
 /// The page of a roster, or why there is none.
 #[derive(Drop)]
 pub enum Answer {
     /// The roster meets every rule.
-    Shown(Page),
+    Shown(Text),
     /// It doesn't.
     Fails(RosterFault),
 }
@@ -61,25 +25,12 @@ pub fn job(alloc: Global, problem: &Problem, bytes: &[u8]) -> Result<Answer, All
     ensures says { IfOk result (IsPageAnswer problem.now bytes.now) }
     ensures own { IfOk result (IsPageAnswerOf problem.now) }
 {
-    match read_roster(alloc, problem, bytes) {
-        Ok(roster) => on_roster(alloc, problem, &roster),
-        Err(Fail::Refused(why)) => Ok(Answer::Fails(RosterFault::Refused(why))),
-        Err(Fail::Memory) => Err(AllocError),
-    }
-}
-
-// The answer to a roster.
-fn on_roster(alloc: Global, problem: &Problem, roster: &Roster) -> Result<Answer, AllocError>
-    requires { IsRoster problem.now roster.now.cells }
-    ensures says { (bytes : List ℕ) → SpellsRoster problem.now bytes roster.now.cells
-        → IfOk result (IsPageAnswer problem.now bytes) }
-    ensures own { IfOk result (IsPageAnswerOf problem.now) }
-{
-    if let Some(broken) = first_broken(problem, roster) {
-        return Ok(Answer::Fails(RosterFault::Breaks(broken)));
-    }
-    let text = page_text(alloc, problem, roster)?;
-    Ok(Answer::Shown(Page::of(text)))
+    let roster = match right_roster(alloc, problem, bytes)? {
+        Ok(roster) => roster,
+        Err(fault) => return Ok(Answer::Fails(fault)),
+    };
+    let text = page_text(alloc, problem, &roster)?;
+    Ok(Answer::Shown(Text::of(text)))
 }
 
 /// The text of the answer: the page, or a line.
@@ -88,8 +39,19 @@ pub fn text(alloc: Global, problem: &Problem, answer: &Answer) -> Result<Vec<u8>
     ensures { IfOk result (λ v. v.items ≡ page_answer_text problem.now answer.now) }
 {
     match answer {
-        Answer::Shown(page) => Vec::from_slice(alloc, page.text()),
+        Answer::Shown(page) => page.copy(alloc),
         Answer::Fails(fault) => fault_line(alloc, problem, fault),
+    }
+}
+
+/// What is told of the answer.
+pub fn told(alloc: Global, problem: &Problem, answer: &Answer) -> Result<Vec<u8>, AllocError>
+    requires { IsPageAnswerOf problem.now answer.now }
+    ensures { IfOk result (λ v. IsPageTold problem.now answer.now v.items) }
+{
+    match answer {
+        Answer::Shown(_) => Ok(Vec::new(alloc)),
+        Answer::Fails(fault) => fault_told(alloc, problem, fault),
     }
 }
 

@@ -5,12 +5,16 @@ ghost use Rattle.refutation_terms.specs.LogText.{log_text};
 ghost use Rattle.refutation_terms.specs.Verdict.{kind_by};
 ghost use Rattle.refutation_terms.specs.declared.lines.LogRefusal.{LogRefusal as Why};
 ghost use Rattle.refutation_log.specs.ReadLog.{IsUnread};
+ghost use Rattle.plain_words.specs.LogTold.{IsSaidOfLog};
+ghost use Rattle.plain_words.specs.declared.reason.Rosters.TheVariants.{Every};
+ghost use Rattle.commands.specs.Told.{IsTold};
 ghost use Rattle.commands.specs.Files.{IsWithinLimit};
-ghost use Rattle.commands.specs.Reduce.{IsReduction, IsReductionOf, reduce_text, reduce_status};
+ghost use Rattle.commands.specs.Reduce.{IsReduceTold, IsReduction, IsReductionOf, reduce_text, reduce_status};
 ghost use Rattle.commands.specs.declared.second_file.SecondKind.TheVariants as Kinds;
 
-use crate::log_refusal::log_refusal_line;
+use crate::log_refusal::{log_refusal_line, log_refusal_told};
 use clean_words::Gate;
+use plain_words::{Rosters, put_log_told};
 use refutation_checker::{UncheckedLog, check_with};
 use refutation_log::{Log, LogKind, LogRefusal, print_log, read_log};
 use rule_reducer::reduce_in_place;
@@ -98,6 +102,28 @@ pub fn text(alloc: Global, problem: &Problem, answer: &Answer) -> Result<Vec<u8>
         Answer::Reduced(log) => print_log(alloc, problem, log),
         Answer::Refused(why) => log_refusal_line(alloc, problem, why),
     }
+}
+
+/// What is told of the answer.
+pub fn told(alloc: Global, problem: &Problem, answer: &Answer) -> Result<Vec<u8>, AllocError>
+    requires { IsReductionOf problem.now answer.now }
+    ensures { IfOk result (λ v. IsReduceTold problem.now answer.now v.items) }
+{
+    match answer {
+        Answer::Reduced(log) => reduced_told(alloc, problem, log),
+        Answer::Refused(why) => log_refusal_told(alloc, problem, why),
+    }
+}
+
+// What is told of a log that is left.
+fn reduced_told(alloc: Global, problem: &Problem, log: &Log) -> Result<Vec<u8>, AllocError>
+    requires { Fits problem.now log.now }
+    ensures { IfOk result (λ v.
+        IsTold problem.now (IsSaidOfLog problem.now Every log.now) v.items) }
+{
+    let mut out = Vec::new(alloc);
+    put_log_told(&mut out, problem, Rosters::Every, log)?;
+    Ok(out)
 }
 
 /// The status of the answer.

@@ -1,10 +1,14 @@
 // The problem with a least rest between shifts.
-ghost use Rattle.std.specs.Prelude.{◌≡◌, ◌++◌, ◌≤◌, IfOk, codes};
+ghost use Rattle.std.specs.Prelude.{◌≡◌, ◌∷◌, ◌++◌, ◌≤◌, [], length, IfOk, codes};
 ghost use Rattle.std.specs.Fmt.{decimal};
+ghost use Rattle.plain_words.specs.Statements.{Forbidden, told_lines};
 ghost use Rattle.commands.specs.Lines.{line};
-ghost use Rattle.commands.specs.Rest.{IsRestAnswer, rest_text, rest_status};
+ghost use Rattle.commands.specs.Rest.{IsRestTold, IsRestAnswer, rest_text, rest_status};
 
+use crate::telling::numbered_told;
 use made_problems::{LeastRest, require_rest, rosters_rest};
+use plain_words::pieces::{PAIRS_LIMIT, REST_FORBIDS, TRIPLES_LIMIT};
+use plain_words::put_forbidden_told;
 use rwsp_file::{canonical_texts_spell, print_problem};
 use rwsp_model::Problem;
 use rwsp_terms::limits::LONGEST_REST;
@@ -44,6 +48,36 @@ pub fn text(alloc: Global, answer: &LeastRest) -> Result<Vec<u8>, AllocError>
             *count,
         ),
     }
+}
+
+/// What is told of the answer.
+pub fn told(alloc: Global, problem: &Problem, answer: &LeastRest) -> Result<Vec<u8>, AllocError>
+    ensures { IfOk result (λ v. IsRestTold problem.now answer.now v.items) }
+{
+    match answer {
+        LeastRest::Rested(rested) => forbidden_told(alloc, problem, rested),
+        LeastRest::Pairs(count) => {
+            numbered_told(alloc, problem, REST_FORBIDS, *count, PAIRS_LIMIT)
+        }
+        LeastRest::Triples(count) => {
+            numbered_told(alloc, problem, REST_FORBIDS, *count, TRIPLES_LIMIT)
+        }
+    }
+}
+
+// How many pairs and triples a problem with a least rest forbids.
+fn forbidden_told(alloc: Global, problem: &Problem, rested: &Problem) -> Result<Vec<u8>, AllocError>
+    ensures { IfOk result (λ v. v.items
+        ≡ told_lines problem.now (Forbidden (length rested.now.pairs) (length rested.now.triples) ∷ [])) }
+{
+    let mut out = Vec::new(alloc);
+    put_forbidden_told(
+        &mut out,
+        problem,
+        rested.pairs().len() as u64,
+        rested.triples().len() as u64,
+    )?;
+    Ok(out)
 }
 
 /// The status of the answer.

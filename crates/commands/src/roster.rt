@@ -5,13 +5,14 @@ ghost use Rattle.rwsp_terms.specs.Roster.{IsRoster};
 ghost use Rattle.crew_size.specs.Sizes.{with_weeks, IsSize};
 ghost use Rattle.commands.specs.Files.{IsWithinLimit};
 ghost use Rattle.commands.specs.declared.second_file.SecondKind.TheVariants as Kinds;
-ghost use Rattle.commands.specs.Roster.{IsJudged, SpellsShort, SpellsNone, StandsIn, IsRosterAnswer, roster_answer_text, roster_status};
+ghost use Rattle.commands.specs.Roster.{IsJudged, SpellsShort, SpellsNone, StandsIn, IsRosterAnswer, IsRosterAnswerOf, IsRosterTold, roster_answer_text, roster_status};
 
 mod laws;
 mod of_best;
 
-use crate::crew::Calendar;
-use crate::verify::{RosterFault, fault_line};
+use crate::telling::plain_told;
+use crate::text::Text;
+use crate::verify::{BrokenRoster, broken_line, broken_told};
 use crew_checker::read_least;
 use crew_size::with_weeks;
 pub use laws::{
@@ -19,6 +20,7 @@ pub use laws::{
     staffs_spell_no_roster,
 };
 use of_best::best_roster;
+use plain_words::pieces::NO_ROSTER_THERE;
 use roster_checker::first_broken;
 use roster_print::{print_roster, read_roster};
 use rwsp_model::{Fail, Problem, Roster};
@@ -29,9 +31,9 @@ use std::alloc::{AllocError, Global};
 #[derive(Drop)]
 pub enum Answer {
     /// It meets every rule: its text.
-    Shown(Calendar),
-    /// It breaks a rule: the line that says so.
-    Breaks(Calendar),
+    Shown(Text),
+    /// It has this number of weeks, and breaks a rule.
+    Breaks(u32, BrokenRoster),
     /// There is none.
     NoRoster,
 }
@@ -39,13 +41,13 @@ pub enum Answer {
 /// The answer to the bytes of an answer: what is said of the roster that stands in them. It takes time by the bytes.
 pub fn job(alloc: Global, problem: &Problem, bytes: &[u8]) -> Result<Answer, AllocError>
     requires { IsWithinLimit Kinds.Log bytes.now }
-    ensures { IfOk result (IsRosterAnswer problem.now bytes.now) }
+    ensures says { IfOk result (IsRosterAnswer problem.now bytes.now) }
+    ensures own { IfOk result (IsRosterAnswerOf problem.now) }
 {
     let Some((weeks, roster)) = roster_in(alloc, problem, bytes)? else {
         return Ok(Answer::NoRoster);
     };
-    let sized = with_weeks(problem, weeks)?;
-    judged(alloc, &sized, &roster)
+    judged(alloc, problem, weeks, roster)
 }
 
 // The roster that stands in the bytes, with its number of weeks. First all of them are taken for a roster, as `plan`
@@ -98,32 +100,56 @@ fn whole_roster(
     }
 }
 
-// What is said of a roster.
-fn judged(alloc: Global, problem: &Problem, roster: &Roster) -> Result<Answer, AllocError>
-    requires roster { IsRoster problem.now roster.now.cells }
-    requires days { roster.now.days ≡ problem.now.days }
-    ensures { IfOk result (IsJudged problem.now roster.now.cells) }
+// What is said of a roster with this number of weeks.
+fn judged(
+    alloc: Global,
+    problem: &Problem,
+    weeks: u32,
+    roster: Roster,
+) -> Result<Answer, AllocError>
+    requires size { IsSize problem.now weeks }
+    requires roster { IsRoster (with_weeks problem.now weeks) roster.cells }
+    requires days { roster.days ≡ problem.now.days }
+    ensures says { IfOk result (IsJudged problem.now weeks roster) }
+    ensures own { IfOk result (IsRosterAnswerOf problem.now) }
 {
-    match first_broken(problem, roster) {
-        Some(broken) => {
-            let line = fault_line(alloc, problem, &RosterFault::Breaks(broken))?;
-            Ok(Answer::Breaks(Calendar::of(line)))
-        }
+    let sized = with_weeks(problem, weeks)?;
+    match first_broken(&sized, &roster) {
+        Some(broken) => Ok(Answer::Breaks(weeks, BrokenRoster { broken, roster })),
         None => {
-            let text = print_roster(alloc, problem, roster)?;
-            Ok(Answer::Shown(Calendar::of(text)))
+            let text = print_roster(alloc, &sized, &roster)?;
+            Ok(Answer::Shown(Text::of(text)))
         }
     }
 }
 
 /// The text of the answer: the roster, or a line.
-pub fn text(alloc: Global, answer: &Answer) -> Result<Vec<u8>, AllocError>
-    ensures { IfOk result (λ v. v.items ≡ roster_answer_text answer.now) }
+pub fn text(alloc: Global, problem: &Problem, answer: &Answer) -> Result<Vec<u8>, AllocError>
+    requires { IsRosterAnswerOf problem.now answer.now }
+    ensures { IfOk result (λ v. v.items ≡ roster_answer_text problem.now answer.now) }
 {
     match answer {
-        Answer::Shown(text) => Vec::from_slice(alloc, text.text()),
-        Answer::Breaks(line) => Vec::from_slice(alloc, line.text()),
+        Answer::Shown(text) => text.copy(alloc),
+        Answer::Breaks(weeks, breach) => {
+            let sized = with_weeks(problem, *weeks)?;
+            broken_line(alloc, &sized, breach)
+        }
         Answer::NoRoster => Vec::from_slice(alloc, b"no roster in the answer\n".as_slice()),
+    }
+}
+
+/// What is told of the answer.
+pub fn told(alloc: Global, problem: &Problem, answer: &Answer) -> Result<Vec<u8>, AllocError>
+    requires { IsRosterAnswerOf problem.now answer.now }
+    ensures { IfOk result (λ v. IsRosterTold problem.now answer.now v.items) }
+{
+    match answer {
+        Answer::Shown(_) => Ok(Vec::new(alloc)),
+        Answer::Breaks(weeks, breach) => {
+            let sized = with_weeks(problem, *weeks)?;
+            broken_told(alloc, &sized, breach)
+        }
+        Answer::NoRoster => plain_told(alloc, problem, NO_ROSTER_THERE),
     }
 }
 
@@ -133,7 +159,7 @@ pub fn status(answer: &Answer) -> u8
 {
     match answer {
         Answer::Shown(_) => 0,
-        Answer::Breaks(_) => 5,
+        Answer::Breaks(..) => 5,
         Answer::NoRoster => 5,
     }
 }

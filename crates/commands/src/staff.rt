@@ -1,12 +1,17 @@
 // The least crew.
-ghost use Rattle.std.specs.Prelude.{◌≡◌, ◌++◌, ◌<◌, ◌+◌, ◌≤◌, IfOk, codes};
+ghost use Rattle.std.specs.Prelude.{◌≡◌, ◌++◌, ◌<◌, ◌+◌, ◌≤◌, IfOk, OnOk, codes};
 ghost use Rattle.std.specs.Fmt.{decimal};
+ghost use Rattle.crew_size.specs.Fitting.{FitsSizes};
+ghost use Rattle.plain_words.specs.Statements.{told_lines};
 ghost use Rattle.commands.specs.Lines.{line};
 ghost use Rattle.rwsp_terms.specs.declared.limits.TheConstants.{MOST_WEEKS, MOST_SIZES, GREATEST_STAFF_BUDGET};
-ghost use Rattle.commands.specs.Staff.{IsStaffAnswer, IsStaffAnswerOf, staff_answer_text, end_status, staff_status};
+ghost use Rattle.commands.specs.Staff.{IsStaffTold, IsStaffAnswer, IsStaffAnswerOf, staff_answer_text, end_status, spent_statements, staff_status};
 
+use crate::telling::numbered_told;
 use clean_words::Gate;
 use crew_size::{StaffEnd, StaffRun, print_staff};
+use plain_words::pieces::{FOR_WEEKS, LAST_LOG_SPENT, STAFF_RANGE};
+use plain_words::{put_plain_told, put_staff_told};
 use roster_planner::least_crew;
 pub use roster_planner::{Effort, Sizes};
 use rwsp_model::Problem;
@@ -66,6 +71,38 @@ fn range_line(alloc: Global, weeks: u32) -> Result<Vec<u8>, AllocError>
     put_labelled(&mut out, b"staff range: weeks ".as_slice(), weeks)?;
     out.push(b'\n')?;
     Ok(out)
+}
+
+/// What is told of the answer.
+pub fn told(alloc: Global, problem: &Problem, answer: &Answer) -> Result<Vec<u8>, AllocError>
+    requires { IsStaffAnswerOf problem.now answer.now }
+    ensures { IfOk result (λ v. IsStaffTold problem.now answer.now v.items) }
+{
+    match answer {
+        Answer::Run(run) => run_told(alloc, problem, run),
+        Answer::Range(weeks) => numbered_told(alloc, problem, FOR_WEEKS, *weeks, STAFF_RANGE),
+    }
+}
+
+// What is told of a search by numbers of weeks.
+fn run_told(alloc: Global, problem: &Problem, run: &StaffRun) -> Result<Vec<u8>, AllocError>
+    requires { FitsSizes problem.now run.now }
+    ensures { IfOk result (λ v. IsStaffTold problem.now (Answer.Run run.now) v.items) }
+{
+    let mut out = Vec::new(alloc);
+    put_spent(&mut out, problem, run.end())?;
+    put_staff_told(&mut out, problem, run)?;
+    Ok(out)
+}
+
+// Tells that the budget was spent, where it was.
+fn put_spent(out: &mut Vec<u8>, problem: &Problem, end: &StaffEnd) -> Result<(), AllocError>
+    ensures { OnOk result (out.new.items ≡ out.old.items ++ told_lines problem.now (spent_statements end.now)) }
+{
+    match end {
+        StaffEnd::Undecided(_) => put_plain_told(out, problem, LAST_LOG_SPENT),
+        StaffEnd::Least(_) | StaffEnd::NoneTo => Ok(()),
+    }
 }
 
 /// The status of the answer.

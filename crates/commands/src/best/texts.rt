@@ -1,9 +1,12 @@
-// The texts of what a search for the most free weekends found.
+// What is said of what a search for the most free weekends found.
 ghost use Rattle.std.specs.Prelude.{◌≡◌, ◌++◌, IfOk, OnOk, Some};
 ghost use Rattle.refutation_terms.specs.Log.{Fits};
 ghost use Rattle.refutation_terms.specs.LogText.{log_text};
-ghost use Rattle.commands.specs.Best.{counted_text, found_text, IsWeeklyRoster, IsRosterFound};
+ghost use Rattle.refutation_log.specs.declared.best_found.BestFound.TheVariants.{Best, NoRoster};
+ghost use Rattle.commands.specs.Best.{IsBestTold, counted_text, found_text, IsWeeklyRoster, IsRosterFound};
 
+use crate::telling::put_refuted;
+use plain_words::{put_log_told, put_weekends_told, rosters_by};
 use refutation_log::{Log, print_log};
 use roster_checker::free_weekends;
 use roster_print::print_roster;
@@ -67,4 +70,32 @@ pub fn undecided_text(
         Some(roster) => best_text(alloc, problem, roster, partial),
         None => print_log(alloc, problem, partial),
     }
+}
+
+/// What is told of the best roster and of the proof that none is better.
+pub fn best_told(
+    alloc: Global,
+    problem: &Problem,
+    roster: &Roster,
+    proof: &Log,
+) -> Result<Vec<u8>, AllocError>
+    requires roster { IsWeeklyRoster problem.now roster.now }
+    requires fits { Fits problem.now proof.now }
+    ensures { IfOk result (λ v. IsBestTold problem.now (Best roster.now proof.now) v.items) }
+{
+    let mut out = Vec::new(alloc);
+    put_weekends_told(&mut out, problem, free_weekends(problem, roster))?;
+    put_log_told(&mut out, problem, rosters_by(proof.goal()), proof)?;
+    Ok(out)
+}
+
+/// What is told of the proof that there is no roster.
+pub fn none_told(alloc: Global, problem: &Problem, log: &Log) -> Result<Vec<u8>, AllocError>
+    requires { Fits problem.now log.now }
+    ensures { IfOk result (λ v. IsBestTold problem.now (NoRoster log.now) v.items) }
+{
+    let mut out = Vec::new(alloc);
+    put_refuted(&mut out, problem, log)?;
+    put_log_told(&mut out, problem, rosters_by(log.goal()), log)?;
+    Ok(out)
 }

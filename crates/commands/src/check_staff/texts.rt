@@ -1,11 +1,14 @@
-// The texts of the answers to a staff text.
+// What is said of the answers to a staff text.
 ghost use Rattle.std.specs.Prelude.{◌≡◌, ◌++◌, IfOk, OnOk, codes};
 ghost use Rattle.std.specs.Fmt.{decimal};
 ghost use Rattle.crew_size.specs.RefusalText.{staff_refusal_text, NamesItsOwn};
+ghost use Rattle.plain_words.specs.Statements.{told_lines};
+ghost use Rattle.plain_words.specs.Told.{staffed_statements, staff_refusal_statements};
 ghost use Rattle.commands.specs.Lines.{line};
 ghost use Rattle.commands.specs.CheckStaff.{staffed_text};
 
 use crew_size::{StaffRefusal, Staffed, put_staff_refusal};
+use plain_words::{put_staff_refusal_told, put_staffed_told};
 use rwsp_model::Problem;
 use rwsp_text::put_labelled;
 use std::alloc::{AllocError, Global};
@@ -86,5 +89,33 @@ pub fn staff_refusal_line(
     let mut out = Vec::new(alloc);
     put_staff_refusal(&mut out, problem, why)?;
     out.push(b'\n')?;
+    Ok(out)
+}
+
+/// What is told of an accepted text.
+pub fn staffed_told(
+    alloc: Global,
+    problem: &Problem,
+    staffed: Staffed,
+) -> Result<Vec<u8>, AllocError>
+    ensures { IfOk result (λ v. v.items ≡ told_lines problem.now (staffed_statements staffed)) }
+{
+    let mut out = Vec::new(alloc);
+    put_staffed_told(&mut out, problem, staffed)?;
+    Ok(out)
+}
+
+/// What is told of the first failure of a staff text.
+pub fn staff_refusal_told(
+    alloc: Global,
+    problem: &Problem,
+    why: &StaffRefusal,
+) -> Result<Vec<u8>, AllocError>
+    requires { NamesItsOwn problem.now why.now }
+    ensures { IfOk result (λ v.
+        v.items ≡ told_lines problem.now (staff_refusal_statements problem.now why.now)) }
+{
+    let mut out = Vec::new(alloc);
+    put_staff_refusal_told(&mut out, problem, why)?;
     Ok(out)
 }

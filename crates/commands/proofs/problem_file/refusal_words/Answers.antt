@@ -1,5 +1,5 @@
 use Rattle.commands.proofs.Explained.{has_words}
-use Rattle.commands.proofs.explain.refused.Goals as goal
+use Rattle.commands.proofs.problem_file.refusal_words.Goals as goal
 
 pub unreachable-requires : goal.unreachable-requires
 unreachable-requires c =
