@@ -3,8 +3,6 @@
 #![tactic(auto)]
 
 #[cfg(test)]
-mod answer_words_tests;
-#[cfg(test)]
 mod crew_calendar_tests;
 #[cfg(test)]
 mod fill_check_tests;

@@ -17,6 +17,7 @@ mod plans;
 mod rests;
 mod staffs;
 mod tiny;
+mod told;
 mod trials;
 
 ghost use Rattle.std.specs.Prelude.{◌<◌};
@@ -108,12 +109,13 @@ fn outcome_of<R: Threads + Sync, G: Gate>(
     words: &Vec<String>,
     shelf: &mut MemoryShelf,
     sink: &mut MemorySink,
+    told: &mut MemorySink,
     gate: &G,
 ) -> Outcome {
-    run(rt, alloc, words, shelf, sink, gate)
+    run(rt, alloc, words, shelf, sink, told, gate)
 }
 
-// The status of a run.
+// The status of a run that can tell nothing, as where standard error is closed.
 fn status_of<R: Threads + Sync, G: Gate>(
     rt: &R,
     alloc: Global,
@@ -121,11 +123,10 @@ fn status_of<R: Threads + Sync, G: Gate>(
     shelf: &mut MemoryShelf,
     sink: &mut MemorySink,
     gate: &G,
-) -> u8 {
-    let outcome = outcome_of(rt, alloc, words, shelf, sink, gate);
-    let status = outcome.status();
-    drop(outcome);
-    status
+) -> Result<u8, AllocError> {
+    let mut told = MemorySink::new(alloc, 0, 1, Vec::new(alloc))?;
+    let outcome = outcome_of(rt, alloc, words, shelf, sink, &mut told, gate);
+    Ok(outcome.into_status())
 }
 
 // A run of a command line over these files. The call of the shelf and the call of the sink with these numbers fail;
@@ -141,7 +142,7 @@ fn ran<R: Threads + Sync>(
     let words = words_in(alloc, line)?;
     let mut shelf = shelf_by_sevens(alloc, files, failing_read)?;
     let mut sink = sink_of(alloc, failing_write)?;
-    let status = status_of(rt, alloc, &words, &mut shelf, &mut sink, &NoGate);
+    let status = status_of(rt, alloc, &words, &mut shelf, &mut sink, &NoGate)?;
     ended_by(alloc, status, &sink)
 }
 
@@ -170,7 +171,7 @@ fn ends<R: Threads + Sync>(
     let words = words_of(alloc, words)?;
     let mut shelf = shelf_of(alloc, files, 50, &[])?;
     let mut sink = MemorySink::new(alloc, 10_000, 7, Vec::new(alloc))?;
-    let ended = status_of(rt, alloc, &words, &mut shelf, &mut sink, &NoGate);
+    let ended = status_of(rt, alloc, &words, &mut shelf, &mut sink, &NoGate)?;
     Ok(ended == status && sink.bytes() == text.as_bytes())
 }
 
@@ -303,7 +304,7 @@ fn refused_problems(rt: HostRuntime) -> Result<(), Fail> {
 }
 
 const USAGE: &str =
-    "usage: rwsp plan FILE [--budget B] | check FILE LOG [--workers N] | verify FILE ROSTER | reduce FILE LOG | show FILE | trial NUMBER WEEKS | best FILE [--budget B] | check-free FILE LOG | staff FILE LOW HIGH [--budget B] | check-staff FILE TEXT | crew FILE ROSTER DATE DAYS [EMPLOYEE] | mend FILE [--budget B] | fill FILE CELLS [--budget B] | check-fill FILE LOG | rest FILE MINUTES | page FILE ROSTER | ics FILE ROSTER DATE DAYS EMPLOYEE | on FILE ROSTER START DATE | roster FILE ANSWER | explain FILE [ANSWER]\n";
+    "usage: rwsp plan FILE [--budget B] | check FILE LOG [--workers N] | verify FILE ROSTER | reduce FILE LOG | show FILE | trial NUMBER WEEKS | best FILE [--budget B] | check-free FILE LOG | staff FILE LOW HIGH [--budget B] | check-staff FILE TEXT | crew FILE ROSTER DATE DAYS [EMPLOYEE] | mend FILE [--budget B] | fill FILE CELLS [--budget B] | check-fill FILE LOG | rest FILE MINUTES | page FILE ROSTER | ics FILE ROSTER DATE DAYS EMPLOYEE | on FILE ROSTER START DATE | roster FILE ANSWER | explain FILE\n";
 
 // A file that isn't held can't be read; behind a refused problem it isn't looked for.
 #[test]

@@ -20,6 +20,16 @@ fn main(rt: HostRuntime) -> ExitCode {
     };
     let mut shelf = RealShelf::new(&rt);
     let mut out = RealSink::new(&rt);
-    let outcome = run(&rt, rt.alloc(), &words, &mut shelf, &mut out, &NoGate);
+    let errors = rt.stderr();
+    let mut told = RealSink::new(&errors);
+    let outcome = run(
+        &rt,
+        rt.alloc(),
+        &words,
+        &mut shelf,
+        &mut out,
+        &mut told,
+        &NoGate,
+    );
     ExitCode::from(outcome.into_status())
 }

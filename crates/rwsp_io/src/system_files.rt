@@ -1,4 +1,4 @@
-// The system's files and standard output. Nothing is known of what they give and take.
+// The system's files, standard output and standard error. Nothing is known of what they give and take.
 ghost use Rattle.std.specs.Prelude.{◌≡◌, ℕ, List, None, is_some, false};
 ghost use Rattle.rwsp_io.specs.Told.{Silent};
 
@@ -71,7 +71,8 @@ impl<'a, R: Files> Shelf for RealShelf<'a, R> {
     }
 }
 
-/// Standard output. A write that takes nothing is a fault; one that a signal interrupts is made again.
+/// Standard output, or standard error. A write that takes nothing is a fault; one that a signal interrupts is made
+/// again.
 #[derive(Drop)]
 pub struct RealSink<'a, R: Print> {
     rt: &'a R,

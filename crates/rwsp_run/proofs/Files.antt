@@ -1,6 +1,6 @@
 -- What is known of files whose bytes are told.
-use Rattle.std.proofs.Common.{◌≡◌, ℕ, ◌<◌, ◌≤◌, List, length, refl, subst, sym, ◌∙◌, arith}
-use Rattle.std.specs.Prelude.{◌≢◌}
+use Rattle.std.proofs.Common.{◌≡◌, ℕ, ◌<◌, ◌≤◌, List, length, refl, subst, sym, ◌∙◌, arith, inl}
+use Rattle.std.specs.Prelude.{◌≢◌, Some, None}
 use Rattle.rwsp_io.specs.Told.{Told, Silent, Missing, Bytes}
 use Rattle.rwsp_terms.specs.Instance.{Instance}
 use Rattle.rwsp_model.specs.Validity.{KeepsLimits}
@@ -8,7 +8,16 @@ use Rattle.rwsp_model.proofs.Limits.{valid_keeps}
 use Rattle.rwsp_file.specs.Laws.{TextsSpellOne}
 use Rattle.rwsp_file.specs.Spelling.{SpellsProblem}
 use Rattle.commands.specs.Files.{WhereTold, Holds, IsSecond, IsTooLong}
-use Rattle.commands.specs.ProblemFile.{IsProblemOf, IsShortFile}
+use Rattle.rwsp_file.specs.declared.refusal.FileRefusal.{FileRefusal}
+use Rattle.commands.specs.ProblemFile.{IsProblemOf, IsProblemRefusal, IsRefusedFile, IsShortFile}
+use Rattle.commands.specs.declared.problem_file.ProblemRefusal.{ProblemRefusal}
+use Rattle.commands.specs.declared.problem_file.ProblemRefusal.TheVariants.{TooLong, Refused}
+use Rattle.commands.specs.declared.explain.Answer.{Answer as Explanation}
+use Rattle.command_line.specs.declared.command.Command.TheVariants.{Explain}
+use Rattle.rwsp_run.specs.Answers.{IsAnswerTo, IsSaidOfRefusal}
+use Rattle.rwsp_run.specs.declared.answer.Refusal.TheVariants as Refusals
+use Rattle.rwsp_run.specs.declared.answer.Answer.TheVariants as Answers
+use Rattle.rwsp_run.specs.declared.answer.Answer.TheVariants.{Explained}
 use Rattle.commands.specs.declared.second_file.SecondKind.{SecondKind}
 
 -- two facts about a file of which something is told are about the same bytes
@@ -36,8 +45,18 @@ not_too_long kind k told a e there h long =
     let short = subst (λ (j : SecondKind). IsSecond j told a) (sym e) h in
     same_bytes told _ _ ⊥ there (λ bytes x y. beyond _ _ _ x y short.1) short.0 long
 
--- a problem that held bytes spell is that of the file
-pub held_problem : (told : Told) (bytes : List ℕ) (P : Instance) → Holds told bytes → IsShortFile bytes → SpellsProblem bytes P → IsProblemOf told P
-held_problem Silent bytes P holds short spells = tt
-held_problem Missing bytes P holds short spells = absurd holds
-held_problem (Bytes file) bytes P holds short spells = subst (λ (b : List ℕ). IsShortFile b × SpellsProblem b P) holds (short, spells)
+-- a refusal keeps the bytes that are held
+kept_bytes : (told : Told) (why : FileRefusal) (bytes : List ℕ) → WhereTold told (λ file. IsProblemRefusal file (Refused why bytes)) → Holds told bytes
+kept_bytes Silent why bytes h = tt
+kept_bytes Missing why bytes h = absurd h
+kept_bytes (Bytes file) why bytes h = h.2
+
+-- so the words on it are those on the file
+pub refusal_said : (held : List ℕ → Told) (name : List ℕ) (why : ProblemRefusal) (words : Explanation) → WhereTold (held name) (λ file. IsProblemRefusal file why) → IsRefusedFile why → IsSaidOfRefusal why (Some words) → IsAnswerTo (Explain name) held (Explained words)
+refusal_said held name TooLong words read refused said = let none : Some words ≡ None = said in absurd (cc)
+refusal_said held name (Refused why bytes) words read refused said = inl (bytes, kept_bytes (held name) why bytes read, refused.0, said)
+
+-- where there are none, the file is too long
+pub refusal_printed : (held : List ℕ → Told) (name : List ℕ) (why : ProblemRefusal) → WhereTold (held name) (λ file. IsProblemRefusal file why) → IsSaidOfRefusal why None → IsAnswerTo (Explain name) held (Answers.Refused (Refusals.Problem why))
+refusal_printed held name TooLong read said = (refl, read)
+refusal_printed held name (Refused why bytes) read said = absurd said

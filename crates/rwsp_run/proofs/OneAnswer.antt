@@ -13,16 +13,15 @@ use Rattle.command_line.specs.declared.command.Command.TheVariants.{OnProblem, O
 use Rattle.command_line.proofs.OneForm.{one_form}
 use Rattle.commands.specs.Files.{WhereTold}
 use Rattle.commands.specs.ProblemFile.{IsProblemOf, IsProblemRefusal, IsShortFile}
-use Rattle.commands.specs.Explain.{IsRefusalOf, problem_explanation, IsAnswerExplanation}
+use Rattle.commands.specs.Explain.{IsRefusalOf, problem_explanation}
 use Rattle.commands.specs.Trial.{IsTrial}
 use Rattle.commands.specs.declared.second_file.SecondKind.{SecondKind}
-use Rattle.commands.specs.declared.second_file.SecondKind.TheVariants.{Log}
 use Rattle.commands.specs.declared.explain.Answer.{Answer as Explanation}
 use Rattle.commands.specs.declared.problem_file.ProblemRefusal.{ProblemRefusal}
 use Rattle.commands.specs.declared.problem_file.ProblemRefusal.TheVariants as ProblemRefusals
 use Rattle.commands.specs.declared.trial.Answer.{Answer as TrialAnswer}
 use Rattle.commands.proofs.ProblemFiles.{one_refusal, not_refused}
-use Rattle.commands.proofs.Explained.{one_wording, not_worded, said_once}
+use Rattle.commands.proofs.Explained.{one_wording, not_worded}
 use Rattle.rwsp_run.specs.Answers.{IsAnswer, IsAnswerOn, IsAnswerTo, IsAsked, IsJobAnswer, IsTooLongFor, IsExplanation, IsRefusalExplained}
 use Rattle.rwsp_run.specs.Commands.{IsFilesAnswer, second_kind, unfit_for, Suits}
 use Rattle.rwsp_run.specs.Laws.{AnswersAreOne, ProblemsAreAnswered, AreTold, AgreeInSearch, JobsAgree}
@@ -44,15 +43,14 @@ IsSecondTold command told = ReadsSecond command → told ≢ Silent
 
 same_kind : (command : Command) (told : Told) (k l : SecondKind) → IsTooLongFor command told k → IsTooLongFor command told l → Refused (TooLong k) ≡ Refused (TooLong l)
 same_kind (OnFiles file second task) told k l h j = ap (λ (kind : SecondKind). Refused (TooLong kind)) (h.0 ∙ sym j.0)
-same_kind (Explain file (Some answer)) told k l h j = ap (λ (kind : SecondKind). Refused (TooLong kind)) (h.0 ∙ sym j.0)
-same_kind (Explain file None) told k l h j = absurd h
+same_kind (Explain file) told k l h j = absurd h
 same_kind (OnProblem file task) told k l h j = absurd h
 same_kind (Commands.Trial number weeks) told k l h j = absurd h
 
 -- a job is done where the second file isn't too long
 done_or_long : (command : Command) (P : Instance) (told : Told) (kind : SecondKind) (a : JobAnswer) → IsSecondTold command told → IsJobAnswer command told P a → IsTooLongFor command told kind → ⊥
 done_or_long (OnFiles file second task) P told kind a there h long = not_too_long (second_kind task) kind told h.0 long.0 (there tt) h.1 long.1
-done_or_long (Explain file answer) P told kind a there h long = h
+done_or_long (Explain file) P told kind a there h long = h
 done_or_long (OnProblem file task) P told kind a there h long = long
 done_or_long (Commands.Trial number weeks) P told kind a there h long = long
 
@@ -61,31 +59,27 @@ one_job (OnProblem file task) P told a b limits there h k = one_on_problem task 
 one_job (OnFiles file second task) P told a b limits there h k =
     let same : k.0 ≡ h.0 = same_second (second_kind task) told k.0 h.0 (there tt) k.1 h.1 in
     one_on_files task P h.0 a b limits h.2 (subst (λ (bytes : List ℕ). IsFilesAnswer task P bytes b) same k.2)
-one_job (Explain file answer) P told a b limits there h k = absurd h
+one_job (Explain file) P told a b limits there h k = absurd h
 one_job (Commands.Trial number weeks) P told a b limits there h k = absurd h
 
 -- words are said where the second file isn't too long
 said_or_long : (command : Command) (P : Instance) (told : Told) (kind : SecondKind) (words : Explanation) → IsSecondTold command told → IsExplanation command told P words → IsTooLongFor command told kind → ⊥
-said_or_long (Explain file (Some answer)) P told kind words there h long = not_too_long Log kind told h.0 long.0 (there tt) h.1 long.1
-said_or_long (Explain file None) P told kind words there h long = long
+said_or_long (Explain file) P told kind words there h long = long
 said_or_long (OnFiles file second task) P told kind words there h long = h
 said_or_long (OnProblem file task) P told kind words there h long = h
 said_or_long (Commands.Trial number weeks) P told kind words there h long = h
 
 -- no command does a job and says words
 said_or_done : (command : Command) (P : Instance) (told : Told) (words : Explanation) (a : JobAnswer) → IsExplanation command told P words → IsJobAnswer command told P a → ⊥
-said_or_done (Explain file answer) P told words a h done = done
+said_or_done (Explain file) P told words a h done = done
 said_or_done (OnFiles file second task) P told words a h done = h
 said_or_done (OnProblem file task) P told words a h done = h
 said_or_done (Commands.Trial number weeks) P told words a h done = h
 
 one_explanation : (command : Command) (P : Instance) (told : Told) (v w : Explanation) → KeepsLimits P → IsSecondTold command told → IsExplanation command told P v → IsExplanation command told P w → v ≡ w
-one_explanation (Explain file None) P told v w limits there h k =
+one_explanation (Explain file) P told v w limits there h k =
     let same : h.0 ≡ k.0 = same_bytes told _ _ (h.0 ≡ k.0) (there tt) (λ bytes x y. x ∙ sym y) h.1 k.1 in
     h.3 ∙ ap (λ (bytes : List ℕ). problem_explanation P bytes) same ∙ sym k.3
-one_explanation (Explain file (Some answer)) P told v w limits there h k =
-    let same : h.0 ≡ k.0 = same_second Log told h.0 k.0 (there tt) h.1 k.1 in
-    said_once P h.0 v w limits h.2 (subst (λ (bytes : List ℕ). IsAnswerExplanation P bytes w) (sym same) k.2)
 one_explanation (OnFiles file second task) P told v w limits there h k = absurd h
 one_explanation (OnProblem file task) P told v w limits there h k = absurd h
 one_explanation (Commands.Trial number weeks) P told v w limits there h k = absurd h
@@ -123,12 +117,12 @@ one_on command P told a b limits there h k = absurd h
 
 -- the command explains
 abbrev pub IsExplain : Command → Type 0
-IsExplain (Explain file second) = Unit {0}
+IsExplain (Explain file) = Unit {0}
 IsExplain command = ⊥
 
 -- the refusal of a problem's file has a line; of `explain` only where the file is too long
 abbrev pub HasLine : Command → ProblemRefusal → Type 0
-HasLine (Explain file second) (ProblemRefusals.Refused why) = ⊥
+HasLine (Explain file) (ProblemRefusals.Refused why bytes) = ⊥
 HasLine command why = Unit {0}
 
 -- an answer to a command over its files: the problem's file is refused, by a line or in words, or it spells a problem
@@ -137,9 +131,9 @@ pub data FileEnd (command : Command) (held : List ℕ → Told) (a : Answer) : T
   worded : (words : Explanation) → IsExplain command → IsRefusalExplained (held (file_of command)) words → a ≡ Explained words → FileEnd command held a
   spelled : (P : Instance) → IsProblemOf (held (file_of command)) P → IsAnswerOn command (held (second_of command)) P a → FileEnd command held a
 
-explained_end : (file : List ℕ) (second : Option (List ℕ)) (held : List ℕ → Told) (words : Explanation) → IsAnswerTo (Explain file second) held (Explained words) → FileEnd (Explain file second) held (Explained words)
-explained_end file second held words (inl h) = worded words tt h refl
-explained_end file second held words (inr h) = spelled h.0 h.1 (refl, h.2)
+explained_end : (file : List ℕ) (held : List ℕ → Told) (words : Explanation) → IsAnswerTo (Explain file) held (Explained words) → FileEnd (Explain file) held (Explained words)
+explained_end file held words (inl h) = worded words tt h refl
+explained_end file held words (inr h) = spelled h.0 h.1 (refl, h.2)
 
 pub file_end : (command : Command) (held : List ℕ → Told) (a : Answer) → ReadsProblem command → IsAnswerTo command held a → FileEnd command held a
 file_end (Commands.Trial number weeks) held a reads h = absurd reads
@@ -155,21 +149,21 @@ file_end (OnFiles file second task) held (Refused (TooLong kind)) reads h = spel
 file_end (OnFiles file second task) held (Job a) reads h = spelled h.0 h.1 h.2
 file_end (OnFiles file second task) held (Explained words) reads h = spelled h.0 h.1 h.2
 file_end (OnFiles file second task) held a reads h = absurd h.2
-file_end (Explain file second) held (Refused (Problem ProblemRefusals.TooLong)) reads h = refused ProblemRefusals.TooLong tt h.1 refl
-file_end (Explain file second) held (Refused (Problem (ProblemRefusals.Refused why))) reads h =
-    let no : ProblemRefusals.Refused why ≡ ProblemRefusals.TooLong = h.0 in
+file_end (Explain file) held (Refused (Problem ProblemRefusals.TooLong)) reads h = refused ProblemRefusals.TooLong tt h.1 refl
+file_end (Explain file) held (Refused (Problem (ProblemRefusals.Refused why bytes))) reads h =
+    let no : ProblemRefusals.Refused why bytes ≡ ProblemRefusals.TooLong = h.0 in
     absurd (cc)
-file_end (Explain file second) held (Refused (Unfit why)) reads h = spelled h.0 h.1 h.2
-file_end (Explain file second) held (Refused (TooLong kind)) reads h = spelled h.0 h.1 h.2
-file_end (Explain file second) held (Job a) reads h = spelled h.0 h.1 h.2
-file_end (Explain file second) held (Explained words) reads h = explained_end file second held words h
-file_end (Explain file second) held a reads h = absurd h.2
+file_end (Explain file) held (Refused (Unfit why)) reads h = spelled h.0 h.1 h.2
+file_end (Explain file) held (Refused (TooLong kind)) reads h = spelled h.0 h.1 h.2
+file_end (Explain file) held (Job a) reads h = spelled h.0 h.1 h.2
+file_end (Explain file) held (Explained words) reads h = explained_end file held words h
+file_end (Explain file) held a reads h = absurd h.2
 
 -- a file that is too long isn't explained
 long_and_worded : (command : Command) (told : Told) (why : ProblemRefusal) (words : Explanation) → told ≢ Silent → HasLine command why → IsExplain command → WhereTold told (λ file. IsProblemRefusal file why) → IsRefusalExplained told words → ⊥
-long_and_worded (Explain file second) told ProblemRefusals.TooLong words there line is h k =
+long_and_worded (Explain file) told ProblemRefusals.TooLong words there line is h k =
     same_bytes told _ _ ⊥ there (λ bytes x y. beyond _ _ _ y x k.2) h k.1
-long_and_worded (Explain file second) told (ProblemRefusals.Refused why) words there line is h k = line
+long_and_worded (Explain file) told (ProblemRefusals.Refused why bytes) words there line is h k = line
 long_and_worded (OnFiles file second task) told why words there line is h k = is
 long_and_worded (OnProblem file task) told why words there line is h k = is
 long_and_worded (Commands.Trial number weeks) told why words there line is h k = is
@@ -215,7 +209,7 @@ command_end (Commands.Trial number weeks) held words (Trial trial) form within h
 command_end (Commands.Trial number weeks) held words a form within h = absurd h
 command_end (OnProblem file task) held words a form within h = asked (OnProblem file task) (form, within, tt) (file_end (OnProblem file task) held a tt h)
 command_end (OnFiles file second task) held words a form within h = asked (OnFiles file second task) (form, within, tt) (file_end (OnFiles file second task) held a tt h)
-command_end (Explain file second) held words a form within h = asked (Explain file second) (form, within, tt) (file_end (Explain file second) held a tt h)
+command_end (Explain file) held words a form within h = asked (Explain file) (form, within, tt) (file_end (Explain file) held a tt h)
 
 words_end : (held : List ℕ → Told) (words : CommandWords) (a : Answer) → IsAnswer held words a → WordsEnd held words a
 words_end held words (Refused Usage) h = unknown h refl

@@ -1,5 +1,5 @@
 -- What each answer says.
-use Rattle.std.specs.Prelude.{◌≡◌, ◌⊎◌, ℕ, List, Some, None}
+use Rattle.std.specs.Prelude.{◌≡◌, ◌⊎◌, ℕ, List, Option, Some, None}
 use Rattle.rwsp_io.specs.Told.{Told, Rose}
 use Rattle.rwsp_terms.specs.Instance.{Instance}
 use Rattle.rwsp_file.specs.Spelling.{SpellsProblem}
@@ -9,11 +9,11 @@ use Rattle.command_line.specs.declared.command.Command.TheVariants as Commands
 use Rattle.command_line.specs.declared.command.Command.TheVariants.{OnProblem, OnFiles, Explain}
 use Rattle.commands.specs.Files.{WhereTold, Holds, IsTooLong, IsSecond}
 use Rattle.commands.specs.ProblemFile.{IsProblemOf, IsProblemRefusal, IsShortFile, IsLongFile}
-use Rattle.commands.specs.Explain.{IsRefusalOf, problem_explanation, IsAnswerExplanation}
+use Rattle.commands.specs.Explain.{IsRefusalOf, problem_explanation}
 use Rattle.commands.specs.Trial.{IsTrial}
+use Rattle.commands.specs.declared.problem_file.ProblemRefusal.{ProblemRefusal}
 use Rattle.commands.specs.declared.problem_file.ProblemRefusal.TheVariants as ProblemRefusals
 use Rattle.commands.specs.declared.second_file.SecondKind.{SecondKind}
-use Rattle.commands.specs.declared.second_file.SecondKind.TheVariants.{Log}
 use Rattle.commands.specs.declared.explain.Answer.{Answer as Explanation}
 use Rattle.rwsp_run.specs.Commands.{IsProblemAnswer, IsFilesAnswer, second_kind, unfit_for, Suits, SuitsFilesTask}
 use Rattle.rwsp_run.specs.declared.jobs.JobAnswer.{JobAnswer}
@@ -24,7 +24,6 @@ use Rattle.rwsp_run.specs.declared.answer.Answer.TheVariants.{Refused, Trial, Jo
 -- the command reads a second file of the kind, which is too long
 abbrev pub IsTooLongFor : Command → Told → SecondKind → Type 0
 IsTooLongFor (OnFiles file second task) told kind = (kind ≡ second_kind task) × WhereTold told (IsTooLong kind)
-IsTooLongFor (Explain file (Some answer)) told kind = (kind ≡ Log) × WhereTold told (IsTooLong kind)
 IsTooLongFor command told kind = ⊥
 
 -- the answer of a job on the problem, and on the second file where the command reads one
@@ -34,12 +33,10 @@ IsJobAnswer (OnFiles file second task) told P answer =
     (bytes : List ℕ) × IsSecond (second_kind task) told bytes × IsFilesAnswer task P bytes answer
 IsJobAnswer command told P answer = ⊥
 
--- what `explain` says of the problem by the bytes that spell it, or of the bytes of an answer for it
+-- what `explain` says of the problem by the bytes that spell it
 abbrev pub IsExplanation : Command → Told → Instance → Explanation → Type 0
-IsExplanation (Explain file None) told P words =
+IsExplanation (Explain file) told P words =
     (bytes : List ℕ) × Holds told bytes × SpellsProblem bytes P × (words ≡ problem_explanation P bytes)
-IsExplanation (Explain file (Some answer)) told P words =
-    (bytes : List ℕ) × IsSecond Log told bytes × IsAnswerExplanation P bytes words
 IsExplanation command told P words = ⊥
 
 -- what the answer to a command says of the problem that the first file spells, and of what the second file tells: the
@@ -59,7 +56,13 @@ IsAsked words command = IsForm words command × IsWithinHorizon command × Reads
 abbrev pub IsRefusalExplained : Told → Explanation → Type 0
 IsRefusalExplained told words = (file : List ℕ) × Holds told file × IsShortFile file × IsRefusalOf file words
 
--- the problem's file spells a problem, and this is said of it, or of an answer for it
+-- what `explain` says of a refusal: words, but of a file that is too long
+abbrev pub IsSaidOfRefusal : ProblemRefusal → Option Explanation → Type 0
+IsSaidOfRefusal ProblemRefusals.TooLong words = words ≡ None
+IsSaidOfRefusal (ProblemRefusals.Refused why bytes) (Some words) = IsRefusalOf bytes words
+IsSaidOfRefusal (ProblemRefusals.Refused why bytes) None = ⊥
+
+-- the problem's file spells a problem, and this is said of it
 abbrev pub IsProblemExplained : Command → (List ℕ → Told) → Explanation → Type 0
 IsProblemExplained command held words =
     (P : Instance) × IsProblemOf (held (file_of command)) P × IsExplanation command (held (second_of command)) P words
@@ -69,10 +72,10 @@ IsProblemExplained command held words =
 abbrev pub IsAnswerTo : Command → (List ℕ → Told) → Answer → Type 0
 IsAnswerTo (Commands.Trial number weeks) held (Trial trial) = IsTrial number weeks trial
 IsAnswerTo (Commands.Trial number weeks) held answer = ⊥
-IsAnswerTo (Explain file second) held (Refused (Problem why)) =
+IsAnswerTo (Explain file) held (Refused (Problem why)) =
     (why ≡ ProblemRefusals.TooLong) × WhereTold (held file) IsLongFile
-IsAnswerTo (Explain file second) held (Explained words) =
-    IsRefusalExplained (held file) words ⊎ IsProblemExplained (Explain file second) held words
+IsAnswerTo (Explain file) held (Explained words) =
+    IsRefusalExplained (held file) words ⊎ IsProblemExplained (Explain file) held words
 IsAnswerTo command held (Refused (Problem why)) =
     WhereTold (held (file_of command)) (λ file. IsProblemRefusal file why)
 IsAnswerTo command held answer =
@@ -91,8 +94,6 @@ IsAnswer held words answer =
 abbrev pub IsSecondFault : (List ℕ → Told) → (before now : List ℕ → ℕ) → Command → Type 0
 IsSecondFault held before now (OnFiles file second task) =
     Rose (before second) (now second) × ((P : Instance) × IsProblemOf (held file) P × SuitsFilesTask task P)
-IsSecondFault held before now (Explain file (Some answer)) =
-    Rose (before answer) (now answer) × ((P : Instance) × IsProblemOf (held file) P)
 IsSecondFault held before now command = ⊥
 
 -- a file of the command could not be read: the count of the problem's file has risen, or that of the second file

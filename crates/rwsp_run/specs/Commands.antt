@@ -1,34 +1,45 @@
 -- What each command reads, answers, prints and ends with: a line each, from the definitions of the command.
-use Rattle.std.specs.Prelude.{◌≡◌, ℕ, List, Option, Some, None, is_none, ◌==◌, if◌then◌else◌}
+use Rattle.std.specs.Prelude.{◌≡◌, ℕ, List, [], Option, Some, None, is_none, ◌==◌, if◌then◌else◌}
 use Rattle.rwsp_terms.specs.declared.limits.TheConstants.{DAYS_OF_WEEK}
 use Rattle.rwsp_terms.specs.Instance.{Instance, symbol_of}
 use Rattle.rwsp_file.specs.Text.{problem_text}
+use Rattle.refutation_terms.specs.Log.{Log}
 use Rattle.refutation_terms.specs.declared.lines.LogKind.TheVariants.{WithoutGoal, WithGoal}
 use Rattle.roster_print.specs.Said.{open_word}
+use Rattle.refutation_log.specs.declared.found.Found.TheVariants as Founds
+use Rattle.refutation_log.specs.declared.best_found.BestFound.TheVariants as Bests
+use Rattle.refutation_log.specs.declared.filled.Filled.TheVariants as Filleds
+use Rattle.crew_size.specs.declared.run.StaffEnd.{StaffEnd}
+use Rattle.crew_size.specs.declared.run.StaffEnd.TheVariants as Ends
+use Rattle.ways_out.specs.declared.answer.WaysOut.TheVariants as Ways
+use Rattle.plain_words.specs.declared.sentence.Telling.{Telling}
+use Rattle.plain_words.specs.declared.sentence.Telling.TheVariants.{LongNames, Slips, Unsized, WithCounts}
+use Rattle.commands.specs.declared.staff.Answer.TheVariants as Staffs
+use Rattle.commands.specs.declared.fill.Answer.TheVariants as Fills
 use Rattle.command_line.specs.declared.command.Command.{Command}
 use Rattle.command_line.specs.declared.command.Command.TheVariants.{OnProblem, OnFiles}
 use Rattle.command_line.specs.declared.command.ProblemTask.{ProblemTask}
 use Rattle.command_line.specs.declared.command.ProblemTask.TheVariants as ProblemTasks
 use Rattle.command_line.specs.declared.command.FilesTask.{FilesTask}
 use Rattle.command_line.specs.declared.command.FilesTask.TheVariants as FilesTasks
-use Rattle.commands.specs.Plan.{IsPlanAnswer, plan_text, plan_status, IsPlanOf}
-use Rattle.commands.specs.Best.{IsBestAnswer, best_text, best_status, IsBestOf}
-use Rattle.commands.specs.Staff.{IsStaffAnswer, staff_answer_text, staff_status, IsStaffAnswerOf}
-use Rattle.commands.specs.Verify.{IsVerified, verify_text, verify_status, IsVerifiedOf}
-use Rattle.commands.specs.Check.{IsChecked, check_text, check_status, IsCheckedOf}
-use Rattle.commands.specs.CheckStaff.{IsCheckedStaff, check_staff_text, check_staff_status, IsCheckedStaffOf}
-use Rattle.commands.specs.Reduce.{IsReduction, reduce_text, reduce_status, IsReductionOf}
-use Rattle.commands.specs.Crew.{IsCrewAnswer, crew_text, crew_status, IsCrewAnswerOf}
-use Rattle.commands.specs.Mend.{IsMendAnswer}
+use Rattle.commands.specs.Plan.{IsPlanAnswer, plan_text, plan_status, IsPlanOf, IsPlanTold}
+use Rattle.commands.specs.Best.{IsBestAnswer, best_text, best_status, IsBestOf, IsBestTold}
+use Rattle.commands.specs.Staff.{IsStaffAnswer, staff_answer_text, staff_status, IsStaffAnswerOf, IsStaffTold}
+use Rattle.commands.specs.Verify.{IsVerified, verify_text, verify_status, IsVerifiedOf, IsVerifyTold}
+use Rattle.commands.specs.Check.{IsChecked, check_text, check_status, IsCheckedOf, IsCheckTold}
+use Rattle.commands.specs.CheckStaff.{IsCheckedStaff, check_staff_text, check_staff_status, IsCheckedStaffOf, IsCheckStaffTold}
+use Rattle.commands.specs.Reduce.{IsReduction, reduce_text, reduce_status, IsReductionOf, IsReduceTold}
+use Rattle.commands.specs.Crew.{IsCrewAnswer, crew_text, crew_status, IsCrewAnswerOf, IsCrewTold}
+use Rattle.commands.specs.Mend.{IsMendAnswer, IsMendTold}
 use Rattle.ways_out.specs.Answers.{AreWaysOf}
 use Rattle.ways_out.specs.Texts.{ways_text, ways_status}
-use Rattle.commands.specs.Rest.{IsRestAnswer, rest_text, rest_status}
-use Rattle.commands.specs.Page.{IsPageAnswer, page_answer_text, page_status, IsPageAnswerOf}
-use Rattle.commands.specs.Ics.{IsIcsAnswer, ics_text, ics_status, IsIcsAnswerOf}
-use Rattle.commands.specs.On.{IsOnAnswer, on_text, on_status, IsOnAnswerOf}
-use Rattle.commands.specs.Roster.{IsRosterAnswer, roster_answer_text, roster_status}
-use Rattle.commands.specs.Fill.{IsFillAnswer, fill_answer_text, fill_status, IsFillAnswerOf}
-use Rattle.commands.specs.CheckFill.{IsCheckedFill, check_fill_text, check_fill_status, IsCheckedFillOf}
+use Rattle.commands.specs.Rest.{IsRestAnswer, rest_text, rest_status, IsRestTold}
+use Rattle.commands.specs.Page.{IsPageAnswer, page_answer_text, page_status, IsPageAnswerOf, IsPageTold}
+use Rattle.commands.specs.Ics.{IsIcsAnswer, ics_text, ics_status, IsIcsAnswerOf, IsIcsTold}
+use Rattle.commands.specs.On.{IsOnAnswer, on_text, on_status, IsOnAnswerOf, IsOnTold}
+use Rattle.commands.specs.Roster.{IsRosterAnswer, roster_answer_text, roster_status, IsRosterAnswerOf, IsRosterTold}
+use Rattle.commands.specs.Fill.{IsFillAnswer, fill_answer_text, fill_status, IsFillAnswerOf, IsFillTold}
+use Rattle.commands.specs.CheckFill.{IsCheckedFill, check_fill_text, check_fill_status, IsCheckedFillOf, IsCheckFillTold}
 use Rattle.commands.specs.declared.second_file.SecondKind.{SecondKind}
 use Rattle.commands.specs.declared.second_file.SecondKind.TheVariants as Kinds
 use Rattle.rwsp_run.specs.declared.answer.Unfit.{Unfit}
@@ -124,9 +135,52 @@ job_text P (Jobs.Rest a) = rest_text a
 job_text P (Jobs.Page a) = page_answer_text P a
 job_text P (Jobs.Ics a) = ics_text P a
 job_text P (Jobs.On a) = on_text P a
-job_text P (Jobs.Roster a) = roster_answer_text a
+job_text P (Jobs.Roster a) = roster_answer_text P a
 job_text P (Jobs.Fill a) = fill_answer_text P a
 job_text P (Jobs.CheckFill a) = check_fill_text P a
+
+-- what is told in words of an answer
+abbrev pub IsJobTold : Instance → JobAnswer → List ℕ → Type 0
+IsJobTold P Jobs.Show text = text ≡ []
+IsJobTold P (Jobs.Plan found) text = IsPlanTold P found text
+IsJobTold P (Jobs.Best found) text = IsBestTold P found text
+IsJobTold P (Jobs.Staff a) text = IsStaffTold P a text
+IsJobTold P (Jobs.Verify a) text = IsVerifyTold P a text
+IsJobTold P (Jobs.Check a) text = IsCheckTold P a text
+IsJobTold P (Jobs.CheckStaff a) text = IsCheckStaffTold P a text
+IsJobTold P (Jobs.Reduce a) text = IsReduceTold P a text
+IsJobTold P (Jobs.Crew a) text = IsCrewTold P a text
+IsJobTold P (Jobs.Mend ways) text = IsMendTold P ways text
+IsJobTold P (Jobs.Rest a) text = IsRestTold P a text
+IsJobTold P (Jobs.Page a) text = IsPageTold P a text
+IsJobTold P (Jobs.Ics a) text = IsIcsTold P a text
+IsJobTold P (Jobs.On a) text = IsOnTold P a text
+IsJobTold P (Jobs.Roster a) text = IsRosterTold P a text
+IsJobTold P (Jobs.Fill a) text = IsFillTold P a text
+IsJobTold P (Jobs.CheckFill a) text = IsCheckFillTold P a text
+
+-- which sentences about the problem stand behind what is told of a log: a log that counts blocks has shown a count
+abbrev pub slips_behind_log : Log → Telling
+slips_behind_log g = if g.counts then Slips else WithCounts
+
+-- and behind that of a search by numbers of weeks
+abbrev pub slips_behind_run : StaffEnd → Telling
+slips_behind_run (Ends.Least s) = LongNames
+slips_behind_run end = Unsized
+
+-- and behind what is told of an answer
+abbrev pub slips_behind : JobAnswer → Option Telling
+slips_behind (Jobs.Plan (Founds.NoRoster g)) = Some (slips_behind_log g)
+slips_behind (Jobs.Plan (Founds.Undecided g)) = Some WithCounts
+slips_behind (Jobs.Best (Bests.Best s g)) = Some LongNames
+slips_behind (Jobs.Best (Bests.NoRoster g)) = Some (slips_behind_log g)
+slips_behind (Jobs.Best (Bests.Undecided s g)) = Some WithCounts
+slips_behind (Jobs.Staff (Staffs.Run run)) = Some (slips_behind_run run.end)
+slips_behind (Jobs.Mend (Ways.Undecided g)) = Some WithCounts
+slips_behind (Jobs.Mend (Ways.Changes outcomes)) = Some WithCounts
+slips_behind (Jobs.Fill (Fills.Found (Filleds.NoRoster f))) = Some (slips_behind_log f.log)
+slips_behind (Jobs.Fill (Fills.Found (Filleds.Undecided f))) = Some WithCounts
+slips_behind answer = None
 
 -- what the answer names is the problem's
 abbrev pub IsPrintable : Instance → JobAnswer → Type 0
@@ -144,7 +198,7 @@ IsPrintable P (Jobs.Rest a) = Unit {0}
 IsPrintable P (Jobs.Page a) = IsPageAnswerOf P a
 IsPrintable P (Jobs.Ics a) = IsIcsAnswerOf P a
 IsPrintable P (Jobs.On a) = IsOnAnswerOf P a
-IsPrintable P (Jobs.Roster a) = Unit {0}
+IsPrintable P (Jobs.Roster a) = IsRosterAnswerOf P a
 IsPrintable P (Jobs.Fill a) = IsFillAnswerOf P a
 IsPrintable P (Jobs.CheckFill a) = IsCheckedFillOf P a
 

@@ -1,5 +1,6 @@
 -- What answers fit a command line over files whose bytes are known.
-use Rattle.std.specs.Prelude.{◌≡◌, ◌≢◌, ◌⊎◌, ◌↔◌, ℕ, ◌+◌, ◌≤◌, Bool, List, Option, Some, None}
+use Rattle.std.specs.Prelude.{◌≡◌, ◌≢◌, ◌⊎◌, ◌↔◌, ℕ, ◌+◌, ◌≤◌, Bool, List, Option, Some, None, Contains}
+use Rattle.std.specs.List.{flat_map}
 use Rattle.rwsp_terms.specs.declared.limits.TheConstants.{MOST_WEEKS}
 use Rattle.rwsp_io.specs.Told.{Told, Silent, Bytes}
 use Rattle.rwsp_terms.specs.Instance.{Instance}
@@ -11,6 +12,8 @@ use Rattle.rwsp_file.specs.Reading.{file_refusal}
 use Rattle.rwsp_file.specs.declared.refusal.FileRefusal.{FileRefusal}
 use Rattle.refutation_terms.specs.Log.{Log}
 use Rattle.refutation_terms.specs.LogText.{log_text}
+use Rattle.refutation_terms.specs.Verdict.{IsAccepted}
+use Rattle.refutation_terms.specs.declared.lines.LogKind.{LogKind}
 use Rattle.refutation_terms.specs.FreeWeekends.{free_weekends}
 use Rattle.roster_print.specs.RosterText.{roster_text}
 use Rattle.refutation_log.specs.declared.found.Found.TheVariants as Founds
@@ -32,7 +35,10 @@ use Rattle.command_line.specs.declared.command.FilesTask.{FilesTask}
 use Rattle.command_line.specs.declared.command.FilesTask.TheVariants.{Check, Verify, Reduce, CheckFree, CheckStaff, Fill, CheckFill}
 use Rattle.commands.specs.Files.{IsWithinLimit}
 use Rattle.commands.specs.ProblemFile.{IsShortFile}
-use Rattle.commands.specs.Plan.{PlansAgree}
+use Rattle.plain_words.specs.Statements.{Statement}
+use Rattle.plain_words.specs.Laws.{rule_in}
+use Rattle.commands.specs.Plan.{PlansAgree, ArePlanStatements}
+use Rattle.commands.specs.Check.{IsChecked, check_statements}
 use Rattle.commands.specs.Best.{BestsAgree, best_roster}
 use Rattle.commands.specs.Staff.{StaffsAgree}
 use Rattle.commands.specs.Fill.{FillsAgree}
@@ -48,6 +54,7 @@ use Rattle.commands.specs.declared.fill.Answer.TheVariants as Fills
 use Rattle.commands.specs.declared.check_fill.Answer.TheVariants as FillChecks
 use Rattle.rwsp_run.specs.Answers.{IsAnswer, IsAnswerOn, IsAnswerTo, IsAsked}
 use Rattle.rwsp_run.specs.Texts.{IsTextOf}
+use Rattle.rwsp_run.specs.Told.{IsToldOf}
 use Rattle.rwsp_run.specs.Commands.{job_text}
 use Rattle.rwsp_run.specs.declared.jobs.JobAnswer.{JobAnswer}
 use Rattle.rwsp_run.specs.declared.jobs.JobAnswer.TheVariants as Jobs
@@ -95,6 +102,13 @@ TextsAreOne =
     → IsProblemTold held words → IsTextOf held words a text → IsTextOf held words a other
     → text ≡ other
 
+-- an answer and its problem's file have one text of words
+abbrev pub WordsAreOne : Type 0
+WordsAreOne =
+    (held : List ℕ → Told) (words : CommandWords) (a : Answer) (text other : List ℕ)
+    → IsProblemTold held words → IsToldOf held words a text → IsToldOf held words a other
+    → text ≡ other
+
 -- where the words ask for a command, and the problem's file spells an instance, an answer is one of the command's there
 abbrev pub ProblemsAreAnswered : Type 0
 ProblemsAreAnswered =
@@ -106,8 +120,8 @@ ProblemsAreAnswered =
 -- of a file that isn't too long `explain` says why it is refused exactly where the reader refuses it
 abbrev pub RefusalsAreTheReaders : Type 0
 RefusalsAreTheReaders =
-    (held : List ℕ → Told) (name : List ℕ) (second : Option (List ℕ)) (file : List ℕ) (a : Answer)
-    → held name ≡ Bytes file → IsShortFile file → IsAnswerTo (Explain name second) held a
+    (held : List ℕ → Told) (name file : List ℕ) (a : Answer)
+    → held name ≡ Bytes file → IsShortFile file → IsAnswerTo (Explain name) held a
     → ((text : List ℕ) × (a ≡ Explained (Explanations.Refused text)))
     ↔ ((why : FileRefusal) × (file_refusal file ≡ Some why))
 
@@ -217,3 +231,18 @@ abbrev pub WorkersMakeNoDifference : Type 0
 WorkersMakeNoDifference =
     (m n : ℕ) (name second : List ℕ) (told : Told) (P : Instance) (a : Answer)
     → IsAnswerOn (OnFiles name second (Check m)) told P a → IsAnswerOn (OnFiles name second (Check n)) told P a
+
+-- a rule that `plan` tells of, where there is no roster, is one that the log names
+abbrev pub ToldRulesAreNamed : Type 0
+ToldRulesAreNamed =
+    (P : Instance) (g : Log) (statements : List Statement) (k : ℕ)
+    → ArePlanStatements P (Founds.NoRoster g) statements → Contains (flat_map rule_in statements) k
+    → Contains g.named k
+
+-- what `check` and `check-free` tell as judged was judged: the bytes spell a log that passes, and it names the rules
+abbrev pub ToldLogsWereJudged : Type 0
+ToldLogsWereJudged =
+    (P : Instance) (kind : LogKind) (bytes : List ℕ) (goal : Option ℕ) (R : List ℕ)
+    → IsChecked P kind bytes (Checks.Accepted goal R)
+    → (g : Log) × IsAccepted P kind bytes g
+    × (flat_map rule_in (check_statements P (Checks.Accepted goal R)) ≡ g.named)

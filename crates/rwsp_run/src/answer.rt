@@ -15,7 +15,7 @@ pub enum Unfit {
 }
 
 /// Why a command's job isn't begun.
-#[derive(Clone, Copy)]
+#[derive(Drop)]
 pub enum Refusal {
     /// The words are no command.
     Usage,
@@ -35,7 +35,7 @@ pub enum Answer {
     Refused(Refusal),
     Trial(trial::Answer),
     Job(JobAnswer),
-    /// The problem's file, its refusal or an answer, in words.
+    /// The problem's file or its refusal, in words.
     Explained(explain::Answer),
 }
 

@@ -2,7 +2,7 @@
 ghost use Rattle.std.specs.Prelude.{◌≡◌, IfOk};
 ghost use Rattle.command_line.specs.Commands.{IsProblemTaskInRange, IsFilesTaskInRange, EndsInTime};
 ghost use Rattle.commands.specs.Files.{IsWithinLimit};
-ghost use Rattle.rwsp_run.specs.Commands.{IsProblemAnswer, IsFilesAnswer, IsPrintable, job_text, second_kind, SuitsProblemTask, SuitsFilesTask, unfit_by_days, unfit_by_names, unfit_for_problem_task, unfit_for_files_task};
+ghost use Rattle.rwsp_run.specs.Commands.{IsProblemAnswer, IsFilesAnswer, IsPrintable, IsJobTold, slips_behind, slips_behind_log, slips_behind_run, job_text, second_kind, SuitsProblemTask, SuitsFilesTask, unfit_by_days, unfit_by_names, unfit_for_problem_task, unfit_for_files_task};
 
 use crate::answer::Unfit;
 use clean_words::Gate;
@@ -13,8 +13,10 @@ use commands::{
     SecondKind, best, check, check_fill, check_free, check_staff, crew, fill, ics, mend, on, page,
     plan, reduce, rest, roster, staff, verify,
 };
+use crew_size::StaffEnd;
 use made_problems::LeastRest;
-use refutation_log::{BestFound, Found, is_open_word_taken};
+use plain_words::Telling;
+use refutation_log::{BestFound, Filled, Found, Log, is_open_word_taken};
 use rwsp_file::print_problem;
 use rwsp_model::Problem;
 use rwsp_terms::limits::DAYS_OF_WEEK;
@@ -245,9 +247,76 @@ pub fn text_of(alloc: Global, problem: &Problem, answer: &JobAnswer) -> Result<V
         JobAnswer::Page(answer) => page::text(alloc, problem, answer),
         JobAnswer::Ics(answer) => ics::text(alloc, problem, answer),
         JobAnswer::On(answer) => on::text(alloc, problem, answer),
-        JobAnswer::Roster(answer) => roster::text(alloc, answer),
+        JobAnswer::Roster(answer) => roster::text(alloc, problem, answer),
         JobAnswer::Fill(answer) => fill::text(alloc, problem, answer),
         JobAnswer::CheckFill(answer) => check_fill::text(alloc, problem, answer),
+    }
+}
+
+/// What is told in words of an answer on a problem.
+pub fn told_of(alloc: Global, problem: &Problem, answer: &JobAnswer) -> Result<Vec<u8>, AllocError>
+    requires { IsPrintable problem.now answer.now }
+    ensures { IfOk result (λ v. IsJobTold problem.now answer.now v.items) }
+{
+    match answer {
+        JobAnswer::Show => Ok(Vec::new(alloc)),
+        JobAnswer::Plan(found) => plan::told(alloc, problem, found),
+        JobAnswer::Best(found) => best::told(alloc, problem, found),
+        JobAnswer::Staff(answer) => staff::told(alloc, problem, answer),
+        JobAnswer::Verify(answer) => verify::told(alloc, problem, answer),
+        JobAnswer::Check(answer) => check::told(alloc, problem, answer),
+        JobAnswer::CheckStaff(answer) => check_staff::told(alloc, problem, answer),
+        JobAnswer::Reduce(answer) => reduce::told(alloc, problem, answer),
+        JobAnswer::Crew(answer) => crew::told(alloc, problem, answer),
+        JobAnswer::Mend(ways) => mend::told(alloc, problem, ways),
+        JobAnswer::Rest(answer) => rest::told(alloc, problem, answer),
+        JobAnswer::Page(answer) => page::told(alloc, problem, answer),
+        JobAnswer::Ics(answer) => ics::told(alloc, problem, answer),
+        JobAnswer::On(answer) => on::told(alloc, problem, answer),
+        JobAnswer::Roster(answer) => roster::told(alloc, problem, answer),
+        JobAnswer::Fill(answer) => fill::told(alloc, problem, answer),
+        JobAnswer::CheckFill(answer) => check_fill::told(alloc, problem, answer),
+    }
+}
+
+/// Which sentences about the problem stand behind what is told of an answer.
+pub fn slips_behind(answer: &JobAnswer) -> Option<Telling>
+    ensures { result ≡ slips_behind answer.now }
+{
+    match answer {
+        JobAnswer::Plan(Found::NoRoster(log)) => Some(slips_behind_log(log)),
+        JobAnswer::Plan(Found::Undecided(_)) => Some(Telling::WithCounts),
+        JobAnswer::Best(BestFound::Best { .. }) => Some(Telling::LongNames),
+        JobAnswer::Best(BestFound::NoRoster(log)) => Some(slips_behind_log(log)),
+        JobAnswer::Best(BestFound::Undecided { .. }) => Some(Telling::WithCounts),
+        JobAnswer::Staff(staff::Answer::Run(run)) => Some(slips_behind_run(run.end())),
+        JobAnswer::Mend(WaysOut::Undecided(_) | WaysOut::Changes(_)) => Some(Telling::WithCounts),
+        JobAnswer::Fill(fill::Answer::Found(Filled::NoRoster(fill))) => {
+            Some(slips_behind_log(&fill.log))
+        }
+        JobAnswer::Fill(fill::Answer::Found(Filled::Undecided(_))) => Some(Telling::WithCounts),
+        _ => None,
+    }
+}
+
+// Which stand behind that of a log: one that counts blocks has shown a count.
+fn slips_behind_log(log: &Log) -> Telling
+    ensures { result ≡ slips_behind_log log.now }
+{
+    if log.counts() {
+        Telling::Slips
+    } else {
+        Telling::WithCounts
+    }
+}
+
+// Which stand behind that of a search by numbers of weeks.
+fn slips_behind_run(end: &StaffEnd) -> Telling
+    ensures { result ≡ slips_behind_run end.now }
+{
+    match end {
+        StaffEnd::Least(_) => Telling::LongNames,
+        _ => Telling::Unsized,
     }
 }
 

@@ -1,5 +1,5 @@
 // Laws of the definitions. Each function's contract is the law.
-ghost use Rattle.rwsp_run.specs.Laws.{AnswersAreOne, TextsAreOne, ProblemsAreAnswered, RefutationsAreAccepted, RostersMeet, ReductionsAreAccepted, StaffTextsAreAccepted, BestRostersAreBest, BestRostersMeet, BestProofsAreAccepted, FilledRostersMeet, FillLogsAreAccepted, WorkersMakeNoDifference, RefusalsAreTheReaders};
+ghost use Rattle.rwsp_run.specs.Laws.{AnswersAreOne, TextsAreOne, ProblemsAreAnswered, RefutationsAreAccepted, RostersMeet, ReductionsAreAccepted, StaffTextsAreAccepted, BestRostersAreBest, BestRostersMeet, BestProofsAreAccepted, FilledRostersMeet, FillLogsAreAccepted, WorkersMakeNoDifference, RefusalsAreTheReaders, ToldLogsWereJudged, ToldRulesAreNamed, WordsAreOne};
 
 /// What is said of each answer fits no other answer, except those that a search is free to choose. So an answer
 /// comes exactly where what is said of it is true: no other can come but want of memory, and a fault that the counts
@@ -11,6 +11,11 @@ pub fn answers_are_one()
 /// An answer has one text.
 pub fn texts_are_one()
     ensures { TextsAreOne }
+{}
+
+/// An answer and its problem's file have one text of words.
+pub fn words_are_one()
+    ensures { WordsAreOne }
 {}
 
 /// A command over a file that spells a problem has an answer of its own: `plan` a roster, a refutation, or a log that
@@ -73,4 +78,14 @@ pub fn fill_logs_are_accepted()
 /// The answer of `check` is the same for every number of workers.
 pub fn workers_make_no_difference()
     ensures { WorkersMakeNoDifference }
+{}
+
+/// A rule that `plan` tells of, where there is no roster, is one that its log names.
+pub fn told_rules_are_named()
+    ensures { ToldRulesAreNamed }
+{}
+
+/// What `check` and `check-free` tell as judged was judged.
+pub fn told_logs_were_judged()
+    ensures { ToldLogsWereJudged }
 {}

@@ -12,28 +12,29 @@ use crate::answer::{Answer, Refusal, Unfit};
 use crate::jobs::{JobAnswer, text_of};
 use clean_words::Gate;
 use command_line::usage;
-use commands::{explain, not_weekly_line, problem_refusal_line, too_long_line, trial};
-use rwsp_model::Problem;
+use commands::{Subject, explain, not_weekly_line, problem_refusal_line, too_long_line, trial};
 use rwsp_terms::limits::MOST_WEEKS;
 use std::alloc::{AllocError, Global};
 use std::thread::Threads;
 
-/// An answer and its whole text.
+/// An answer and its whole text, with what a job's answer speaks of, until it was told in words.
 #[derive(Drop)]
 pub struct Reply {
     pub answer: Answer,
     pub text: Vec<u8>,
+    pub subject: Option<Subject>,
 }
 
-fn refusal_line(alloc: Global, why: Refusal) -> Result<String, AllocError>
-    ensures { IfOk result (λ t. string_bytes t ≡ refusal_line why) }
+// The line of a refusal.
+fn refusal_line(alloc: Global, why: &Refusal) -> Result<String, AllocError>
+    ensures { IfOk result (λ t. string_bytes t ≡ refusal_line why.now) }
 {
     match why {
         Refusal::Usage => format!(in alloc; "{}\n", usage()),
         Refusal::Horizon => String::from_str(alloc, "horizon refused\n"),
         Refusal::Problem(why) => problem_refusal_line(alloc, why),
-        Refusal::Unfit(why) => unfit_line(alloc, why),
-        Refusal::TooLong(kind) => too_long_line(alloc, kind),
+        Refusal::Unfit(why) => unfit_line(alloc, *why),
+        Refusal::TooLong(kind) => too_long_line(alloc, *kind),
     }
 }
 
@@ -47,16 +48,25 @@ fn unfit_line(alloc: Global, why: Unfit) -> Result<String, AllocError>
     }
 }
 
+// Its bytes.
+fn refusal_text(alloc: Global, why: &Refusal) -> Result<Vec<u8>, AllocError>
+    ensures { IfOk result (λ v. v.items ≡ refusal_line why.now) }
+{
+    let line = refusal_line(alloc, why)?;
+    Vec::from_slice(alloc, line.as_bytes())
+}
+
 /// The reply of a refusal.
 pub fn refused(alloc: Global, why: Refusal) -> Result<Reply, AllocError>
     ensures answer { IfOk result (λ r. r.answer ≡ Answers.Refused why) }
     ensures text { IfOk result (λ r. r.text.items ≡ refusal_line why) }
+    ensures subject { IfOk result (λ r. r.subject ≡ None) }
 {
-    let text = refusal_line(alloc, why)?;
-    let text = Vec::from_slice(alloc, text.as_bytes())?;
+    let text = refusal_text(alloc, &why)?;
     Ok(Reply {
         answer: Answer::Refused(why),
         text,
+        subject: None,
     })
 }
 
@@ -70,27 +80,30 @@ pub fn tried<R: Threads + Sync, G: Gate>(
 ) -> Result<Reply, AllocError>
     requires { (1 ≤ weeks) × (weeks ≤ MOST_WEEKS) }
     ensures { IfOk result (λ r. (trial : TrialAnswer) × (r.answer ≡ Answers.Trial trial)
-        × IsTrial number weeks trial × IsTrialText trial r.text.items) }
+        × IsTrial number weeks trial × IsTrialText trial r.text.items × (r.subject ≡ None)) }
 {
     let trial = trial::job(rt, alloc, number, weeks, gate)?;
     Ok(Reply {
         answer: Answer::Trial(trial.answer),
         text: trial.text,
+        subject: None,
     })
 }
 
 /// The reply of an answer on a problem.
-pub fn printed(alloc: Global, problem: &Problem, answer: JobAnswer) -> Result<Reply, AllocError>
-    requires { IsPrintable problem.now answer }
+pub fn printed(alloc: Global, subject: Subject, answer: JobAnswer) -> Result<Reply, AllocError>
+    requires { IsPrintable subject.problem answer }
     ensures answer { IfOk result (λ r. r.answer ≡ Answers.Job answer) }
-    ensures text { IfOk result (λ r. r.text.items ≡ job_text problem.now answer) }
+    ensures text { IfOk result (λ r. r.text.items ≡ job_text subject.problem answer) }
+    ensures subject { IfOk result (λ r. r.subject ≡ Some subject) }
 {
-    match text_of(alloc, problem, &answer) {
+    match text_of(alloc, &subject.problem, &answer) {
         Ok(text) => Ok(Reply {
             answer: Answer::Job(answer),
             text,
+            subject: Some(subject),
         }),
-        Err(AllocError) => Err(without_memory(answer)),
+        Err(AllocError) => Err(without_memory((subject, answer))),
     }
 }
 
@@ -98,11 +111,13 @@ pub fn printed(alloc: Global, problem: &Problem, answer: JobAnswer) -> Result<Re
 pub fn explained(alloc: Global, words: explain::Answer) -> Result<Reply, AllocError>
     ensures answer { IfOk result (λ r. r.answer ≡ Answers.Explained words) }
     ensures text { IfOk result (λ r. r.text.items ≡ explain_text words) }
+    ensures subject { IfOk result (λ r. r.subject ≡ None) }
 {
     match explain::text(alloc, &words) {
         Ok(text) => Ok(Reply {
             answer: Answer::Explained(words),
             text,
+            subject: None,
         }),
         Err(AllocError) => Err(without_memory(words)),
     }

@@ -182,7 +182,8 @@ fn meets_into<R: Threads + Sync>(
     let words = words_of(alloc, &["verify", "F", "G"])?;
     let files = [("F", NINE_WEEKS), ("G", NINE_WEEKS_ROSTER)];
     let mut shelf = shelf_of(alloc, &files, 100, &[])?;
-    let outcome = outcome_of(rt, alloc, &words, &mut shelf, sink, &NoGate);
+    let mut told = MemorySink::new(alloc, 0, 1, Vec::new(alloc))?;
+    let outcome = outcome_of(rt, alloc, &words, &mut shelf, sink, &mut told, &NoGate);
     let meets = meets_in(&outcome);
     drop(outcome);
     Ok(meets)

@@ -316,7 +316,8 @@ pub fn they_meet<R: Threads + Sync>(
     let words = words_of(alloc, words)?;
     let mut shelf = shelf_of(alloc, files, 50, &[])?;
     let mut sink = MemorySink::new(alloc, 1000, 100, Vec::new(alloc))?;
-    Ok(status_of(rt, alloc, &words, &mut shelf, &mut sink, &gate) == status && gate.took_place())
+    let ended = status_of(rt, alloc, &words, &mut shelf, &mut sink, &gate)?;
+    Ok(ended == status && gate.took_place())
 }
 
 // Two chunks of a log are judged at once.

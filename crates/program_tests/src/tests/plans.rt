@@ -20,7 +20,7 @@ fn status_over<R: Threads + Sync>(
 ) -> Result<u8, AllocError> {
     let words = words_of(alloc, words)?;
     let mut shelf = shelf_of(alloc, &[("F", problem)], 50, &[])?;
-    Ok(status_of(rt, alloc, &words, &mut shelf, sink, &NoGate))
+    status_of(rt, alloc, &words, &mut shelf, sink, &NoGate)
 }
 
 fn text_in(alloc: Global, sink: &MemorySink) -> Result<String, Fail> {
@@ -55,7 +55,7 @@ pub fn is_accepted<R: Threads + Sync>(
     let files = [("F", problem), ("G", log)];
     let mut shelf = shelf_of(alloc, &files, 1000, &[])?;
     let mut sink = MemorySink::new(alloc, 1000, 1000, Vec::new(alloc))?;
-    Ok(status_of(rt, alloc, &words, &mut shelf, &mut sink, &NoGate) == 0)
+    Ok(status_of(rt, alloc, &words, &mut shelf, &mut sink, &NoGate)? == 0)
 }
 
 // Whether `plan` refutes, and `check` accepts what it prints.

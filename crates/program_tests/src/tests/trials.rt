@@ -61,7 +61,10 @@ fn a_trial_is_answered(rt: HostRuntime) -> Result<(), Fail> {
     let words = words_of(alloc, &["trial", "0", "1"])?;
     let mut shelf = shelf_of(alloc, &[], 50, &[])?;
     let mut sink = MemorySink::new(alloc, 1000, 100, Vec::new(alloc))?;
-    let outcome = outcome_of(&rt, alloc, &words, &mut shelf, &mut sink, &NoGate);
+    let mut told = MemorySink::new(alloc, 0, 1, Vec::new(alloc))?;
+    let outcome = outcome_of(
+        &rt, alloc, &words, &mut shelf, &mut sink, &mut told, &NoGate,
+    );
     let is_found = match &outcome {
         Outcome::Done(Answer::Trial(trial)) => {
             trial.number == 0 && trial.weeks == 1 && matches!(&trial.found, Found::Roster(_))
