@@ -4,7 +4,7 @@ program="$root/crates/rwsp/out/rwsp"
 
 # The program has the time at which its build began, so what was changed since then is newer.
 is_built() {
-    [ -x "$program" ] && [ -z "$(find "$root/crates" "$root/crates.txt" "$root/HANDLES" -name out -prune -o -type f -newer "$program" -print | head -n 1)" ]
+    [ -x "$program" ] && [ -z "$(find "$root/crates" "$root/crates.txt" "$root/HANDLES" -name out -prune -o -type f -newer "$program" -print -quit)" ]
 }
 
 needs() {
@@ -33,8 +33,5 @@ if [ "$# ${1-}" = "1 --prove" ]; then
 elif ! is_built; then
     needs rt python3
     program="$root/tools/answer_unproved"
-    # Each word on an answer would be a run of its own.
-    tell_answer() { :; }
-    tell_first_day() { :; }
-    say "the program is not proved yet, so this answer is from before its proof, in a minute or two, and is not explained; to prove it: $0 --prove"
+    say "the program is not proved yet, so this answer is from before its proof, in a minute or two; to prove it: $0 --prove"
 fi
