@@ -73,6 +73,8 @@ end_none [] = refl
 end_none (Closing (Blocks x) ∷ []) = refl
 end_none (Closing (Words p R (Light turns reward y)) ∷ []) = refl
 end_none (line ∷ []) = refl
+end_none (Closing (Blocks x) ∷ next ∷ lines) = refl
+end_none (Closing (Words p R (Light turns reward y)) ∷ next ∷ lines) = refl
 end_none (line ∷ next ∷ lines) = refl
 
 pub told_rules_named : ToldRulesAreNamed
