@@ -7,3 +7,5 @@ mod Counting
 pub mod TopProofs
 pub mod Founds
 mod OtherWeeks
+mod OneShift
+mod ShortSearches

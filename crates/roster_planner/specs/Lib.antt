@@ -1,3 +1,4 @@
 pub mod Reasons
 pub mod CaseReasons
 pub mod Counted
+pub mod OneShift

@@ -1,28 +1,46 @@
 // What a planner gives its search from outside.
-ghost use Rattle.std.specs.Prelude.{◌≡◌, IfOk};
+ghost use Rattle.std.specs.Prelude.{◌≡◌, ◌↔◌, ℕ, Option, IfOk};
 ghost use Rattle.std.specs.Option.{IfSome};
 ghost use Rattle.refutation_terms.specs.declared.lines.Opening.TheVariants.{Full};
 ghost use Rattle.refutation_terms.specs.Log.{GoalFits};
 ghost use Rattle.domain_store.specs.Cycles.{AreShortRules};
-ghost use Rattle.roster_search.specs.Guides.{IsWantedRoster};
+ghost use Rattle.roster_search.specs.Guides.{IsLeafGiven, IsSplitIn, IsWantedRoster};
+ghost use Rattle.rwsp_terms.specs.Instance.{Instance};
+ghost use Rattle.domain_store.specs.Store.{BelongsTo};
+ghost use Rattle.roster_planner.specs.OneShift.{HasDaysOf};
 
+use crate::off_weights::OffWeights;
 use clean_words::Automaton;
 use domain_store::Domains;
 use propagators::NearestWeights;
 use refutation_terms::{Line, Opening};
 use roster_finder::{Patience, RosterFinder};
-use roster_search::{Aim, Guide, NextSplit, chronological};
+use roster_search::{Aim, Guide, NextSplit, chronological, off_or_work_by_day, off_or_work_from};
 use rwsp_model::Roster;
 use std::alloc::{AllocError, Global};
 use std::mem;
 
+/// What the search of one start decides first.
+#[derive(Clone, Copy)]
+pub enum Order {
+    /// Which days are off, in the order of the days.
+    OffByWeeks,
+    /// Which days are off, one day of the week after the other.
+    OffByDays,
+    /// The days in their order, with their shifts.
+    Days,
+}
+
 // The guide of a planner. It closes cases by weights, looks for a roster by other means before the first split, and
-// splits in the order of the days, from the turn on round the cycle.
+// splits in the order of the days, from the turn on round the cycle, but first on days off alone where the order says so.
 #[derive(Drop)]
 pub struct PlannerGuide<'a> {
     automaton: &'a Automaton,
     finder: &'a RosterFinder<'a>,
     weights: NearestWeights<'a>,
+    // Weights that tell days off from work alone.
+    off_weights: OffWeights<'a>,
+    order: Order,
     // The goal of the log, in free weekends.
     goal: Option<u32>,
     // With a goal: more free weekends, which are asked for first.
@@ -34,10 +52,12 @@ pub struct PlannerGuide<'a> {
 }
 
 impl<'a> PlannerGuide<'a> {
-    // A guide for searches of the automaton's problem with this aim, which asks first for so many free weekends.
+    // A guide for searches of the automaton's problem, which has the automaton with one shift, with this aim. It asks
+    // first for so many free weekends.
     pub fn new(
         alloc: Global,
         automaton: &'a Automaton,
+        one: &'a Automaton,
         finder: &'a RosterFinder<'a>,
         aim: Aim,
         wish: u32,
@@ -45,38 +65,107 @@ impl<'a> PlannerGuide<'a> {
         requires short { AreShortRules automaton.now.problem automaton.now.rules }
         requires same { finder.now ≡ automaton.now.problem }
         requires goal { GoalFits automaton.now.problem Full aim.goal }
+        requires one_short { AreShortRules one.now.problem one.now.rules }
+        requires days { HasDaysOf one.now.problem automaton.now.problem }
         ensures { ⟦<PlannerGuide<'a> as Guide>⟧.serves result automaton.now.problem aim.goal }
     {
         PlannerGuide {
             automaton,
             finder,
             weights: NearestWeights::new(alloc, automaton),
+            off_weights: OffWeights::new(alloc, one),
+            order: Order::Days,
             goal: aim.goal,
             wish,
             has_begun: false,
             first: position_of(aim.opening),
         }
     }
+
+    // The next search has this order.
+    pub fn take(&mut self, order: Order)
+        ensures { (P : Instance) (goal : Option ℕ) → ⟦<PlannerGuide<'a> as Guide>⟧.serves self.old P goal
+            ↔ ⟦<PlannerGuide<'a> as Guide>⟧.serves self.new P goal }
+    {
+        self.order = order;
+    }
+
+    // A leaf at the top.
+    fn top_leaf(&mut self, alloc: Global, doms: &Domains) -> Result<Option<Line>, AllocError>
+        requires problem { (P : Instance) × (goal : Option ℕ) × ⟦<PlannerGuide<'a> as Guide>⟧.serves self.old P goal × BelongsTo P doms.now }
+        ensures leaf { IfOk result (λ line. (P : Instance) (goal : Option ℕ)
+            → ⟦<PlannerGuide<'a> as Guide>⟧.serves self.old P goal → IsLeafGiven P goal doms.now line) }
+        ensures serves { (P : Instance) (goal : Option ℕ) → ⟦<PlannerGuide<'a> as Guide>⟧.serves self.old P goal
+            ↔ ⟦<PlannerGuide<'a> as Guide>⟧.serves self.new P goal }
+    {
+        let found = self.weights.leaf_at_top(alloc, doms, self.goal)?;
+        if found.is_some() {
+            return Ok(found);
+        }
+        self.off_weights
+            .leaf(alloc, self.automaton, doms, self.goal, true)
+    }
+
+    // A leaf within the tree: where it isn't decided yet which days are off, one that goes by these alone.
+    fn leaf_within(&mut self, alloc: Global, doms: &Domains) -> Result<Option<Line>, AllocError>
+        requires problem { (P : Instance) × (goal : Option ℕ) × ⟦<PlannerGuide<'a> as Guide>⟧.serves self.old P goal × BelongsTo P doms.now }
+        ensures leaf { IfOk result (λ line. (P : Instance) (goal : Option ℕ)
+            → ⟦<PlannerGuide<'a> as Guide>⟧.serves self.old P goal → IsLeafGiven P goal doms.now line) }
+        ensures serves { (P : Instance) (goal : Option ℕ) → ⟦<PlannerGuide<'a> as Guide>⟧.serves self.old P goal
+            ↔ ⟦<PlannerGuide<'a> as Guide>⟧.serves self.new P goal }
+    {
+        if self.off_split(doms).is_some() {
+            self.off_weights
+                .leaf(alloc, self.automaton, doms, self.goal, false)
+        } else {
+            self.weights.leaf_within(alloc, doms, self.goal)
+        }
+    }
+
+    // Where to split on a day off, where the order says so and one is open.
+    fn off_split(&self, doms: &Domains) -> Option<NextSplit>
+        requires { BelongsTo self.now.automaton.now.problem doms.now }
+        ensures { IfSome result (IsSplitIn doms.now) }
+    {
+        match self.order {
+            Order::OffByWeeks => off_or_work_from(doms, 0),
+            Order::OffByDays => off_or_work_by_day(self.automaton.problem(), doms),
+            Order::Days => None,
+        }
+    }
 }
 
 impl<'a> Guide for PlannerGuide<'a> {
     ghost serves = { λ g P goal. (g.automaton.now.problem ≡ P) × (g.finder.now ≡ P) × (g.weights.problem ≡ P)
+        × HasDaysOf g.off_weights.one.now.problem P × (g.off_weights.weights.problem ≡ g.off_weights.one.now.problem)
+        × AreShortRules g.automaton.now.problem g.automaton.now.rules
         × (goal ≡ g.goal) × GoalFits P Full goal };
 
     fn leaf(&mut self, alloc: Global, doms: &Domains) -> Result<Option<Line>, AllocError> {
-        let is_within = mem::replace(&mut self.has_begun, true);
-        if is_within {
-            self.weights.leaf_within(alloc, doms, self.goal)
+        if mem::replace(&mut self.has_begun, true) {
+            self.leaf_within(alloc, doms)
         } else {
-            self.weights.leaf_at_top(alloc, doms, self.goal)
+            self.top_leaf(alloc, doms)
         }
     }
 
     fn roster(&mut self, alloc: Global, _doms: &Domains) -> Result<Option<Roster>, AllocError> {
-        found_roster(alloc, self.finder, self.goal, self.wish)
+        match (self.order, self.goal) {
+            (Order::Days, _) | (_, Some(_)) => found_roster(
+                alloc,
+                self.finder,
+                self.goal,
+                self.wish,
+            ),
+            _ => Ok(None),
+        }
     }
 
     fn split(&mut self, doms: &Domains) -> Option<NextSplit> {
+        let split = self.off_split(doms);
+        if split.is_some() {
+            return split;
+        }
         chronological(self.automaton.problem(), doms, self.first)
     }
 }

@@ -8,12 +8,15 @@ mod effort;
 mod guide;
 mod likely_most;
 mod of_cases;
+mod off_weights;
 mod one_goal;
+mod one_shift;
 mod planning;
 mod raising;
 mod reasons;
 mod searching;
 mod staffing;
+mod starts;
 mod top_leaf;
 
 pub use effort::{Effort, FEW_LINES};

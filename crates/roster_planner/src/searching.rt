@@ -8,17 +8,19 @@ ghost use Rattle.roster_search.specs.Founds.{IsFound, HasSpentBudget};
 ghost use Rattle.roster_search.specs.Guides.{AreUnweighed};
 
 use crate::guide::PlannerGuide;
+use crate::one_shift::one_shift;
+use crate::starts::search_by_starts;
 use clean_words::Automaton;
 use domain_store::Propagator;
 use refutation_log::Found;
 use roster_finder::RosterFinder;
-use roster_search::{Aim, search};
+use roster_search::Aim;
 use rwsp_terms::limits::GREATEST_BUDGET;
 use std::alloc::{AllocError, Global};
 
 /// What a search of the automaton's problem finds by these reasons. Cases are also closed by weights. A roster is looked
 /// for by other means before the first split, with a goal first one with `wish` free weekends, where these are more.
-/// Splits are in the order of the days, from the turn on.
+/// Short searches that split on days off alone come first; then splits are in the order of the days, from the turn on.
 #[tactic(auto, using(roster_search::proofs::Reaching::goal_fits_full))]
 pub fn planner_search<A: Propagator>(
     alloc: Global,
@@ -41,8 +43,10 @@ pub fn planner_search<A: Propagator>(
     ensures complete { let P = automaton.now.problem in IfOk result (λ found.
         HasSpentBudget found → aim.budget + 1 < 2 * (shift_count P + 1) ^ cells P) }
 {
-    let mut guide = PlannerGuide::new(alloc, automaton, finder, aim, wish);
-    let found = search(alloc, automaton.problem(), aim, reasons, &mut guide);
+    let one = one_shift(alloc, automaton.problem())?;
+    let mut guide = PlannerGuide::new(alloc, automaton, &one, finder, aim, wish);
+    let found = search_by_starts(alloc, automaton.problem(), aim, reasons, &mut guide);
     drop(guide);
+    drop(one);
     found
 }

@@ -1,10 +1,11 @@
 // Where a search splits when no leaf says so.
-ghost use Rattle.std.specs.Prelude.{◌≡◌, ℕ, ◌<◌, ◌≤◌, length, MatchOption};
-ghost use Rattle.domain_store.specs.Store.{BelongsTo, IsDecided, domain_at};
+ghost use Rattle.std.specs.Prelude.{◌≡◌, ℕ, ◌<◌, ◌≤◌, length, IsTrue, IfSome, MatchOption};
+ghost use Rattle.rwsp_terms.specs.Instance.{IsDay};
+ghost use Rattle.domain_store.specs.Store.{BelongsTo, IsDecided, domain_at, has_domain};
 ghost use Rattle.roster_search.specs.Guides.{IsSplitIn};
 
 use crate::need::most_needed;
-use domain_store::Domains;
+use domain_store::{Domains, position_of};
 use rwsp_model::Problem;
 use rwsp_terms::Symbol;
 
@@ -30,6 +31,65 @@ pub fn chronological(problem: &Problem, domains: &Domains, first: u32) -> Option
     let p = first_open_from(domains, first)?;
     let x = most_needed(problem, domains, p)?;
     Some(NextSplit { p, x })
+}
+
+/// The first position, from `start` on in the order of the days, that may be off or hold a shift, with the day off; None
+/// where there is none.
+pub fn off_or_work_from(domains: &Domains, start: u32) -> Option<NextSplit>
+    ensures { IfSome result (IsSplitIn domains.now) }
+{
+    let cells = domains.cells();
+    for p in start..cells {
+        if is_off_or_work(domains, p) {
+            return Some(off_at(p));
+        }
+    }
+    None
+}
+
+/// The first position that may be off or hold a shift, with the day off: of all first days of a week, then of all second
+/// ones and so on; None where there is none.
+pub fn off_or_work_by_day(problem: &Problem, domains: &Domains) -> Option<NextSplit>
+    requires { BelongsTo problem.now domains.now }
+    ensures { IfSome result (IsSplitIn domains.now) }
+{
+    for day in 1..problem.days() + 1 {
+        let found = off_or_work_on(problem, domains, day);
+        if found.is_some() {
+            return found;
+        }
+    }
+    None
+}
+
+// The first such position of the day.
+fn off_or_work_on(problem: &Problem, domains: &Domains, day: u32) -> Option<NextSplit>
+    requires belongs { BelongsTo problem.now domains.now }
+    requires day { IsDay problem.now day }
+    ensures { IfSome result (IsSplitIn domains.now) }
+{
+    for week in 0..problem.weeks() {
+        let p = position_of(problem, domains, week, day);
+        if is_off_or_work(domains, p) {
+            return Some(off_at(p));
+        }
+    }
+    None
+}
+
+// Whether the position may be off or hold a shift.
+fn is_off_or_work(domains: &Domains, p: u32) -> bool
+    requires { p < length domains.now.sets }
+    ensures { IsTrue result → (2 ≤ length (domain_at domains.now p)) × IsTrue (has_domain domains.now p 0) }
+{
+    domains.size(p) > 1 && domains.has(p, Symbol::OFF)
+}
+
+// The day off at the position.
+fn off_at(p: u32) -> NextSplit
+    ensures { (result.p ≡ p) × (result.x.number ≡ 0) }
+{
+    NextSplit { p, x: Symbol::OFF }
 }
 
 // The first position with two symbols or more, counted from `first` round the cycle.
