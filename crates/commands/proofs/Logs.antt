@@ -1,20 +1,18 @@
 -- What is said of logs, and that the bytes of one have one answer.
 use Rattle.std.proofs.Common.{◌≡◌, ℕ, List, subst, sym, ap, ◌∙◌, refl}
-use Rattle.std.specs.Prelude.{Result, Ok, Err, Option, Some}
+use Rattle.std.specs.Prelude.{Result, Ok, Err}
 use Rattle.rwsp_terms.specs.declared.data.Symbol.{Symbol}
 use Rattle.rwsp_terms.specs.Instance.{Instance}
 use Rattle.rwsp_terms.specs.Roster.{MeetsAll}
 use Rattle.rwsp_terms.specs.Rules.{Meets as MeetsRules}
 use Rattle.rwsp_model.specs.Validity.{KeepsLimits}
 use Rattle.refutation_terms.specs.declared.lines.LogKind.{LogKind}
-use Rattle.refutation_terms.specs.declared.lines.LogKind.TheVariants.{WithoutGoal, WithGoal}
-use Rattle.refutation_terms.specs.declared.lines.Opening.{Opening}
-use Rattle.refutation_terms.specs.declared.lines.Opening.TheVariants.{Full}
+use Rattle.refutation_terms.specs.declared.lines.LogKind.TheVariants.{WithoutGoal}
 use Rattle.refutation_terms.specs.declared.lines.LogRefusal.{LogRefusal}
-use Rattle.refutation_terms.specs.Log.{Log, Fits, GoalFits, Passes}
+use Rattle.refutation_terms.specs.Log.{Log, Passes}
 use Rattle.refutation_terms.specs.LogText.{log_text}
 use Rattle.refutation_terms.specs.Strip.{IsReduced}
-use Rattle.refutation_terms.specs.Verdict.{kind_by, kind_of_log, IsRefused, IsVerdict}
+use Rattle.refutation_terms.specs.Verdict.{kind_of_log, IsRefused, IsVerdict}
 use Rattle.refutation_terms.proofs.Sound.{passing_leaves_none}
 use Rattle.refutation_terms.proofs.LogKinds.{plain_leaves_none}
 use Rattle.refutation_terms.proofs.Named.{named-IsRule}
@@ -41,12 +39,6 @@ meets_named P R s h = record { is_roster = h.is_roster; rules = λ r n. h.rules 
 -- a roster and a refutation exclude each other, where the log has no goal and gives no cells
 pub exclusive : (P : Instance) (s : List Symbol) (g : Log) → MeetsAll P s → Passes P g → kind_of_log g ≡ WithoutGoal → ⊥
 exclusive P s g h k plain = plain_leaves_none P g s k plain (meets_named P g.named s h)
-
--- a log with a goal is a free log
-pub with_goal : (P : Instance) (g : Log) (goal : ℕ) → Fits P g → g.goal ≡ Some goal → kind_of_log g ≡ WithGoal
-with_goal P g goal fits is =
-    let full = subst (λ (o : Option ℕ). GoalFits P g.opening o) is fits.goal in
-    ap (λ (o : Opening). kind_by o g.goal) full.0 ∙ ap (λ (o : Option ℕ). kind_by Full o) is
 
 -- a log that passes is accepted, with its rules, its goal and its given cells
 pub leaves_none : (P : Instance) (g : Log) (passed : PassedLog) → Passes P g → shown_by g ≡ passed → LeavesNoRoster P passed

@@ -12,9 +12,10 @@ use Rattle.roster_print.specs.RosterText.{roster_text}
 use Rattle.refutation_log.specs.Bests.{IsBestFound, IsBestCounted, IsUndecided}
 use Rattle.refutation_log.specs.declared.best_found.BestFound.{BestFound}
 use Rattle.refutation_log.specs.declared.best_found.BestFound.TheVariants.{Best, NoRoster, Undecided}
-use Rattle.plain_words.specs.Statements.{Statement, FreeWeekends, Then}
+use Rattle.plain_words.specs.Statements.{Statement, Says, Then}
 use Rattle.plain_words.specs.LogTold.{Are, IsSaidOfLog, rosters_of}
-use Rattle.plain_words.specs.declared.pieces.TheConstants.{BUDGET_SPENT}
+use Rattle.plain_words.specs.declared.pieces.TheConstants.{BUDGET_SPENT, HAS_WEEKENDS}
+use Rattle.plain_words.specs.declared.part.Part.TheVariants.{Weekends}
 use Rattle.commands.specs.Told.{IsTold, IsSaidBehind, refuted_statements}
 use Rattle.commands.specs.Lines.{line}
 
@@ -57,7 +58,7 @@ IsBestOf P (Undecided s g) = IsRosterFound P s × Fits P g
 -- which statements are told of an answer
 abbrev pub AreBestStatements : Instance → BestFound → List Statement → Type 0
 AreBestStatements P (Best s g) =
-    Then (Are (FreeWeekends (free_weekends s.cells) ∷ [])) (IsSaidOfLog P (rosters_of g) g)
+    Then (Are (Says HAS_WEEKENDS.now (Weekends (free_weekends s.cells) ∷ []) ∷ [])) (IsSaidOfLog P (rosters_of g) g)
 AreBestStatements P (NoRoster g) = Then (Are (refuted_statements g)) (IsSaidOfLog P (rosters_of g) g)
 AreBestStatements P (Undecided s g) = IsSaidBehind P BUDGET_SPENT.now g
 

@@ -9,7 +9,7 @@ use Rattle.roster_print.specs.RosterText.{roster_text}
 use Rattle.refutation_log.specs.Planned.{IsPlanned, IsCounted}
 use Rattle.refutation_log.specs.declared.found.Found.{Found}
 use Rattle.refutation_log.specs.declared.found.Found.TheVariants.{Roster, NoRoster, Undecided}
-use Rattle.plain_words.specs.Statements.{Statement, Plain, Then}
+use Rattle.plain_words.specs.Statements.{Statement, plain, Then}
 use Rattle.plain_words.specs.LogTold.{Are, IsSaidOfLog, IsSaidOfReduced}
 use Rattle.plain_words.specs.declared.reason.Rosters.TheVariants.{Every}
 use Rattle.plain_words.specs.declared.pieces.TheConstants.{BUDGET_SPENT, MEND_LOOKS, REDUCE_MAY}
@@ -35,14 +35,14 @@ IsPlanOf P (Undecided g) = Fits P g
 abbrev pub IsSaidShortly : Bool → Instance → Log → List Statement → Type 0
 IsSaidShortly true P g statements =
     (h : Log) × IsReduced P g h × IsSaidOfReduced P (length g.named) h statements
-IsSaidShortly false P g statements = Then (IsSaidOfLog P Every g) (Are (Plain REDUCE_MAY.now ∷ [])) statements
+IsSaidShortly false P g statements = Then (IsSaidOfLog P Every g) (Are (plain REDUCE_MAY.now ∷ [])) statements
 
 -- which statements are told of an answer
 abbrev pub ArePlanStatements : Instance → Found → List Statement → Type 0
 ArePlanStatements P (Roster s) = Are []
 ArePlanStatements P (NoRoster g) =
     Then (Are (refuted_statements g))
-    (Then (IsSaidShortly (nat_le (length g.lines) MOST_LINES_REDUCED) P g) (Are (Plain MEND_LOOKS.now ∷ [])))
+    (Then (IsSaidShortly (nat_le (length g.lines) MOST_LINES_REDUCED) P g) (Are (plain MEND_LOOKS.now ∷ [])))
 ArePlanStatements P (Undecided g) = IsSaidBehind P BUDGET_SPENT.now g
 
 -- what is told of an answer

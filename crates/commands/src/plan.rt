@@ -9,7 +9,7 @@ ghost use Rattle.commands.specs.Plan.{IsPlanTold, IsSaidShortly, IsPlanAnswer, p
 use crate::telling::{log_told, put_refuted};
 use clean_words::Gate;
 use plain_words::pieces::{BUDGET_SPENT, MEND_LOOKS, REDUCE_MAY};
-use plain_words::{Rosters, put_log_told, put_plain_told, put_reduced_told};
+use plain_words::{Rosters, put_log_told, put_reduced_told, put_told};
 use refutation_log::{Found, Log, print_log};
 pub use roster_planner::Effort;
 use roster_planner::plan_roster;
@@ -69,7 +69,7 @@ fn refuted_told(alloc: Global, problem: &Problem, log: &Log) -> Result<Vec<u8>, 
     let mut out = Vec::new(alloc);
     put_refuted(&mut out, problem, log)?;
     put_shortly(&mut out, problem, log)?;
-    put_plain_told(&mut out, problem, MEND_LOOKS)?;
+    put_told(&mut out, problem, MEND_LOOKS, &[])?;
     Ok(out)
 }
 
@@ -103,7 +103,7 @@ fn put_whole(out: &mut Vec<u8>, problem: &Problem, log: &Log) -> Result<(), Allo
     ensures { OnOk result (Tells problem.now (IsSaidShortly false problem.now log.now) out.old.items out.new.items) }
 {
     put_log_told(out, problem, Rosters::Every, log)?;
-    put_plain_told(out, problem, REDUCE_MAY)?;
+    put_told(out, problem, REDUCE_MAY, &[])?;
     Ok(())
 }
 

@@ -1,8 +1,7 @@
 -- Which rules lines of a log cite.
-use Rattle.std.proofs.Common.{◌≡◌, ℕ, ◌+◌, ◌<◌, List, [], length, get_or, ap, sym, ◌∙◌, subst, arith, ◌⊎◌, inl, inr, ⊎_elim, Some, Bool}
+use Rattle.std.proofs.Common.{◌≡◌, ℕ, ◌<◌, List, [], length, get_or, ap, sym, ◌∙◌, subst, arith, ◌⊎◌, inr, ⊎_elim, Some, Bool}
 use Rattle.std.specs.Prelude.{Contains, ◌↔◌, slice_get, IsTrue}
-use Rattle.std.proofs.lemmas.Bool.{cases_lt}
-use Rattle.std.proofs.lemmas.Option.{slice_get-get_or, same_Some}
+use Rattle.std.proofs.lemmas.Option.{slice_get-get_or}
 use Rattle.rwsp_terms.specs.declared.data.Rule.{Rule}
 use Rattle.rwsp_terms.specs.Instance.{Instance}
 use Rattle.rwsp_terms.specs.Rules.{rule_of, Names}
@@ -28,12 +27,3 @@ cited_here P old R line r n b none is holds names = (
 -- the first i lines don't cite the rule
 abbrev pub NoneCites : Instance → List Line → ℕ → Rule → Type 0
 NoneCites P lines i r = (k : ℕ) (line : Line) → k < i → slice_get lines k ≡ Some line → Cites P line r → ⊥
-
-pub none_more : (P : Instance) (lines : List Line) (i : ℕ) (line : Line) (r : Rule) → NoneCites P lines i r → slice_get lines i ≡ Some line → (Cites P line r → ⊥) → NoneCites P lines (i + 1) r
-none_more P lines i line r none here fails k other less there cites =
-    elim (cases_lt k i) [
-      | inl lt ↦ none k other lt there cites
-      | inr le ↦
-          let same : k ≡ i = omega (arith, less, le) in
-          fails (subst (λ l. Cites P l r) (same_Some other line (sym there ∙ ap (slice_get lines) same ∙ here)) cites)
-    ]

@@ -17,10 +17,9 @@ use Rattle.crew_size.specs.declared.verdict.StaffRefusal.{StaffRefusal}
 use Rattle.crew_size.specs.declared.verdict.StaffRefusal.TheVariants as Failures
 use Rattle.ways_out.specs.declared.change.Change.{Change}
 use Rattle.ways_out.specs.declared.change.Outcome.{Outcome}
-use Rattle.plain_words.specs.Statements.{told_line, told_lines}
+use Rattle.plain_words.specs.Statements.{told_lines}
 use Rattle.plain_words.specs.LogTold.{size_statement, size_statements}
 use Rattle.plain_words.specs.Told.{way_statement, way_statements}
-use Rattle.plain_words.proofs.Joined.{one_of}
 use Rattle.plain_words.proofs.Lines.{told_behind}
 
 -- logs of numbers of weeks
@@ -38,11 +37,11 @@ one_size_more low (suc i) (l ∷ logs) g less =
     ∙ ap (λ (m : ℕ). size_statement low l ∷ (size_statements (low + 1) (take i logs) ++ size_statement m (get_or logs i g) ∷ [])) place
 
 pub size_more : (P : Instance) (low weeks i : ℕ) (logs : List Log) (g : Log) (old out new : List ℕ) → i < length logs → weeks ≡ low + i
-    → out ≡ old ++ told_lines P (size_statements low (take i logs)) → new ≡ out ++ told_line P (size_statement weeks (get_or logs i g))
+    → out ≡ old ++ told_lines P (size_statements low (take i logs)) → new ≡ out ++ told_lines P (size_statement weeks (get_or logs i g) ∷ [])
     → new ≡ old ++ told_lines P (size_statements low (take (i + 1) logs))
 size_more P low weeks i logs g old out new less place before step =
     told_behind P (size_statements low (take i logs)) (size_statement (low + i) (get_or logs i g) ∷ []) old out new before
-    (one_of (told_line P) (size_statement (low + i) (get_or logs i g)) out new (step ∙ ap (λ (m : ℕ). out ++ told_line P (size_statement m (get_or logs i g))) place))
+    (step ∙ ap (λ (m : ℕ). out ++ told_lines P (size_statement m (get_or logs i g) ∷ [])) place)
     ∙ ap (λ ss. old ++ told_lines P ss) (sym (one_size_more low i logs g less))
 
 pub sizes_whole : (P : Instance) (low i : ℕ) (logs : List Log) (old out : List ℕ) → length logs ≤ i → out ≡ old ++ told_lines P (size_statements low (take i logs)) → out ≡ old ++ told_lines P (size_statements low logs)
@@ -50,27 +49,27 @@ sizes_whole P low i logs old out past before = before ∙ ap (λ ls. old ++ told
 
 -- changes and what is known of them
 
-one_way_more : (cs : List Change) (os : List Outcome) (n : ℕ) (c : Change) (o : Outcome) → n < length cs → n < length os → way_statements (take (n + 1) cs) (take (n + 1) os) ≡ way_statements (take n cs) (take n os) ++ way_statement (get_or cs n c) (get_or os n o)
-one_way_more [] os n c o in_cs in_os = absurd (omega (arith, in_cs))
-one_way_more (d ∷ cs) [] n c o in_cs in_os = absurd (omega (arith, in_os))
-one_way_more (d ∷ cs) (p ∷ os) zero c o in_cs in_os = append-nil (way_statement d p)
-one_way_more (d ∷ cs) (p ∷ os) (suc n) c o in_cs in_os =
+one_way_more : (P : Instance) (cs : List Change) (os : List Outcome) (n : ℕ) (c : Change) (o : Outcome) → n < length cs → n < length os → way_statements P (take (n + 1) cs) (take (n + 1) os) ≡ way_statements P (take n cs) (take n os) ++ way_statement P (get_or cs n c) (get_or os n o)
+one_way_more P [] os n c o in_cs in_os = absurd (omega (arith, in_cs))
+one_way_more P (d ∷ cs) [] n c o in_cs in_os = absurd (omega (arith, in_os))
+one_way_more P (d ∷ cs) (p ∷ os) zero c o in_cs in_os = append-nil (way_statement P d p)
+one_way_more P (d ∷ cs) (p ∷ os) (suc n) c o in_cs in_os =
     let next : suc n + 1 ≡ suc (n + 1) = omega arith in
-    ap (λ (k : ℕ). way_statements (take k (d ∷ cs)) (take k (p ∷ os))) next
-    ∙ ap (λ t. way_statement d p ++ t) (one_way_more cs os n c o (omega (arith, in_cs)) (omega (arith, in_os)))
-    ∙ sym (append_assoc (way_statement d p) (way_statements (take n cs) (take n os)) (way_statement (get_or cs n c) (get_or os n o)))
+    ap (λ (k : ℕ). way_statements P (take k (d ∷ cs)) (take k (p ∷ os))) next
+    ∙ ap (λ t. way_statement P d p ++ t) (one_way_more P cs os n c o (omega (arith, in_cs)) (omega (arith, in_os)))
+    ∙ sym (append_assoc (way_statement P d p) (way_statements P (take n cs) (take n os)) (way_statement P (get_or cs n c) (get_or os n o)))
 
 pub way_more : (P : Instance) (cs : List Change) (os : List Outcome) (n : ℕ) (c : Change) (o : Outcome) (old out new : List ℕ) → n < length cs → n < length os
-    → out ≡ old ++ told_lines P (way_statements (take n cs) (take n os)) → new ≡ out ++ told_lines P (way_statement (get_or cs n c) (get_or os n o))
-    → new ≡ old ++ told_lines P (way_statements (take (n + 1) cs) (take (n + 1) os))
+    → out ≡ old ++ told_lines P (way_statements P (take n cs) (take n os)) → new ≡ out ++ told_lines P (way_statement P (get_or cs n c) (get_or os n o))
+    → new ≡ old ++ told_lines P (way_statements P (take (n + 1) cs) (take (n + 1) os))
 way_more P cs os n c o old out new in_cs in_os before step =
-    told_behind P (way_statements (take n cs) (take n os)) (way_statement (get_or cs n c) (get_or os n o)) old out new before step
-    ∙ ap (λ ss. old ++ told_lines P ss) (sym (one_way_more cs os n c o in_cs in_os))
+    told_behind P (way_statements P (take n cs) (take n os)) (way_statement P (get_or cs n c) (get_or os n o)) old out new before step
+    ∙ ap (λ ss. old ++ told_lines P ss) (sym (one_way_more P cs os n c o in_cs in_os))
 
 pub ways_whole : (P : Instance) (cs : List Change) (os : List Outcome) (n : ℕ) (old out : List ℕ) → length cs ≤ n → length os ≤ n
-    → out ≡ old ++ told_lines P (way_statements (take n cs) (take n os)) → out ≡ old ++ told_lines P (way_statements cs os)
+    → out ≡ old ++ told_lines P (way_statements P (take n cs) (take n os)) → out ≡ old ++ told_lines P (way_statements P cs os)
 ways_whole P cs os n old out past over before =
-    before ∙ ap (λ ls. old ++ told_lines P (way_statements ls (take n os))) (take_all n cs past) ∙ ap (λ ls. old ++ told_lines P (way_statements cs ls)) (take_all n os over)
+    before ∙ ap (λ ls. old ++ told_lines P (way_statements P ls (take n os))) (take_all n cs past) ∙ ap (λ ls. old ++ told_lines P (way_statements P cs ls)) (take_all n os over)
 
 -- what a failure names is that of the problem with any number of weeks
 pub own_sized : (P : Instance) (m : ℕ) (why : StaffRefusal) → NamesItsOwn P why → NamesItsOwn (with_weeks P m) why

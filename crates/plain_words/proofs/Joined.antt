@@ -83,23 +83,6 @@ none_found p a (suc n) none =
     found_later p a (range_with_len (a + 1) n) (sym (ap p e) ∙ none 0 (omega arith))
     ∙ none_found p (a + 1) n (λ i less. let g : a + 1 + i ≡ a + suc i = omega arith in ap p g ∙ none (suc i) (omega (arith, less)))
 
--- one element more
-pub taken_more : {X : Type 0} (f : X → List ℕ) (xs : List X) (i : ℕ) (d : X) (old out new : List ℕ) → i < length xs → out ≡ old ++ flat_map f (take i xs) → new ≡ out ++ f (get_or xs i d) → new ≡ old ++ flat_map f (take (i + 1) xs)
-taken_more f xs i d old out new less before step =
-    step
-    ∙ ap (λ t. t ++ f (get_or xs i d)) before
-    ∙ flat_map_more f old (take i xs) (get_or xs i d)
-    ∙ ap (λ ys. old ++ flat_map f ys) (sym (take_more xs i d less))
-
--- all elements
-pub taken_whole : {X : Type 0} (f : X → List ℕ) (xs : List X) (i : ℕ) (old out : List ℕ) → length xs ≤ i → out ≡ old ++ flat_map f (take i xs) → out ≡ old ++ flat_map f xs
-taken_whole f xs i old out all before = before ∙ ap (λ ys. old ++ flat_map f ys) (take_all i xs all)
-
--- all elements, which another list names
-pub taken_all : {X Y : Type 0} (h : Y → List ℕ) (v : X → Y) (xs : List X) (i : ℕ) (old out : List ℕ) → length xs ≤ i → out ≡ old ++ flat_map (λ x. h (v x)) (take i xs) → out ≡ old ++ flat_map h (map v xs)
-taken_all h v xs i old out all before =
-    before ∙ ap (λ ys. old ++ flat_map (λ x. h (v x)) ys) (take_all i xs all) ∙ ap (λ t. old ++ t) (sym (flat_map-map h v xs))
-
 -- one number more, which another list names
 pub named_more : {Y : Type 0} (h : Y → List ℕ) (v : ℕ → Y) (a n at : ℕ) (old out new : List ℕ) → a + n ≡ at → out ≡ old ++ flat_map h (map v (range_with_len a n)) → new ≡ out ++ h (v at) → new ≡ old ++ flat_map h (map v (range_with_len a (n + 1)))
 named_more h v a n at old out new here before step =
@@ -107,7 +90,3 @@ named_more h v a n at old out new here before step =
     ∙ ap (λ t. t ++ h (v at)) before
     ∙ flat_map_more h old (map v (range_with_len a n)) (v at)
     ∙ ap (λ ys. old ++ flat_map h ys) (sym (map-range_with_len_more v a n at here))
-
--- one piece, and others behind it
-pub piece_then : (old mid new a b : List ℕ) → mid ≡ old ++ a → new ≡ mid ++ b → new ≡ old ++ (a ++ b)
-piece_then old mid new a b first second = second ∙ ap (λ t. t ++ b) first ∙ append_assoc old a b

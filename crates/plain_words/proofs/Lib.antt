@@ -1,6 +1,5 @@
 pub mod Joined
-pub mod Said
-pub mod Minutes
+pub mod Bytes
 pub mod Misfits
 pub mod Sentences
 pub mod Lines

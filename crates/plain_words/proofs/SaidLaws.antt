@@ -1,9 +1,8 @@
 -- What is said of a refutation names its rules and its leaves that count, and is one.
-use Rattle.std.proofs.Common.{◌≡◌, ℕ, zero, suc, ◌+◌, ◌==◌, List, [], ◌∷◌, ◌++◌, map, refl, ap, sym, ◌∙◌, subst, arith, inl, inr, Option, Some, None, Bool, true, false, length}
+use Rattle.std.proofs.Common.{◌≡◌, ℕ, zero, suc, ◌+◌, ◌==◌, List, [], ◌∷◌, ◌++◌, map, refl, ap, sym, ◌∙◌, subst, arith, Option, Some, None, Bool, true, false, length}
 use Rattle.std.specs.Prelude.{Contains, slice_get, ◌||◌, ◌&&◌, if◌then◌else◌, count_by}
 use Rattle.std.specs.List.{flat_map, list_any, range_with_len}
 use Rattle.std.proofs.lemmas.Bool.{and_parts}
-use Rattle.std.proofs.lemmas.List.Elements.{Contains-append_cases}
 use Rattle.rwsp_terms.specs.declared.data.Symbol.{Symbol}
 use Rattle.rwsp_terms.specs.Instance.{Instance, shift_count, symbol_numbered}
 use Rattle.refutation_terms.specs.declared.lines.Turn.{Turn}
@@ -19,10 +18,11 @@ use Rattle.crew_size.specs.declared.run.StaffEnd.TheVariants as Ends
 use Rattle.plain_words.specs.declared.reason.Rosters.{Rosters}
 use Rattle.plain_words.specs.declared.reason.Rosters.TheVariants.{Weeks}
 use Rattle.plain_words.specs.Counting.{is_misfit}
-use Rattle.plain_words.specs.Statements.{Statement, Named, OnlyTurn, Counted, OfSize, Then}
-use Rattle.plain_words.specs.LogTold.{Are, IsLoneTurn, day_number, rule_statement, counts_blocks, is_counted, counted_if, counted_statements, begin_statement, reason_statements, is_open, IsSaidBy, IsSaidOfSize, IsSaidOfLast, IsSaidOfEnd}
+use Rattle.plain_words.specs.Statements.{Statement, Named, OnlyTurn, Counted, OfSize, said_if, Then}
+use Rattle.plain_words.specs.LogTold.{Are, IsLoneTurn, day_number, rule_statement, counts_blocks, is_counted, counted_if, counted_at, counted_statements, begin_statement, reason_statements, is_open, IsSaidBy, IsSaidOfSize, IsSaidOfLast, IsSaidOfEnd}
 use Rattle.plain_words.specs.Laws.{rule_in, NamedRulesAreSaid, CountedAreLeavesOf, LogsSayOne, StaffsSayOne}
 use Rattle.plain_words.proofs.Misfits.{misfits_are_leaves}
+use Rattle.plain_words.proofs.Sentences.{in_piece, said_there}
 
 -- rules
 
@@ -34,25 +34,23 @@ rule_of_statement : (P : Instance) (lone : Option Turn) (k : ℕ) → rule_in (r
 rule_of_statement P None k = refl
 rule_of_statement P (Some t) k = rule_by (k == day_number P t.day) t k
 
-no_rule : (b : Bool) (x : Symbol) (rest : List Statement) → flat_map rule_in rest ≡ [] → flat_map rule_in ((if b then Counted x ∷ [] else []) ++ rest) ≡ []
+no_rule : (b : Bool) (x : Symbol) (rest : List Statement) → flat_map rule_in rest ≡ [] → flat_map rule_in (said_if b (Counted x) ++ rest) ≡ []
 no_rule true x rest none = none
 no_rule false x rest none = none
 
-no_rules : (P : Instance) (lines : List Line) (a n : ℕ) → flat_map rule_in (flat_map (λ x. counted_if P lines (symbol_numbered x)) (range_with_len a n)) ≡ []
+no_rules : (P : Instance) (lines : List Line) (a n : ℕ) → flat_map rule_in (flat_map (counted_at P lines) (range_with_len a n)) ≡ []
 no_rules P lines a zero = refl
-no_rules P lines a (suc n) = no_rule (is_counted P lines (symbol_numbered a)) (symbol_numbered a) (flat_map (λ x. counted_if P lines (symbol_numbered x)) (range_with_len (a + 1) n)) (no_rules P lines (a + 1) n)
+no_rules P lines a (suc n) = no_rule (is_counted P lines (symbol_numbered a)) (symbol_numbered a) (flat_map (counted_at P lines) (range_with_len (a + 1) n)) (no_rules P lines (a + 1) n)
 
-named_rules : (f : ℕ → Statement) → ((k : ℕ) → rule_in (f k) ≡ k ∷ []) → (R : List ℕ) (rest : List Statement) → flat_map rule_in rest ≡ [] → flat_map rule_in (map f R ++ rest) ≡ R
+pub named_rules : (f : ℕ → Statement) → ((k : ℕ) → rule_in (f k) ≡ k ∷ []) → (R : List ℕ) (rest : List Statement) → flat_map rule_in rest ≡ [] → flat_map rule_in (map f R ++ rest) ≡ R
 named_rules f names [] rest none = none
 named_rules f names (k ∷ R) rest none =
     ap (λ (l : List ℕ). l ++ flat_map rule_in (map f R ++ rest)) (names k) ∙ ap (λ (l : List ℕ). k ∷ l) (named_rules f names R rest none)
 
-begin_rule : (o : Opening) (w : Rosters) (R : List ℕ) → rule_in (begin_statement o w R) ≡ []
+pub begin_rule : (o : Opening) (w : Rosters) (R : List ℕ) → rule_in (begin_statement o w R) ≡ []
 begin_rule (Given given) w R = refl
-begin_rule Full w [] = refl
-begin_rule Full w (k ∷ R) = refl
-begin_rule (Turned t) w [] = refl
-begin_rule (Turned t) w (k ∷ R) = refl
+begin_rule Full w R = refl
+begin_rule (Turned t) w R = refl
 
 pub rules_said : NamedRulesAreSaid
 rules_said P w g statements is =
@@ -77,10 +75,8 @@ rule_uncounted P (Some t) k x e = uncounted_by (k == day_number P t.day) t k x e
 
 begin_uncounted : (o : Opening) (w : Rosters) (R : List ℕ) → Uncounted (begin_statement o w R)
 begin_uncounted (Given given) w R x e = absurd (cc)
-begin_uncounted Full w [] x e = absurd (cc)
-begin_uncounted Full w (k ∷ R) x e = absurd (cc)
-begin_uncounted (Turned t) w [] x e = absurd (cc)
-begin_uncounted (Turned t) w (k ∷ R) x e = absurd (cc)
+begin_uncounted Full w R x e = absurd (cc)
+begin_uncounted (Turned t) w R x e = absurd (cc)
 
 -- it is behind the rules
 behind_one : (s : Statement) (rest : List Statement) (x : Symbol) → Uncounted s → Contains (s ∷ rest) (Counted x) → Contains rest (Counted x)
@@ -95,19 +91,12 @@ behind_rules P lone (k ∷ R) rest x h =
 same_counted : (x y : Symbol) → Counted x ≡ Counted y → x ≡ y
 same_counted x y e = cc
 
-counted_here : (b : Bool) (y x : Symbol) → Contains (if b then Counted y ∷ [] else []) (Counted x) → (b ≡ true) × (y ≡ x)
-counted_here true y x (zero, less, is) = (refl, same_counted y x is)
-counted_here true y x (suc k, less, is) = absurd (omega (arith, less))
-counted_here false y x h = absurd (omega (arith, h.1))
-
-counted_in : (P : Instance) (lines : List Line) (a n : ℕ) (x : Symbol) → Contains (flat_map (λ y. counted_if P lines (symbol_numbered y)) (range_with_len a n)) (Counted x) → is_counted P lines x ≡ true
-counted_in P lines a zero x h = absurd (omega (arith, h.1))
-counted_in P lines a (suc n) x h =
-    let y = symbol_numbered a in
-    elim (Contains-append_cases (counted_if P lines y) (flat_map (λ z. counted_if P lines (symbol_numbered z)) (range_with_len (a + 1) n)) (Counted x) h) [
-      | inl here ↦ let c = counted_here (is_counted P lines y) y x here in subst (λ z. is_counted P lines z ≡ true) c.1 c.0
-      | inr more ↦ counted_in P lines (a + 1) n x more
-    ]
+counted_in : (P : Instance) (lines : List Line) (a n : ℕ) (x : Symbol) → Contains (flat_map (counted_at P lines) (range_with_len a n)) (Counted x) → is_counted P lines x ≡ true
+counted_in P lines a n x h =
+    let found = in_piece (counted_at P lines) a n (Counted x) h in
+    let y = symbol_numbered (a + found.place) in
+    let said = said_there (is_counted P lines y) (Counted y) (Counted x) found.there in
+    subst (λ z. is_counted P lines z ≡ true) (same_counted y x said.1) said.0
 
 -- a line counts the blocks of the symbol
 abbrev Counts : List Line → Symbol → Type 0

@@ -1,6 +1,7 @@
 -- Which statements are told of logs: with a goal, with given cells or with neither, and of numbers of weeks.
 use Rattle.std.specs.Prelude.{◌≡◌, ℕ, zero, suc, ◌+◌, ◌-◌, ◌==◌, ◌&&◌, List, [], ◌∷◌, ◌++◌, map, length, take, slice_get, Bool, true, false, Option, Some, None, count_by, nat_lt, if◌then◌else◌}
 use Rattle.std.specs.List.{list_any, flat_map, range_with_len}
+use Rattle.rwsp_terms.specs.declared.data.Bounds.{Bounds}
 use Rattle.rwsp_terms.specs.declared.data.Symbol.{Symbol}
 use Rattle.rwsp_terms.specs.declared.data.Rule.{Rule}
 use Rattle.rwsp_terms.specs.declared.data.Rule.TheVariants.{Day}
@@ -22,8 +23,11 @@ use Rattle.crew_size.specs.declared.run.StaffEnd.TheVariants as Ends
 use Rattle.plain_words.specs.declared.reason.Rosters.{Rosters}
 use Rattle.plain_words.specs.declared.reason.Rosters.TheVariants.{Every, Free, Weeks, Given}
 use Rattle.plain_words.specs.Counting.{is_misfit}
-use Rattle.plain_words.specs.Statements.{Statement, Plain, Numbered, Together, Whatever, Named, OnlyTurn, Counted, Spent, ByNumbers, Cells, Leaves, Least, NoneTo, OfSize, Then}
-use Rattle.plain_words.specs.declared.pieces.TheConstants.{AT_ONCE, BY_A_COUNT, BY_CASES, BY_WEIGHTS, LINES_OF_CASES, LOG_PASSES}
+use Rattle.plain_words.specs.declared.part.Part.TheVariants as Part
+use Rattle.plain_words.specs.declared.part.Part.TheVariants.{Length, Range, Closed, Open, Of, Unknown}
+use Rattle.plain_words.specs.Statements.{first_text}
+use Rattle.plain_words.specs.Statements.{Statement, Says, Named, OnlyTurn, Counted, ByNumbers, Cells, OfSize, plain, said_if, Then}
+use Rattle.plain_words.specs.declared.pieces.TheConstants.{AT_ONCE, BY_A_COUNT, BY_CASES, BY_WEIGHTS, FIRST_ENOUGH, LEAST_ENOUGH, LEAVES, LOG_PASSES, NONE_ENOUGH, SPENT}
 
 -- these statements
 abbrev pub Are : List Statement → List Statement → Type 0
@@ -59,17 +63,18 @@ abbrev pub is_counted : Instance → List Line → Symbol → Bool
 is_counted P lines x = list_any (counts_blocks x) lines && is_misfit P x
 
 abbrev pub counted_if : Instance → List Line → Symbol → List Statement
-counted_if P lines x = if is_counted P lines x then Counted x ∷ [] else []
+counted_if P lines x = said_if (is_counted P lines x) (Counted x)
+
+abbrev pub counted_at : Instance → List Line → (x : ℕ) → List Statement
+counted_at P lines x = counted_if P lines (symbol_numbered x)
 
 -- the symbols whose blocks the lines count rightly, the day off first
 abbrev pub counted_statements : Instance → List Line → List Statement
-counted_statements P lines =
-    flat_map (λ x. counted_if P lines (symbol_numbered x)) (range_with_len 0 (shift_count P + 1))
+counted_statements P lines = flat_map (counted_at P lines) (range_with_len 0 (shift_count P + 1))
 
 -- said before the rules that are named
 abbrev pub first_statement : Rosters → List ℕ → Statement
-first_statement w [] = Whatever w
-first_statement w (k ∷ R) = Together w
+first_statement w R = Says (first_text R) (Of w ∷ [])
 
 -- and where the log gives cells, they are said with the rules
 abbrev pub begin_statement : Opening → Rosters → List ℕ → Statement
@@ -96,9 +101,10 @@ abbrev pub is_closed : Line → Bool
 is_closed (Closing leaf) = true
 is_closed line = false
 
--- how far a log came
+-- how far a log came: how many cases are closed, how many were left open, and of which rosters nothing is known
 abbrev pub spent_statement : Rosters → List Line → Statement
-spent_statement w lines = Spent (count_by is_closed lines) (count_by is_open lines) w
+spent_statement w lines =
+    Says SPENT.now (Closed (count_by is_closed lines) ∷ Open (count_by is_open lines) ∷ Unknown w ∷ [])
 
 -- where so many lines are open: a reason where none is, else how far the log came
 abbrev pub IsSaidBy : (left : ℕ) → Instance → Rosters → Log → List Statement → Type 0
@@ -125,24 +131,42 @@ rosters_of g = rosters_from g.opening g.goal
 
 -- what is said of a log that was judged, has this opening and this goal or none, and names these rules
 abbrev pub accepted_statements : Instance → Opening → Option ℕ → List ℕ → List Statement
-accepted_statements P o goal R = Plain LOG_PASSES.now ∷ reason_statements P o (rosters_by goal) R None []
+accepted_statements P o goal R = plain LOG_PASSES.now ∷ reason_statements P o (rosters_by goal) R None []
 
 -- how a search without a roster ended, by the lines of its log
+abbrev pub end_text : List Line → List ℕ
+end_text (Closing (Blocks x) ∷ []) = BY_A_COUNT.now
+end_text (Closing (Words p R (Light turns reward y)) ∷ []) = BY_WEIGHTS.now
+end_text (line ∷ []) = AT_ONCE.now
+end_text lines = BY_CASES.now
+
 abbrev pub end_statement : List Line → Statement
-end_statement (Closing (Blocks x) ∷ []) = Plain BY_A_COUNT.now
-end_statement (Closing (Words p R (Light turns reward y)) ∷ []) = Plain BY_WEIGHTS.now
-end_statement (line ∷ []) = Plain AT_ONCE.now
-end_statement lines = Numbered BY_CASES.now (length lines) LINES_OF_CASES.now
+end_statement lines = Says (end_text lines) (Length (length lines) ∷ [])
 
 -- how many of the rules that a log names are left, where they are fewer
 abbrev pub leaves_statements : (before after : ℕ) → List Statement
-leaves_statements before after = if nat_lt after before then Leaves before after ∷ [] else []
+leaves_statements before after =
+    said_if (nat_lt after before) (Says LEAVES.now (Length before ∷ Length after ∷ []))
 
 -- what is said of a log that is left of one which names so many rules
 abbrev pub IsSaidOfReduced : Instance → (before : ℕ) → Log → List Statement → Type 0
 IsSaidOfReduced P before g = Then (Are (leaves_statements before (length g.named))) (IsSaidOfLog P Every g)
 
 -- Numbers of weeks.
+
+-- from a least number to a greatest
+abbrev pub span : (least greatest : ℕ) → Bounds
+span least greatest = record { least = least; greatest = greatest }
+
+-- this number of weeks is enough, and none from `low` on below it is
+abbrev pub enough_statement : (low m : ℕ) → Statement
+enough_statement low m =
+    if low == m then Says FIRST_ENOUGH.now (Part.Weeks m ∷ [])
+    else Says LEAST_ENOUGH.now (Part.Weeks m ∷ Range (span low (m - 1)) ∷ [])
+
+-- none of these numbers of weeks is enough
+abbrev pub none_statement : (low last : ℕ) → Statement
+none_statement low last = Says NONE_ENOUGH.now (Range (span low last) ∷ [])
 
 -- of a log for m weeks: the rules that it names, by their numbers, or how far it came
 abbrev pub size_statement : (m : ℕ) → Log → Statement
@@ -171,11 +195,11 @@ AreSaidOfLogs P low logs = IsSaidOfLast P low (take (length logs - 1) logs) (sli
 
 -- that the numbers of weeks from `low` on and below m have no roster, where there are some
 abbrev pub none_below : (low m : ℕ) → List Statement
-none_below low m = if low == m then [] else NoneTo low (m - 1) ∷ []
+none_below low m = if low == m then [] else none_statement low (m - 1) ∷ []
 
 -- what is said of the end, where the next number of weeks is m
 abbrev pub IsSaidOfEnd : Instance → (low m : ℕ) → StaffEnd → List Statement → Type 0
-IsSaidOfEnd P low m (Ends.Least s) = Are (Least low m ∷ [])
+IsSaidOfEnd P low m (Ends.Least s) = Are (enough_statement low m ∷ [])
 IsSaidOfEnd P low m Ends.NoneTo = Are (none_below low m)
 IsSaidOfEnd P low m (Ends.Undecided g) = Then (Are (none_below low m)) (IsSaidOfSize P m g)
 

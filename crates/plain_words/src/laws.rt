@@ -2,6 +2,7 @@
 ghost use Rattle.plain_words.specs.Laws.{RulesAreSaidOnce, CountedAreLeaves, NamedRulesAreSaid, CountedAreLeavesOf, LogsSayOne, StaffsSayOne, BrokenDaysAreTold};
 
 /// Each rule is said once, in the order of their numbers.
+#[tactic(auto, using(crate::proofs::Sentences::rules_are_said_once))]
 pub fn rules_are_said_once()
     ensures { RulesAreSaidOnce }
 {}
@@ -22,11 +23,13 @@ pub fn counted_are_leaves_of()
 {}
 
 /// What is said of a log is one.
+#[tactic(auto, using(crate::proofs::SaidLaws::logs_say_one))]
 pub fn logs_say_one()
     ensures { LogsSayOne }
 {}
 
 /// And so is what is said of a search by numbers of weeks.
+#[tactic(auto, using(crate::proofs::SaidLaws::staffs_say_one))]
 pub fn staffs_say_one()
     ensures { StaffsSayOne }
 {}

@@ -8,18 +8,20 @@ ghost use Rattle.refutation_terms.specs.declared.lines.Line.{Line};
 ghost use Rattle.refutation_terms.specs.Log.{Log as LogValue, Cites, Fits, LineFits, OpeningFits};
 ghost use Rattle.crew_size.specs.Sizes.{with_weeks, IsSize};
 ghost use Rattle.crew_size.specs.Fitting.{EndFits, FitsSizes};
-ghost use Rattle.plain_words.specs.Statements as Told;
 ghost use Rattle.plain_words.specs.Statements.{told_line, told_lines, Tells};
-ghost use Rattle.plain_words.specs.LogTold.{SomeCites, IsLoneTurn, rule_statement, counts_blocks, is_counted, counted_if, counted_statements, IsReason, is_open, is_closed, spent_statement, IsSaidOfLog, begin_statement, rosters_by, rosters_of, accepted_statements, end_statement, leaves_statements, IsSaidOfReduced, size_statement, size_statements, IsSaidOfSize, AreSaidOfLogs, none_below, IsSaidOfEnd, AreSaidOfStaff};
+ghost use Rattle.plain_words.specs.LogTold.{SomeCites, IsLoneTurn, rule_statement, counts_blocks, counted_at, counted_statements, IsReason, is_open, is_closed, spent_statement, IsSaidOfLog, begin_statement, rosters_by, rosters_of, accepted_statements, end_text, end_statement, leaves_statements, IsSaidOfReduced, size_statement, size_statements, IsSaidOfSize, AreSaidOfLogs, none_below, IsSaidOfEnd, AreSaidOfStaff};
 
 use crate::counted::is_misfit;
-use crate::pieces::{AT_ONCE, BY_A_COUNT, BY_CASES, BY_WEIGHTS, Done, LINES_OF_CASES, LOG_PASSES};
+use crate::part::Part::{Closed, Length, Number, Open, Rule as Stated, Unknown, Works};
+use crate::pieces::{
+    AT_ONCE, BY_A_COUNT, BY_CASES, BY_WEIGHTS, Done, LEAVES, LOG_PASSES, NUMBERED_RULE, ONLY_TURN,
+    SPENT,
+};
 use crate::reason::Rosters;
 use crate::rule_words::rule_number;
 use crate::statement::{
-    put_cells_line, put_counted_line, put_first_line, put_least_line, put_leaves_line,
-    put_named_line, put_none_line, put_numbered_told, put_numbers_line, put_plain_told,
-    put_spent_line, put_turn_line,
+    put_cells_told, put_counted_told, put_enough_told, put_first_told, put_line, put_none_told,
+    put_numbers_told, put_told, told_by,
 };
 use crew_size::{StaffEnd, StaffRun, with_weeks};
 use refutation_log::{Log, put_cited};
@@ -71,7 +73,7 @@ fn lone_turn(
         × ((k : ℕ) (line : Line) → slice_get lines.now k ≡ Some line → LineFits problem.now goal counts line) }
     requires opening { OpeningFits problem.now opening.now }
     ensures turn { IfOk result (IsLoneTurn problem.now opening.now lines.now) }
-    ensures own { IfOk result (λ lone. IfSome lone (λ t. IsDay problem.now t.day × IsSymbol problem.now t.x)) }
+    ensures own { IfOk result (λ lone. IfSome lone (λ t. IsDay problem.now t.day)) }
 {
     let Opening::Turned(turn) = opening else {
         return Ok(None);
@@ -83,23 +85,28 @@ fn lone_turn(
     }
 }
 
-// Tells of a named rule.
+// Tells of a named rule, or of it only the turn.
+#[tactic(auto, unfolding(crate::specs::Statements::line, crate::specs::Statements::statement_words))]
 fn put_rule_told(out: &mut Vec<u8>, problem: &Problem, lone: Option<Turn>, rule: u32) -> Done
-    requires { IfSome lone (λ t. IsDay problem.now t.day × IsSymbol problem.now t.x) }
+    requires { IfSome lone (λ t. IsDay problem.now t.day) }
     ensures { OnOk result (out.new.items ≡ out.old.items
         ++ told_line problem.now (rule_statement problem.now lone rule)) }
 {
     match lone {
         Some(turn) if rule == rule_number(problem, Rule::Day(turn.day)) => {
-            put_turn_line(out, problem, rule, turn)
+            let parts = [Number(rule), Works(turn.x), Number(turn.day)];
+            put_line(out, &told_by(problem), ONLY_TURN, &parts)
         }
-        _ => put_named_line(out, problem, rule),
+        _ => {
+            let parts = [Number(rule), Stated(rule)];
+            put_line(out, &told_by(problem), NUMBERED_RULE, &parts)
+        }
     }
 }
 
 // Tells of each rule.
 fn put_rules_told(out: &mut Vec<u8>, problem: &Problem, lone: Option<Turn>, rules: &[u32]) -> Done
-    requires { IfSome lone (λ t. IsDay problem.now t.day × IsSymbol problem.now t.x) }
+    requires { IfSome lone (λ t. IsDay problem.now t.day) }
     ensures { OnOk result (out.new.items
         ≡ out.old.items ++ told_lines problem.now (map (rule_statement problem.now lone) rules.now)) }
 {
@@ -126,15 +133,14 @@ fn some_counts_blocks(x: Symbol, lines: &[Line]) -> bool
     lines.iter().any(|line| counts_blocks(x, line))
 }
 
-// Tells what counting the blocks of the symbol shows, where a line counts them rightly.
-#[tactic(auto, using(crate::proofs::Joined::one_of))]
-fn put_if_counted(out: &mut Vec<u8>, problem: &Problem, lines: &[Line], x: Symbol) -> Done
-    requires { IsSymbol problem.now x }
-    ensures { OnOk result (out.new.items
-        ≡ out.old.items ++ told_lines problem.now (counted_if problem.now lines.now x)) }
+// Tells what counting the blocks of a symbol shows, where a line counts them rightly.
+fn put_counted_at(out: &mut Vec<u8>, problem: &Problem, lines: &[Line], number: u8) -> Done
+    requires { number ≤ shift_count problem.now }
+    ensures { OnOk result (out.new.items ≡ out.old.items ++ told_lines problem.now (counted_at problem.now lines.now number)) }
 {
+    let x = Symbol { number };
     if some_counts_blocks(x, lines) && is_misfit(problem, x) {
-        put_counted_line(out, problem, x)
+        put_counted_told(out, problem, x)
     } else {
         Ok(())
     }
@@ -146,13 +152,13 @@ fn put_counts_told(out: &mut Vec<u8>, problem: &Problem, lines: &[Line]) -> Done
         ≡ out.old.items ++ told_lines problem.now (counted_statements problem.now lines.now)) }
 {
     for number in 0..problem.shifts() + 1 {
-        put_if_counted(out, problem, lines, Symbol { number })?;
+        put_counted_at(out, problem, lines, number)?;
     }
     Ok(())
 }
 
-// The line before the rules: of the cells that are given, or of which rosters there is none.
-fn put_begin_line(
+// Tells what is said before the rules: of the cells that are given, or of which rosters there is none.
+fn put_begin_told(
     out: &mut Vec<u8>,
     problem: &Problem,
     opening: &Opening,
@@ -161,11 +167,11 @@ fn put_begin_line(
 ) -> Done
     requires { OpeningFits problem.now opening.now }
     ensures { OnOk result (out.new.items
-        ≡ out.old.items ++ told_line problem.now (begin_statement opening.now rosters rules.now)) }
+        ≡ out.old.items ++ told_lines problem.now (begin_statement opening.now rosters rules.now ∷ [])) }
 {
     match opening {
-        Opening::Given(given) => put_cells_line(out, problem, given.cells(), rules),
-        Opening::Full | Opening::Turned(_) => put_first_line(out, problem, rosters, rules),
+        Opening::Given(given) => put_cells_told(out, problem, given.cells(), rules),
+        Opening::Full | Opening::Turned(_) => put_first_told(out, problem, rosters, rules),
     }
 }
 
@@ -178,7 +184,7 @@ fn put_reason_told(out: &mut Vec<u8>, problem: &Problem, rosters: Rosters, log: 
     let opening = log.opening();
     let lone = lone_turn(alloc, problem, opening, log.lines())?;
     let rules = log.named().numbers();
-    put_begin_line(out, problem, opening, rosters, rules)?;
+    put_begin_told(out, problem, opening, rosters, rules)?;
     put_rules_told(out, problem, lone, rules)?;
     put_counts_told(out, problem, log.lines())?;
     Ok(())
@@ -204,14 +210,15 @@ fn count_closed(lines: &[Line]) -> usize
         .count()
 }
 
-// The line of how far a log came.
-fn put_spent_by(out: &mut Vec<u8>, problem: &Problem, rosters: Rosters, lines: &[Line]) -> Done
+// Tells how far a log came.
+fn put_spent_told(out: &mut Vec<u8>, problem: &Problem, rosters: Rosters, lines: &[Line]) -> Done
     ensures { OnOk result (out.new.items
-        ≡ out.old.items ++ told_line problem.now (spent_statement rosters lines.now)) }
+        ≡ out.old.items ++ told_lines problem.now (spent_statement rosters lines.now ∷ [])) }
 {
-    let closed = count_closed(lines);
-    let left = count_open(lines);
-    put_spent_line(out, problem, closed, left, rosters)
+    let closed = Closed(count_closed(lines) as u64);
+    let left = Open(count_open(lines) as u64);
+    let parts = [closed, left, Unknown(rosters)];
+    put_told(out, problem, SPENT, &parts)
 }
 
 /// Tells of a log, as one about these rosters: the rules that it names and the symbols whose blocks it counts rightly,
@@ -223,7 +230,7 @@ pub fn put_log_told(out: &mut Vec<u8>, problem: &Problem, rosters: Rosters, log:
     if count_open(log.lines()) == 0 {
         put_reason_told(out, problem, rosters, log)
     } else {
-        put_spent_by(out, problem, rosters, log.lines())?;
+        put_spent_told(out, problem, rosters, log.lines())?;
         Ok(())
     }
 }
@@ -260,18 +267,17 @@ pub fn put_accepted_told(
     ensures { OnOk result (out.new.items
         ≡ out.old.items ++ told_lines problem.now (accepted_statements problem.now opening.now goal rules.now)) }
 {
-    put_plain_told(out, problem, LOG_PASSES)?;
-    put_begin_line(out, problem, opening, rosters_by(goal), rules)?;
+    put_told(out, problem, LOG_PASSES, &[])?;
+    put_begin_told(out, problem, opening, rosters_by(goal), rules)?;
     put_rules_told(out, problem, None, rules)
 }
 
-/// Tells how a search without a roster ended, by its log.
-pub fn put_end_told(out: &mut Vec<u8>, problem: &Problem, lines: &[Line]) -> Done
-    ensures { OnOk result (out.new.items
-        ≡ out.old.items ++ told_lines problem.now (end_statement lines.now ∷ [])) }
+// How a search without a roster ended, by its log.
+fn end_text(lines: &[Line]) -> &'static [u8]
+    ensures { result.now ≡ end_text lines.now }
 {
     match lines {
-        [Line::Closing(Leaf::Blocks { .. })] => put_plain_told(out, problem, BY_A_COUNT),
+        [Line::Closing(Leaf::Blocks { .. })] => BY_A_COUNT,
         [
             Line::Closing(
                 Leaf::Words {
@@ -279,20 +285,27 @@ pub fn put_end_told(out: &mut Vec<u8>, problem: &Problem, lines: &[Line]) -> Don
                     ..
                 },
             ),
-        ] => put_plain_told(out, problem, BY_WEIGHTS),
-        [_] => put_plain_told(out, problem, AT_ONCE),
-        _ => put_numbered_told(out, problem, BY_CASES, lines.len() as u64, LINES_OF_CASES),
+        ] => BY_WEIGHTS,
+        [_] => AT_ONCE,
+        _ => BY_CASES,
     }
 }
 
-// Tells how many of the rules that a log names are left, where they are fewer.
-#[tactic(auto, using(crate::proofs::Joined::one_of))]
-fn put_leaves_told(out: &mut Vec<u8>, problem: &Problem, before: usize, after: usize) -> Done
+/// Tells how a search without a roster ended, by its log.
+pub fn put_end_told(out: &mut Vec<u8>, problem: &Problem, lines: &[Line]) -> Done
     ensures { OnOk result (out.new.items
-        ≡ out.old.items ++ told_lines problem.now (leaves_statements before after)) }
+        ≡ out.old.items ++ told_lines problem.now (end_statement lines.now ∷ [])) }
+{
+    put_told(out, problem, end_text(lines), &[Length(lines.len() as u64)])
+}
+
+// Tells how many of the rules that a log names are left, where they are fewer.
+fn put_leaves_told(out: &mut Vec<u8>, problem: &Problem, before: usize, after: usize) -> Done
+    ensures { OnOk result (out.new.items ≡ out.old.items ++ told_lines problem.now (leaves_statements before after)) }
 {
     if after < before {
-        put_leaves_line(out, problem, before, after)
+        let parts = [Length(before as u64), Length(after as u64)];
+        put_told(out, problem, LEAVES, &parts)
     } else {
         Ok(())
     }
@@ -308,14 +321,15 @@ pub fn put_reduced_told(out: &mut Vec<u8>, problem: &Problem, before: usize, log
     Ok(())
 }
 
-// The line of a log for so many weeks.
-fn put_size_line(out: &mut Vec<u8>, problem: &Problem, weeks: u32, log: &Log) -> Done
-    ensures { OnOk result (out.new.items ≡ out.old.items ++ told_line problem.now (size_statement weeks log.now)) }
+// Tells of a log for so many weeks by the numbers of its rules, or how far it came.
+fn put_size_told(out: &mut Vec<u8>, problem: &Problem, weeks: u32, log: &Log) -> Done
+    ensures { OnOk result (out.new.items
+        ≡ out.old.items ++ told_lines problem.now (size_statement weeks log.now ∷ [])) }
 {
     if count_open(log.lines()) == 0 {
-        put_numbers_line(out, problem, Rosters::Weeks(weeks), log.named().numbers())
+        put_numbers_told(out, problem, Rosters::Weeks(weeks), log.named().numbers())
     } else {
-        put_spent_by(out, problem, Rosters::Weeks(weeks), log.lines())
+        put_spent_told(out, problem, Rosters::Weeks(weeks), log.lines())
     }
 }
 
@@ -326,7 +340,7 @@ fn put_size_lines(out: &mut Vec<u8>, problem: &Problem, low: u32, logs: &[Log]) 
 {
     let mut weeks = low;
     for log in logs {
-        put_size_line(out, problem, weeks, log)?;
+        put_size_told(out, problem, weeks, log)?;
         weeks += 1;
     }
     Ok(())
@@ -343,23 +357,6 @@ fn put_sized_told(out: &mut Vec<u8>, problem: &Problem, weeks: u32, log: &Log) -
     Ok(())
 }
 
-// All logs but the last.
-fn before_last(logs: &[Log]) -> &[Log]
-    requires { 0 < length logs.now }
-    ensures value { result.now ≡ take (length logs.now - 1) logs.now }
-    ensures long { length result.now + 1 ≡ length logs.now }
-{
-    &logs[..logs.len() - 1]
-}
-
-// The last log.
-fn last_of(logs: &[Log]) -> &Log
-    requires { 0 < length logs.now }
-    ensures { slice_get logs.now (length logs.now - 1) ≡ Some result.now }
-{
-    &logs[logs.len() - 1]
-}
-
 // Tells of the last log, and then of those before it.
 fn put_logs_told(out: &mut Vec<u8>, problem: &Problem, low: u32, logs: &[Log]) -> Done
     requires few { low + length logs.now ≤ MOST_WEEKS + 1 }
@@ -367,25 +364,23 @@ fn put_logs_told(out: &mut Vec<u8>, problem: &Problem, low: u32, logs: &[Log]) -
     requires fits { (k : ℕ) (g : LogValue) → slice_get logs.now k ≡ Some g → Fits (with_weeks problem.now (low + k)) g }
     ensures { OnOk result (Tells problem.now (AreSaidOfLogs problem.now low logs.now) out.old.items out.new.items) }
 {
-    if logs.is_empty() {
+    let Some((last, before)) = logs.split_last() else {
         return Ok(());
-    }
-    let before = before_last(logs);
+    };
     let weeks = low + before.len() as u32;
-    put_sized_told(out, problem, weeks, last_of(logs))?;
+    put_sized_told(out, problem, weeks, last)?;
     put_size_lines(out, problem, low, before)?;
     Ok(())
 }
 
 // Tells that the numbers of weeks below this one have no roster, where there are some.
-#[tactic(auto, using(crate::proofs::Joined::one_of))]
 fn put_none_below(out: &mut Vec<u8>, problem: &Problem, low: u32, weeks: u32) -> Done
     ensures { OnOk result (out.new.items ≡ out.old.items ++ told_lines problem.now (none_below low weeks)) }
 {
     if low == weeks {
         Ok(())
     } else {
-        put_none_line(out, problem, low, weeks.saturating_sub(1))
+        put_none_told(out, problem, low, weeks.saturating_sub(1))
     }
 }
 
@@ -402,7 +397,7 @@ fn put_staff_end_told(
 {
     match end {
         StaffEnd::Least(_) => {
-            put_least_line(out, problem, low, weeks)?;
+            put_enough_told(out, problem, low, weeks)?;
             Ok(())
         }
         StaffEnd::NoneTo => {

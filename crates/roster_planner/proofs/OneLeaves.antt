@@ -16,8 +16,7 @@ use Rattle.refutation_log.specs.declared.found.Found.TheVariants.{NoRoster}
 use Rattle.refutation_log.specs.Planned.{IsPlanned}
 use Rattle.refutation_log.specs.FreeSharp.{IsFreeSharp}
 use Rattle.refutation_log.specs.Bests.{IsFreeProof}
-use Rattle.roster_planner.specs.Counted.{IsOneLeaf, IsCountedProof, IsPlainProof}
-use Rattle.roster_planner.specs.FoundFrom.{IsFoundFrom}
+use Rattle.roster_planner.specs.Counted.{IsOneLeaf, IsCountedProof}
 use Rattle.roster_planner.proofs.Plans.{kind_of_plan}
 use Rattle.roster_planner.proofs.ShortLists.{some_short_rules}
 
@@ -69,12 +68,6 @@ one_proof P budget goal g some one passes same cited =
 pub if_one_proof : (P : Instance) (budget goal : ℕ) (leaf : Leaf) (r : Result Log AllocError) → 1 ≤ budget → IfOk r (λ g. g.lines ≡ Closing leaf ∷ []) → IfOk r (Passes P) → IfOk r (λ g. g.goal ≡ Some goal) → IfOk r (NamesOnlyCited P) → IfOk r (IsFreeProof P budget goal)
 if_one_proof P budget goal leaf (Ok g) some lines passes same cited = one_proof P budget goal g some (leaf, lines) passes same cited
 if_one_proof P budget goal leaf (Err e) some lines passes same cited = tt
-
--- one of a search is what a plan finds from its opening
-pub found_at_once : (P : Instance) (start : Opening) (budget : ℕ) (g : Log) → 1 ≤ budget → IsFirstTurn P start → IsPlainProof P start None g → IsFoundFrom P start budget (NoRoster g)
-found_at_once P start budget g some first h =
-    let few = one_line g (h.leaf, h.lines) in
-    (h.passes, omega (arith, few, some), h.is_log, one_is_sharp P g (h.leaf, h.lines) (subst (IsFirstTurn P) (sym h.is_log.same_opening) first))
 
 -- and one with the first turn is a plan
 pub one_plan : (P : Instance) (budget : ℕ) (o : Opening) (g : Log) → 1 ≤ budget → IsFirstTurn P o → kind_by o None ≡ WithoutGoal → IsCountedProof P o None g → IsPlanned P budget (NoRoster g)

@@ -14,9 +14,8 @@ use Rattle.refutation_log.specs.declared.found.Found.{Found}
 use Rattle.refutation_log.specs.declared.found.Found.TheVariants.{Roster, NoRoster, Undecided}
 use Rattle.refutation_log.specs.Filled.{IsFillUndecided}
 use Rattle.refutation_log.specs.Planned.{IsPlannedLog, IsPlanned, IsCounted}
-use Rattle.roster_search.specs.Founds.{IsLogOf}
+use Rattle.roster_search.specs.Founds.{IsLogOf, gives_cells}
 use Rattle.roster_planner.specs.FoundFrom.{IsFoundFrom}
-use Rattle.roster_planner.proofs.Counting.{gives_none}
 
 -- a plan's opening gives no cells, so its log may count or not, and that of a search may not
 pub counts_either : (start : Opening) → kind_by start None ≡ WithoutGoal → (counts : Bool) → CountsFit start counts
@@ -27,6 +26,11 @@ pub plan_fits : (P : Instance) (start : Opening) → IsFirstTurn P start → kin
 plan_fits P Full first e = (tt, tt)
 plan_fits P (Turned t) first e = ((first.0.0, first.0.1.1), first.0.2)
 plan_fits P (Given given) first e = absurd (cc e)
+
+gives_none : (start : Opening) → kind_by start None ≡ WithoutGoal → gives_cells start ≡ false
+gives_none Full e = refl
+gives_none (Turned t) e = refl
+gives_none (Given given) e = absurd (cc e)
 
 pub kind_of_plan : (start : Opening) (g : Log) → kind_by start None ≡ WithoutGoal → g.opening ≡ start → g.goal ≡ None → kind_of_log g ≡ WithoutGoal
 kind_of_plan start g e opened goal = subst (λ (o : Option ℕ). kind_by g.opening o ≡ WithoutGoal) (sym goal) (subst (λ (t : Opening). kind_by t None ≡ WithoutGoal) (sym opened) e)
@@ -42,8 +46,8 @@ if_planned P start budget (Err x) e h = tt
 
 pub if_plan_uncounted : (P : Instance) (start : Opening) (budget : ℕ) (r : Result Found AllocError) → kind_by start None ≡ WithoutGoal → IfOk r (IsFoundFrom P start budget) → IfOk r (IsCounted P false)
 if_plan_uncounted P start budget (Ok (Roster s)) e h = tt
-if_plan_uncounted P start budget (Ok (NoRoster g)) e h = h.2.may_count ∙ gives_none start (counts_either start e)
-if_plan_uncounted P start budget (Ok (Undecided g)) e h = h.1.may_count ∙ gives_none start (counts_either start e)
+if_plan_uncounted P start budget (Ok (NoRoster g)) e h = h.2.may_count ∙ gives_none start e
+if_plan_uncounted P start budget (Ok (Undecided g)) e h = h.1.may_count ∙ gives_none start e
 if_plan_uncounted P start budget (Err x) e h = tt
 
 -- behind given cells

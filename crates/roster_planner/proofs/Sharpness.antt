@@ -85,6 +85,6 @@ found_from P start budget leaves spent R (Undecided g) limits some first short r
     (h.0, h.1.is_log, search_log P start leaves spent R g limits first short reasons (λ at. h.0.holds 0 Unfinished (omega (arith, some)) at) h.1, few tt)
 
 -- the same of what a search gives
-pub if_found_from : (P : Instance) (start copied : Opening) (budget : ℕ) (leaves : Leaves) (spent : Spent) (R : List ℕ) (r : Result Found AllocError) → KeepsLimits P → 1 ≤ budget → IsFirstTurn P start → AreShortRules P R → AreReasons P start leaves spent → copied ≡ start → IfOk r (IsFound P copied None budget leaves spent) → IfOk r (λ found. HasSpentBudget found → budget + 1 < 2 * (shift_count P + 1) ^ cells P) → IfOk r (IsFoundFrom P start budget)
-if_found_from P start copied budget leaves spent R (Ok found) limits some first short reasons same h few = found_from P start budget leaves spent R found limits some first short reasons (subst (λ (o : Opening). IsFound P o None budget leaves spent found) same h) few
-if_found_from P start copied budget leaves spent R (Err e) limits some first short reasons same h few = tt
+pub if_found_from : (P : Instance) (start : Opening) (budget : ℕ) (leaves : Leaves) (spent : Spent) (R : List ℕ) (r : Result Found AllocError) → KeepsLimits P → 1 ≤ budget → IsFirstTurn P start → AreShortRules P R → AreReasons P start leaves spent → IfOk r (IsFound P start None budget leaves spent) → IfOk r (λ found. HasSpentBudget found → budget + 1 < 2 * (shift_count P + 1) ^ cells P) → IfOk r (IsFoundFrom P start budget)
+if_found_from P start budget leaves spent R (Ok found) limits some first short reasons h few = found_from P start budget leaves spent R found limits some first short reasons h few
+if_found_from P start budget leaves spent R (Err e) limits some first short reasons h few = tt

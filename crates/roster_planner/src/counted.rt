@@ -1,6 +1,5 @@
 // A log of one leaf, where counting blocks leaves no roster.
-ghost use Rattle.std.specs.Prelude.{Bool, None, IfOk, MatchOption};
-ghost use Rattle.std.specs.Option.{IfSome};
+ghost use Rattle.std.specs.Prelude.{Bool, IfOk, MatchOption};
 ghost use Rattle.rwsp_terms.specs.Instance.{Instance};
 ghost use Rattle.refutation_terms.specs.BlocksLeaf.{IsFirstBlocks, NoBlocksHold};
 ghost use Rattle.refutation_terms.specs.Log.{OpeningFits, IsAllowed, GoalFits, CountsFit};
@@ -8,13 +7,12 @@ ghost use Rattle.refutation_terms.specs.Tree.{opening as opening_domains};
 ghost use Rattle.domain_store.specs.Store.{Store, BelongsTo, has_domain};
 ghost use Rattle.refutation_log.specs.Filled.{IsCountedFill};
 ghost use Rattle.refutation_log.specs.Planned.{NoPlainLeafHolds};
-ghost use Rattle.roster_planner.specs.Counted.{IsCountedProof, IsPlainProof, IsPlainLeaf, IsPlainLook};
+ghost use Rattle.roster_planner.specs.Counted.{IsCountedProof, IsPlainLeaf, IsPlainLook};
 
 use crate::of_cases::plain_reasons;
 use domain_store::{Domains, Look, Propagator, Walk, first_blocks};
 use refutation_log::{Log, one_leaf_log};
 use refutation_terms::{GivenCells, Leaf, Line, Opening, Terms};
-use roster_search::gives_cells;
 use rwsp_model::Problem;
 use rwsp_terms::Symbol;
 use std::alloc::{AllocError, Global};
@@ -35,21 +33,6 @@ pub fn counted_log(
 {
     match first_blocks(problem) {
         Some(x) => Ok(Some(log_of_blocks(alloc, problem, opening, goal, x)?)),
-        None => Ok(None),
-    }
-}
-
-/// The log with this opening whose tree is a window leaf or a day leaf that holds before the first line, where one does.
-pub fn log_at_once(
-    alloc: Global,
-    problem: &Problem,
-    opening: &Opening,
-) -> Result<Option<Log>, AllocError>
-    requires { OpeningFits problem.now opening.now × IsAllowed problem.now opening.now }
-    ensures { IfOk result (λ found. IfSome found (IsPlainProof problem.now opening.now None)) }
-{
-    match plain_leaf(alloc, problem, opening)? {
-        Some(leaf) => Ok(Some(plain_log(alloc, problem, opening.copy()?, None, leaf)?)),
         None => Ok(None),
     }
 }
@@ -108,13 +91,14 @@ fn plain_log(
     leaf: Leaf,
 ) -> Result<Log, AllocError>
     requires opening { OpeningFits problem.now opening × IsAllowed problem.now opening }
+    requires either { (counts : Bool) → CountsFit opening counts }
     requires goal { GoalFits problem.now opening goal }
     requires leaf { IsPlainLeaf problem.now (opening_domains problem.now opening) leaf }
-    ensures { IfOk result (IsPlainProof problem.now opening goal) }
+    ensures { IfOk result (IsCountedProof problem.now opening goal) }
 {
     let terms = Terms {
         goal,
-        counts: gives_cells(&opening),
+        counts: false,
     };
     one_leaf_log(alloc, problem, opening, terms, leaf)
 }

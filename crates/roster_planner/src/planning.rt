@@ -11,7 +11,7 @@ ghost use Rattle.roster_planner.specs.FoundFrom.{IsFoundFrom};
 
 use crate::Effort;
 use crate::cases::search_cases;
-use crate::counted::{counted_log, log_at_once};
+use crate::counted::counted_log;
 use crate::effort::FEW_LINES;
 use crate::rosters::roster_behind;
 use clean_words::{Automaton, Gate, Told};
@@ -135,7 +135,7 @@ fn counted_plan(
     }
 }
 
-// What a search from this opening finds that begins so, where no leaf of windows or days closes all cases at once.
+// What a search from this opening finds that begins so.
 pub(crate) fn search_plan<R: Threads + Sync, G: Gate>(
     rt: &R,
     alloc: Global,
@@ -150,9 +150,6 @@ pub(crate) fn search_plan<R: Threads + Sync, G: Gate>(
     requires budget { (1 ≤ budget) × (budget ≤ GREATEST_BUDGET) }
     ensures { IfOk result (IsFoundFrom problem.now opening.now budget) }
 {
-    if let Some(log) = log_at_once(alloc, problem, opening)? {
-        return Ok(Found::NoRoster(log));
-    }
     let automaton = Automaton::of_short_rules(alloc, problem, Told::DayOff)?;
     let found = search_by(rt, alloc, &automaton, opening, budget, gate, first);
     // An owned value that a generic call takes is dropped there, which keeps the proof of this body small.

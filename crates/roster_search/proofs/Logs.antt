@@ -45,12 +45,12 @@ abbrev pub log_of : Progress → List Line → Log
 log_of s rest = record { named = s.named; opening = s.aim.opening; goal = s.aim.goal; counts = gives_cells s.aim.opening; lines = s.lines.items ++ rest }
 
 -- what fits a log that may not count fits each log
-pub fits_either : (P : Instance) (goal : Option ℕ) (counts : Bool) (line : Line) → LineFits P goal false line → LineFits P goal counts line
+fits_either : (P : Instance) (goal : Option ℕ) (counts : Bool) (line : Line) → LineFits P goal false line → LineFits P goal counts line
 fits_either P goal true (Closing (Blocks x)) h = (refl, h.1)
 fits_either P goal true line h = h
 fits_either P goal false line h = h
 
-pub counts_fit : (start : Opening) → CountsFit start (gives_cells start)
+counts_fit : (start : Opening) → CountsFit start (gives_cells start)
 counts_fit (Given given) = refl
 counts_fit start = tt
 

@@ -41,8 +41,8 @@ pub fn end(problem: &Problem, progress: Progress) -> Result<Found, AllocError>
     Ok(Found::Undecided(Log::new(named, aim.opening, aim.goal, counts, lines)))
 }
 
-/// Whether the opening gives cells: then the log of a search may count blocks.
-pub fn gives_cells(opening: &Opening) -> bool
+// Whether a log with this opening gives cells.
+fn gives_cells(opening: &Opening) -> bool
     ensures { result ≡ gives_cells opening.now }
 {
     match opening {

@@ -11,7 +11,8 @@ use Rattle.rwsp_file.specs.Spelling.{SpellsProblem}
 use Rattle.refutation_terms.specs.declared.lines.LogKind.{LogKind}
 use Rattle.refutation_terms.specs.declared.lines.LogKind.TheVariants.{WithoutGoal, WithGoal, WithCells}
 use Rattle.refutation_terms.specs.declared.lines.Opening.{Opening}
-use Rattle.refutation_terms.specs.Log.{Log, Passes}
+use Rattle.refutation_terms.specs.declared.lines.Opening.TheVariants.{Full}
+use Rattle.refutation_terms.specs.Log.{Log, GoalFits, Passes}
 use Rattle.refutation_terms.specs.LogText.{log_text}
 use Rattle.refutation_terms.specs.Verdict.{kind_by, kind_of_log}
 use Rattle.refutation_terms.proofs.LogKinds.{no_goal}
@@ -34,7 +35,7 @@ use Rattle.commands.specs.declared.second_file.SecondKind.TheVariants as Kinds
 use Rattle.commands.specs.declared.verify.Answer.TheVariants as Verifies
 use Rattle.commands.specs.declared.check.Answer.TheVariants as Checks
 use Rattle.commands.specs.declared.check_staff.Answer.TheVariants as StaffChecks
-use Rattle.commands.proofs.Logs.{text_accepted, with_goal}
+use Rattle.commands.proofs.Logs.{text_accepted}
 use Rattle.commands.proofs.Bests.{best_meets, below_goal}
 use Rattle.rwsp_run.specs.Commands.{IsFilesAnswer, second_kind, SuitsFilesTask}
 use Rattle.rwsp_run.specs.Laws.{RostersMeet, RefutationsAreAccepted, ReductionsAreAccepted, StaffTextsAreAccepted, BestRostersMeet, BestRostersAreBest, BestProofsAreAccepted, FilledRostersMeet, FillLogsAreAccepted, IsProofOf, WorkersMakeNoDifference, AgreeInSearch, JobsAgree, IsAnswerOnFiles}
@@ -111,10 +112,16 @@ proof_passes P budget goal counts (Bests.NoRoster g) h found proof =
     (subst (λ (k : Log). Passes P k) (sym proof.1) found.0.0, ap (λ (k : Log). k.goal) proof.1 ∙ found.0.1 ∙ ap Some (sym proof.0))
 proof_passes P budget goal counts (Bests.Undecided s g) h found proof = absurd proof
 
+-- a log with a goal is a free log
+with_goal : (P : Instance) (g : Log) (goal : ℕ) → Passes P g → g.goal ≡ Some goal → kind_of_log g ≡ WithGoal
+with_goal P g goal passes is =
+    let fits = subst (λ (o : Option ℕ). GoalFits P g.opening o) is passes.grounded.fits.goal in
+    ap (λ (o : Opening). kind_by o g.goal) fits.0 ∙ ap (λ (o : Option ℕ). kind_by Full o) is
+
 pub best_proofs_accepted : BestProofsAreAccepted
 best_proofs_accepted file P budget goal counts found g a spells best proof short h =
     let passes = proof_passes P budget goal counts found g best.2.1 proof in
-    (passes.1, settled CheckFree P (log_text P g) (Jobs.Check (Checks.Accepted (shown_by g))) a (valid_keeps P spells.valid) best.2.0 short (λ y h. h) (text_accepted P WithGoal g (with_goal P g goal passes.0.grounded.fits passes.1) passes.0) h)
+    (passes.1, settled CheckFree P (log_text P g) (Jobs.Check (Checks.Accepted (shown_by g))) a (valid_keeps P spells.valid) best.2.0 short (λ y h. h) (text_accepted P WithGoal g (with_goal P g goal passes.0 passes.1) passes.0) h)
 
 -- what `fill` writes
 

@@ -1,9 +1,6 @@
 // The ways out of a problem.
-ghost use Rattle.std.specs.Prelude.{◌≡◌, ◌≤◌, IfOk};
+ghost use Rattle.std.specs.Prelude.{◌≤◌, IfOk};
 ghost use Rattle.rwsp_terms.specs.declared.limits.TheConstants.{GREATEST_BUDGET, MOST_WORKERS};
-ghost use Rattle.refutation_terms.specs.Log.{Passes};
-ghost use Rattle.refutation_terms.specs.Verdict.{kind_of_log};
-ghost use Rattle.refutation_terms.specs.declared.lines.LogKind.TheVariants.{WithoutGoal};
 ghost use Rattle.ways_out.specs.Answers.{AreWaysOut, AreWaysOf};
 ghost use Rattle.ways_out.specs.Helping.{Refutes};
 
@@ -19,16 +16,6 @@ use rule_reducer::reduce_passing;
 use rwsp_model::Problem;
 use std::alloc::{AllocError, Global};
 use std::thread::Threads;
-
-// What is left of a log that passes, without the rules that it can do without. Its rules show that there is no roster.
-fn reduced(alloc: Global, problem: &Problem, log: Log) -> Result<Log, AllocError>
-    requires passes { Passes problem.now log }
-    requires kind { kind_of_log log ≡ WithoutGoal }
-    ensures { IfOk result (λ left. Refutes problem.now left.named) }
-{
-    let left = reduce_passing(alloc, problem, log)?;
-    Ok(left)
-}
 
 // The outcome of each change where the rules of the log show that there is no roster.
 fn outcomes_by_log<R: Threads + Sync, G: Gate>(
@@ -77,7 +64,7 @@ pub fn ways_out<R: Threads + Sync, G: Gate>(
     let log = match plan_within(rt, alloc, problem, effort, gate)? {
         Found::Roster(roster) => return Ok(WaysOut::NoNeed(roster)),
         Found::Undecided(log) => return Ok(WaysOut::Undecided(log)),
-        Found::NoRoster(log) => reduced(alloc, problem, log)?,
+        Found::NoRoster(log) => reduce_passing(alloc, problem, log)?,
     };
     let asked = Asked {
         problem,

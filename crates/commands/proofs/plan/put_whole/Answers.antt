@@ -1,5 +1,5 @@
 use Rattle.std.proofs.Common.{[], ◌∷◌}
-use Rattle.plain_words.specs.Statements.{Plain}
+use Rattle.plain_words.specs.Statements.{plain}
 use Rattle.plain_words.specs.LogTold.{Are, IsSaidOfLog}
 use Rattle.plain_words.specs.declared.reason.Rosters.TheVariants.{Every}
 use Rattle.plain_words.specs.declared.pieces.TheConstants.{REDUCE_MAY}
@@ -9,5 +9,5 @@ use Rattle.commands.proofs.plan.put_whole.Goals as goal
 pub returns : goal.returns
 returns c =
     let P = c.args.problem.now in
-    let last = Plain REDUCE_MAY.now ∷ [] in
-    then_told P (IsSaidOfLog P Every c.args.log.now) (Are last) c.args.out.now.items c.put_log_told.new.out.items c.put_plain_told.new.out.items c.in_ok-put_log_told.ensures (tells_these P last c.put_log_told.new.out.items c.put_plain_told.new.out.items c.in_ok-put_plain_told.ensures)
+    let last = plain REDUCE_MAY.now ∷ [] in
+    then_told P (IsSaidOfLog P Every c.args.log.now) (Are last) c.args.out.now.items c.put_log_told.new.out.items c.put_told.new.out.items c.in_ok-put_log_told.ensures (tells_these P last c.put_log_told.new.out.items c.put_told.new.out.items c.in_ok-put_told.ensures)

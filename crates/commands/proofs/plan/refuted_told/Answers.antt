@@ -1,6 +1,6 @@
 use Rattle.std.proofs.Common.{[], ◌∷◌}
 use Rattle.std.specs.Prelude.{nat_le, length}
-use Rattle.plain_words.specs.Statements.{Plain, Then}
+use Rattle.plain_words.specs.Statements.{plain, Then}
 use Rattle.plain_words.specs.LogTold.{Are}
 use Rattle.plain_words.specs.declared.pieces.TheConstants.{MEND_LOOKS}
 use Rattle.plain_words.proofs.Lines.{tells_these, then_told}
@@ -15,7 +15,7 @@ returns c =
     let P = c.args.problem.now in
     let g = c.args.log.now in
     let Shortly = IsSaidShortly (nat_le (length g.lines) MOST_LINES_REDUCED) P g in
-    let last = Plain MEND_LOOKS.now ∷ [] in
-    let mended = tells_these P last c.put_shortly.new.out.items c.put_plain_told.new.out.items c.in_ok-put_plain_told.ensures in
-    let said = then_told P Shortly (Are last) c.put_refuted.new.out.items c.put_shortly.new.out.items c.put_plain_told.new.out.items c.in_ok-put_shortly.ensures mended in
-    these_before P (refuted_statements g) (Then Shortly (Are last)) c.new-out.result.items c.put_refuted.new.out.items c.put_plain_told.new.out.items c.new-out.ensures.items c.in_ok-put_refuted.ensures said
+    let last = plain MEND_LOOKS.now ∷ [] in
+    let mended = tells_these P last c.put_shortly.new.out.items c.put_told.new.out.items c.in_ok-put_told.ensures in
+    let said = then_told P Shortly (Are last) c.put_refuted.new.out.items c.put_shortly.new.out.items c.put_told.new.out.items c.in_ok-put_shortly.ensures mended in
+    these_before P (refuted_statements g) (Then Shortly (Are last)) c.new-out.result.items c.put_refuted.new.out.items c.put_told.new.out.items c.new-out.ensures.items c.in_ok-put_refuted.ensures said

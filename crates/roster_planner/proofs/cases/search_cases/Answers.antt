@@ -9,7 +9,6 @@ returns g c =
     if_found_from
     P
     c.args.opening.now
-    _
     c.args.budget
     _
     _
@@ -20,6 +19,5 @@ returns g c =
     c.requires.opening.2
     reasons.cases.short
     reasons
-    c.in_ok-copy.ensures
-    c.planner_search-found.ensures.found
+    (rw c.in_ok-copy.ensures at c.planner_search-found.ensures.found)
     c.planner_search-found.ensures.complete

@@ -4,7 +4,7 @@ use Rattle.roster_planner.proofs.Plans.{plan_fits, if_planned, if_plan_uncounted
 use Rattle.roster_planner.proofs.planning.plan_by.Goals as goal
 
 pub search_plan-requires-clause-opening : goal.search_plan-requires-clause-opening
-search_plan-requires-clause-opening g c = λ _ _.
+search_plan-requires-clause-opening g c =
     let first = c.first_turn-opening.ensures.first in
     let fits = plan_fits c.args.problem.now c.first_turn-opening.result first c.first_turn-opening.ensures.of_kind in
     (fits.0, fits.1, first)

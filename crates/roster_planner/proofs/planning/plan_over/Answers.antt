@@ -4,8 +4,8 @@ use Rattle.roster_planner.proofs.Plans.{plan_fits, if_planned, if_plan_uncounted
 use Rattle.roster_planner.proofs.planning.plan_over.Goals as goal
 
 pub rosters_first-requires-clause-opening : goal.rosters_first-requires-clause-opening
-rosters_first-requires-clause-opening g c = λ _ _.
-    let first = rw c.problem-in-None.ensures at c.first_turn-opening.ensures.first in
+rosters_first-requires-clause-opening g c =
+    let first = rw c.problem.ensures at c.first_turn-opening.ensures.first in
     let fits = plan_fits c.args.automaton.now.problem c.first_turn-opening.result first c.first_turn-opening.ensures.of_kind in
     (fits.0, fits.1, first)
 

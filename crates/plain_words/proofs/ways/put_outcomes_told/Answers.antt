@@ -8,7 +8,7 @@ use Rattle.ways_out.proofs.Zips.{zip_long, zip_at}
 use Rattle.plain_words.specs.Statements.{told_lines}
 use Rattle.plain_words.specs.Told.{way_statement}
 use Rattle.plain_words.proofs.Elements.{way_more, ways_whole}
-use Rattle.plain_words.proofs.told.put_outcomes_told.Goals as goal
+use Rattle.plain_words.proofs.ways.put_outcomes_told.Goals as goal
 
 pub index-requires : goal.index-requires
 index-requires c =
@@ -46,7 +46,7 @@ loop-place-preserved c =
     let less : n < length (changes P) = omega (arith, long, within) in
     let is : c.index.result.now ≡ get_or (changes P) n c.index.result.now = c.index.ensures ∙ ap (λ (cs : List Change). get_or cs n c.index.result.now) c.in_ok-changes.ensures.value in
     way_more P (changes P) c.args.outcomes.now n c.index.result.now (Helps 0 false) c.args.out.now.items c.loop-place.out.items c.put_outcome_told.new.out.items less within c.loop-place.invariant
-    (c.in_ok-put_outcome_told.ensures ∙ ap (λ (change : Change). c.loop-place.out.items ++ told_lines P (way_statement change (get_or c.args.outcomes.now n (Helps 0 false)))) is)
+    (c.in_ok-put_outcome_told.ensures ∙ ap (λ (change : Change). c.loop-place.out.items ++ told_lines P (way_statement P change (get_or c.args.outcomes.now n (Helps 0 false)))) is)
 
 pub returns : goal.returns
 returns c =
