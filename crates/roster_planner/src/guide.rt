@@ -11,14 +11,14 @@ ghost use Rattle.roster_planner.specs.OneShift.{HasDaysOf};
 ghost use Rattle.roster_planner.specs.Guided.{IsGuideFor};
 
 use crate::off_weights::OffWeights;
-use crate::rosters::roster_behind;
+use crate::rosters::patient_roster;
 use clean_words::Automaton;
 use domain_store::Domains;
 use propagators::NearestWeights;
 use refutation_terms::{Line, Opening};
 use roster_finder::{Patience, RosterFinder};
 use roster_search::{Aim, Guide, NextSplit, chronological, off_or_work_by_day, off_or_work_from};
-use rwsp_model::Roster;
+use rwsp_model::{Problem, Roster};
 use std::alloc::{AllocError, Global};
 use std::mem;
 
@@ -157,7 +157,8 @@ impl<'a> Guide for PlannerGuide<'a> {
         if !is_due || mem::replace(&mut self.has_looked, true) {
             return Ok(None);
         }
-        found_roster(alloc, self.finder, opening, self.goal, self.wish)
+        let problem = self.automaton.problem();
+        found_roster(alloc, problem, self.finder, opening, self.goal, self.wish)
     }
 
     fn split(&mut self, doms: &Domains) -> Option<NextSplit> {
@@ -173,17 +174,19 @@ impl<'a> Guide for PlannerGuide<'a> {
 // with as many as are wished for.
 fn found_roster(
     alloc: Global,
+    problem: &Problem,
     finder: &RosterFinder<'_>,
     opening: &Opening,
     goal: Option<u32>,
     wish: u32,
 ) -> Result<Option<Roster>, AllocError>
+    requires same { finder.now ≡ problem.now }
     requires opening { OpeningFits finder.now opening.now }
     requires goal { GoalFits finder.now opening.now goal }
     ensures { IfOk result (λ found. IfSome found (IsWantedBehind finder.now opening.now goal)) }
 {
     let Some(least) = goal else {
-        return roster_behind(alloc, finder, opening, Patience::Long);
+        return patient_roster(alloc, problem, finder, opening);
     };
     if least < wish {
         let found = finder.find(alloc, wish, Patience::Long)?;

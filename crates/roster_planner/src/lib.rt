@@ -9,6 +9,7 @@ mod effort;
 mod filling;
 mod guide;
 mod likely_most;
+mod narrowed;
 mod of_cases;
 mod off_weights;
 mod one_goal;
