@@ -1,13 +1,12 @@
 -- What is said of the most free weekends.
-use Rattle.std.proofs.Common.{◌≡◌, ℕ, ◌+◌, ◌<◌, ◌≤◌, Bool, List, Option, Some, None, arith, subst, refl, sym}
+use Rattle.std.proofs.Common.{◌≡◌, ℕ, ◌+◌, ◌<◌, ◌≤◌, Bool, List, Option, Some, None, arith, subst, refl}
 use Rattle.rwsp_terms.specs.Instance.{Instance}
 use Rattle.rwsp_terms.specs.Roster.{MeetsAll}
 use Rattle.rwsp_terms.specs.declared.data.Symbol.{Symbol}
 use Rattle.rwsp_model.specs.declared.roster.Roster.{Roster}
 use Rattle.refutation_terms.specs.Log.{Log, Passes}
 use Rattle.refutation_terms.specs.FreeWeekends.{free_weekends}
-use Rattle.refutation_terms.specs.Laws.{HasGoal}
-use Rattle.refutation_terms.proofs.Sound.{passing_leaves_none}
+use Rattle.refutation_terms.proofs.LogKinds.{goal_leaves_none}
 use Rattle.refutation_log.specs.declared.best_found.BestFound.{BestFound}
 use Rattle.refutation_log.specs.declared.best_found.BestFound.TheVariants.{Best, NoRoster, Undecided}
 use Rattle.commands.specs.Best.{IsBestAnswer, best_roster, StaysBelow, Bounds, BestsAgree}
@@ -19,7 +18,7 @@ below goal n h = omega (arith, h)
 -- a roster that meets every rule has fewer free weekends than the goal of a free log that passes
 pub below_goal : (P : Instance) (goal : ℕ) (g : Log) (t : List Symbol) → Passes P g → g.goal ≡ Some goal → MeetsAll P t → free_weekends t < goal
 below_goal P goal g t passes is meets =
-    below goal (free_weekends t) (λ many. passing_leaves_none P g t passes (meets_named P g.named t meets) (subst (λ (o : Option ℕ). HasGoal o t) (sym is) many))
+    below goal (free_weekends t) (λ many. goal_leaves_none P g t goal passes is (meets_named P g.named t meets) many)
 
 -- which rosters such a search has meets every rule
 

@@ -20,10 +20,8 @@ use Rattle.roster_print.specs.RosterText.{weeks_of, roster_text, SpellsRoster}
 use Rattle.roster_print.proofs.Printed.{printed_is_spelled, printed_is_short}
 use Rattle.roster_print.proofs.Spelling.{spelled_is_roster}
 use Rattle.refutation_terms.specs.FreeWeekends.{free_weekends}
-use Rattle.refutation_terms.specs.declared.lines.LogKind.TheVariants.{WithoutGoal}
 use Rattle.refutation_terms.specs.Log.{Log, Fits}
 use Rattle.refutation_terms.specs.LogText.{log_text}
-use Rattle.refutation_terms.specs.Verdict.{kind_by}
 use Rattle.refutation_log.specs.declared.best_found.BestFound.TheVariants.{Best, NoRoster, Undecided}
 use Rattle.crew_size.specs.Sizes.{with_weeks, IsSize}
 use Rattle.crew_size.specs.Runs.{IsStaffed, IsEnd}
@@ -158,8 +156,7 @@ read_logs P low (g ∷ logs) h =
 read_log : (P : Instance) (low high budget : ℕ) (run : Staff) → IsStaffed P low high budget run → FitsSizes P run → (k : ℕ) (g : Log) → slice_get run.logs k ≡ Some g → IsReadLog P (run.low + k) g
 read_log P low high budget run staffed fits k g at =
     let planned = staffed.refuted k g at in
-    let plain : kind_by g.goal ≡ WithoutGoal = ap kind_by planned.2.no_goal in
-    record { size = fits.sizes k g at; plain = plain; fits = fits.logs k g at; tree = planned.0.tree }
+    record { size = fits.sizes k g at; plain = planned.2.of_kind; fits = fits.logs k g at; tree = planned.0.tree }
 
 pub staffs_given_back : StaffsAreGivenBack
 staffs_given_back P low high budget run s limits staffed fits least none =

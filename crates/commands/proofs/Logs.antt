@@ -1,24 +1,28 @@
 -- What is said of logs, and that the bytes of one have one answer.
 use Rattle.std.proofs.Common.{◌≡◌, ℕ, List, subst, sym, ap, ◌∙◌, refl}
-use Rattle.std.specs.Prelude.{Result, Ok, Err, Option, Some, None}
+use Rattle.std.specs.Prelude.{Result, Ok, Err, Option, Some}
 use Rattle.rwsp_terms.specs.declared.data.Symbol.{Symbol}
 use Rattle.rwsp_terms.specs.Instance.{Instance}
 use Rattle.rwsp_terms.specs.Roster.{MeetsAll}
 use Rattle.rwsp_terms.specs.Rules.{Meets as MeetsRules}
 use Rattle.rwsp_model.specs.Validity.{KeepsLimits}
 use Rattle.refutation_terms.specs.declared.lines.LogKind.{LogKind}
-use Rattle.refutation_terms.specs.declared.lines.LogKind.TheVariants.{WithoutGoal}
+use Rattle.refutation_terms.specs.declared.lines.LogKind.TheVariants.{WithoutGoal, WithGoal}
+use Rattle.refutation_terms.specs.declared.lines.Opening.{Opening}
+use Rattle.refutation_terms.specs.declared.lines.Opening.TheVariants.{Full}
 use Rattle.refutation_terms.specs.declared.lines.LogRefusal.{LogRefusal}
-use Rattle.refutation_terms.specs.Log.{Log, Passes}
+use Rattle.refutation_terms.specs.Log.{Log, Fits, GoalFits, Passes}
 use Rattle.refutation_terms.specs.LogText.{log_text}
-use Rattle.refutation_terms.specs.Laws.{HasGoal}
 use Rattle.refutation_terms.specs.Strip.{IsReduced}
-use Rattle.refutation_terms.specs.Verdict.{kind_by, IsAccepted, IsRefused, IsVerdict}
+use Rattle.refutation_terms.specs.Verdict.{kind_by, kind_of_log, IsRefused, IsVerdict}
 use Rattle.refutation_terms.proofs.Sound.{passing_leaves_none}
+use Rattle.refutation_terms.proofs.LogKinds.{plain_leaves_none}
 use Rattle.refutation_terms.proofs.Named.{named-IsRule}
 use Rattle.refutation_terms.proofs.Unique.{verdict_unique}
 use Rattle.refutation_log.proofs.OneText.{has_names, is_writable}
 use Rattle.refutation_log.specs.Planned.{IsPlanned}
+use Rattle.refutation_checker.specs.Accepted.{shown_by, IsPassedText}
+use Rattle.refutation_checker.specs.declared.verdict.PassedLog.{PassedLog}
 use Rattle.refutation_log.specs.declared.found.Found.{Found}
 use Rattle.refutation_log.specs.declared.found.Found.TheVariants as Founds
 use Rattle.commands.specs.Plan.{PlansAgree}
@@ -34,24 +38,27 @@ use Rattle.commands.proofs.Reductions.{one_reduced}
 pub meets_named : (P : Instance) (R : List ℕ) (s : List Symbol) → MeetsAll P s → MeetsRules P R s
 meets_named P R s h = record { is_roster = h.is_roster; rules = λ r n. h.rules r (named-IsRule P R r n) }
 
--- a roster and a refutation exclude each other
-pub exclusive : (P : Instance) (s : List Symbol) (g : Log) → MeetsAll P s → Passes P g → g.goal ≡ None → ⊥
-exclusive P s g h k none = passing_leaves_none P g s k (meets_named P g.named s h) (subst (λ (o : Option ℕ). HasGoal o s) (sym none) tt)
+-- a roster and a refutation exclude each other, where the log has no goal and gives no cells
+pub exclusive : (P : Instance) (s : List Symbol) (g : Log) → MeetsAll P s → Passes P g → kind_of_log g ≡ WithoutGoal → ⊥
+exclusive P s g h k plain = plain_leaves_none P g s k plain (meets_named P g.named s h)
 
--- the rules of a log that passes leave no roster, or with a goal none with as many free weekends
-leaves_none : (P : Instance) (g : Log) (goal : Option ℕ) (R : List ℕ) → Passes P g → g.goal ≡ goal → g.named ≡ R → LeavesNoRoster P goal R
-leaves_none P g None R passes is named =
-    λ s met. passing_leaves_none P g s passes (subst (λ (rules : List ℕ). MeetsRules P rules s) (sym named) met) (subst (λ (o : Option ℕ). HasGoal o s) (sym is) tt)
-leaves_none P g (Some goal) R passes is named =
-    λ s met many. passing_leaves_none P g s passes (subst (λ (rules : List ℕ). MeetsRules P rules s) (sym named) met) (subst (λ (o : Option ℕ). HasGoal o s) (sym is) many)
+-- a log with a goal is a free log
+pub with_goal : (P : Instance) (g : Log) (goal : ℕ) → Fits P g → g.goal ≡ Some goal → kind_of_log g ≡ WithGoal
+with_goal P g goal fits is =
+    let full = subst (λ (o : Option ℕ). GoalFits P g.opening o) is fits.goal in
+    ap (λ (o : Opening). kind_by o g.goal) full.0 ∙ ap (λ (o : Option ℕ). kind_by Full o) is
 
--- so a log that passes is accepted, with its goal and its rules
-pub accepted : (P : Instance) (kind : LogKind) (bytes : List ℕ) (g : Log) (goal : Option ℕ) (R : List ℕ) → IsAccepted P kind bytes g → g.goal ≡ goal → g.named ≡ R → IsChecked P kind bytes (Checks.Accepted goal R)
-accepted P kind bytes g goal R h is named = ((g, h, is, named), leaves_none P g goal R h.passes is named)
+-- a log that passes is accepted, with its rules, its goal and its given cells
+pub leaves_none : (P : Instance) (g : Log) (passed : PassedLog) → Passes P g → shown_by g ≡ passed → LeavesNoRoster P passed
+leaves_none P g passed passes is =
+    subst (λ (shown : PassedLog). LeavesNoRoster P shown) is (λ s met many holds. passing_leaves_none P g s passes met many holds)
 
-pub text_accepted : (P : Instance) (g : Log) (goal : Option ℕ) → Passes P g → g.goal ≡ goal → IsChecked P (kind_by goal) (log_text P g) (Checks.Accepted goal g.named)
-text_accepted P g goal passes is =
-    accepted P (kind_by goal) (log_text P g) g goal g.named (record { of_kind = ap kind_by is; is_text = refl; passes = passes }) is refl
+pub accepted : (P : Instance) (kind : LogKind) (bytes : List ℕ) (passed : PassedLog) → IsPassedText P kind bytes passed → IsChecked P kind bytes (Checks.Accepted passed)
+accepted P kind bytes passed h = (h, leaves_none P h.0 passed h.1.passes h.2)
+
+pub text_accepted : (P : Instance) (kind : LogKind) (g : Log) → kind_of_log g ≡ kind → Passes P g → IsChecked P kind (log_text P g) (Checks.Accepted (shown_by g))
+text_accepted P kind g is passes =
+    accepted P kind (log_text P g) (shown_by g) (g, record { of_kind = is; is_text = refl; passes = passes }, refl)
 
 -- bytes are judged in one way
 
@@ -74,19 +81,16 @@ not_both_ways P kind bytes g why limits a r =
     absurd (cc)
 
 -- a log that passes isn't refused
-pub passing_is_not_refused : (P : Instance) (g : Log) (why : LogRefusal) → KeepsLimits P → Passes P g → IsRefused P (kind_by g.goal) (log_text P g) why → ⊥
+pub passing_is_not_refused : (P : Instance) (g : Log) (why : LogRefusal) → KeepsLimits P → Passes P g → IsRefused P (kind_of_log g) (log_text P g) why → ⊥
 passing_is_not_refused P g why limits passes refused =
-    not_both_ways P (kind_by g.goal) (log_text P g) g why limits (record { of_kind = refl; is_text = refl; passes = passes }) refused
-
-same_acceptance : (goal other : Option ℕ) (R S : List ℕ) → goal ≡ other → R ≡ S → Checks.Accepted goal R ≡ Checks.Accepted other S
-same_acceptance goal other R S e f = cc
+    not_both_ways P (kind_of_log g) (log_text P g) g why limits (record { of_kind = refl; is_text = refl; passes = passes }) refused
 
 pub one_checked : (P : Instance) (kind : LogKind) (bytes : List ℕ) (a b : Checked) → KeepsLimits P → IsChecked P kind bytes a → IsChecked P kind bytes b → a ≡ b
-one_checked P kind bytes (Checks.Accepted goal R) (Checks.Accepted other S) limits h k =
+one_checked P kind bytes (Checks.Accepted p) (Checks.Accepted q) limits h k =
     let same : h.0.0 ≡ k.0.0 = same_log P kind bytes h.0.0 k.0.0 limits h.0.1 k.0.1 in
-    same_acceptance goal other R S (sym h.0.2 ∙ ap (λ (g : Log). g.goal) same ∙ k.0.2) (sym h.0.3 ∙ ap (λ (g : Log). g.named) same ∙ k.0.3)
-one_checked P kind bytes (Checks.Accepted goal R) (Checks.Refused why) limits h k = absurd (not_both_ways P kind bytes h.0.0 why limits h.0.1 k)
-one_checked P kind bytes (Checks.Refused why) (Checks.Accepted goal R) limits h k = absurd (not_both_ways P kind bytes k.0.0 why limits k.0.1 h)
+    ap Checks.Accepted (sym h.0.2 ∙ ap shown_by same ∙ k.0.2)
+one_checked P kind bytes (Checks.Accepted p) (Checks.Refused why) limits h k = absurd (not_both_ways P kind bytes h.0.0 why limits h.0.1 k)
+one_checked P kind bytes (Checks.Refused why) (Checks.Accepted q) limits h k = absurd (not_both_ways P kind bytes k.0.0 why limits k.0.1 h)
 one_checked P kind bytes (Checks.Refused why) (Checks.Refused other) limits h k = ap Checks.Refused (same_refusal P kind bytes why other limits h k)
 
 pub one_reduction : (P : Instance) (bytes : List ℕ) (a b : Reduction) → KeepsLimits P → IsReduction P bytes a → IsReduction P bytes b → a ≡ b
@@ -99,8 +103,8 @@ one_reduction P bytes (Reductions.Refused why) (Reductions.Refused other) limits
 
 -- two plans
 pub plans_agree : (P : Instance) (budget : ℕ) (a b : Found) → IsPlanned P budget a → IsPlanned P budget b → PlansAgree a b
-plans_agree P budget (Founds.Roster s) (Founds.NoRoster g) h k = exclusive P s.cells g h.1 k.0 k.2.no_goal
-plans_agree P budget (Founds.NoRoster g) (Founds.Roster s) h k = exclusive P s.cells g k.1 h.0 h.2.no_goal
+plans_agree P budget (Founds.Roster s) (Founds.NoRoster g) h k = exclusive P s.cells g h.1 k.0 k.2.of_kind
+plans_agree P budget (Founds.NoRoster g) (Founds.Roster s) h k = exclusive P s.cells g k.1 h.0 h.2.of_kind
 plans_agree P budget (Founds.Roster s) (Founds.Roster t) h k = tt
 plans_agree P budget (Founds.Roster s) (Founds.Undecided g) h k = tt
 plans_agree P budget (Founds.NoRoster g) (Founds.NoRoster e) h k = tt

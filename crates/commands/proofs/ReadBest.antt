@@ -31,12 +31,13 @@ use Rattle.refutation_terms.specs.declared.lines.LogKind.TheVariants.{WithGoal}
 use Rattle.refutation_terms.specs.declared.lines.LogRefusal.{LogRefusal}
 use Rattle.refutation_terms.specs.Log.{Log}
 use Rattle.refutation_terms.specs.LogText.{log_text}
-use Rattle.refutation_terms.specs.Verdict.{kind_by}
+use Rattle.refutation_terms.specs.Verdict.{kind_of_log}
 use Rattle.refutation_terms.proofs.Fronts.{texts_distinct}
 use Rattle.refutation_log.specs.ReadLog.{IsReadAs, IsUnread}
 use Rattle.refutation_log.proofs.OneCause.{texts_read}
 use Rattle.refutation_log.proofs.OneText.{is_writable, has_names}
 use Rattle.commands.specs.ReadBest.{IsFreeLog, IsBestWith, AreBestParts, free_line, left_behind, lines_len}
+use Rattle.commands.proofs.Logs.{with_goal}
 
 -- Lines as they are counted.
 
@@ -203,7 +204,7 @@ no_log P first part log cells n limits roster is free none s h =
 
 pub not_free : (P : Instance) (goal : ℕ) (bytes : List ℕ) (why : LogRefusal) → KeepsLimits P → IsUnread P WithGoal bytes why → IsFreeLog P goal bytes → ⊥
 not_free P goal bytes why limits unread h =
-    let kind : WithGoal ≡ kind_by h.log.goal = sym (ap kind_by h.with_goal) in
+    let kind : WithGoal ≡ kind_of_log h.log = sym (with_goal P h.log goal h.fits h.with_goal) in
     texts_read P h.log why limits h.fits h.tree (subst (λ (k : LogKind). IsUnread P k (log_text P h.log) why) kind (subst (λ b. IsUnread P WithGoal b why) h.text unread))
 
 free_is : (P : Instance) (goal : ℕ) (bytes : List ℕ) (g : Log) → IsReadAs P WithGoal bytes g → g.goal ≡ Some goal → IsFreeLog P goal bytes

@@ -23,7 +23,7 @@ use Rattle.refutation_terms.specs.Word.{Domains, Over}
 use Rattle.refutation_terms.specs.Tree.{domains_at, opening, opening_leaves, lines_leave}
 use Rattle.refutation_terms.specs.Log.{Log}
 use Rattle.refutation_terms.specs.LogText.{log_text}
-use Rattle.refutation_terms.specs.Verdict.{kind_by, Escapes, TreeCause, Cause, Front, Start, Versioned, BeforeTurn, BeforeGoal, Reading, IsRefused}
+use Rattle.refutation_terms.specs.Verdict.{kind_of_log, Escapes, TreeCause, Cause, Front, Start, Versioned, BeforeTurn, BeforeGoal, BeforeCells, Reading, IsRefused}
 use Rattle.refutation_terms.proofs.Tests.{left_of}
 use Rattle.crew_size.specs.Sizes.{with_weeks}
 use Rattle.crew_size.specs.Verdict.{IsStaffRefused}
@@ -42,7 +42,7 @@ symbols_over P D known p (x ∷ w) over = All-cons (IsSymbol P) x w (known (p % 
 known_at : (P : Instance) (o : Opening) (lines : List Line) (k p z : ℕ) → IsTrue (domains_at P o lines k p z) → z ≤ shift_count P
 known_at P o lines k p z h = leb-true z (shift_count P) (left_of (nat_le z (shift_count P)) (opening_leaves o p z) (left_of (opening P o p z) (lines_leave (take k lines) p z) h))
 
-pub escaping : (P : Instance) (goal : Option ℕ) (D : Domains) (line : Line) (w : List Symbol) → ((p z : ℕ) → IsTrue (D p z) → z ≤ shift_count P) → Escapes P goal D line w → All (IsSymbol P) w
+escaping : (P : Instance) (goal : Option ℕ) (D : Domains) (line : Line) (w : List Symbol) → ((p z : ℕ) → IsTrue (D p z) → z ≤ shift_count P) → Escapes P goal D line w → All (IsSymbol P) w
 escaping P goal D (Closing (Words p R (Dead len))) w known h = symbols_over P D known p w h.clean.over
 escaping P goal D (Closing (Words p R (Light turns reward y))) w known h = symbols_over P D known p w h.0.heavy.clean.over
 escaping P goal D line w known h = absurd h
@@ -56,6 +56,7 @@ caused P kind Start bytes n w h = absurd h
 caused P kind (Versioned v) bytes n w h = absurd h
 caused P kind (BeforeTurn counts named) bytes n w h = absurd h
 caused P kind (BeforeGoal counts named) bytes n w h = absurd h
+caused P kind (BeforeCells named) bytes n w h = absurd h
 caused P kind (Reading g) bytes n w (inl h) = absurd h.1
 caused P kind (Reading g) bytes n w (inr h) = tree_caused P g bytes _ n w h.1
 
@@ -64,10 +65,10 @@ pub printable : (P : Instance) (kind : LogKind) (bytes : List ℕ) (why : LogRef
 printable P kind bytes (Refusals.Escape n w) h = caused P kind h.front h.line n w h.cause
 printable P kind bytes why h = tt
 
--- a log without a goal that was read is refused as such a log
-pub refused_text : (P : Instance) (g : Log) (fail : Fail LogRefusal) (why : LogRefusal) (Q : Log → Type 0) → kind_by g.goal ≡ WithoutGoal → fail ≡ Refused why → MatchAnswer (Err fail) Q (IsRefused P (kind_by g.goal) (log_text P g)) → IsRefused P WithoutGoal (log_text P g) why
+-- a log without a goal and without given cells that was read is refused as such a log
+pub refused_text : (P : Instance) (g : Log) (fail : Fail LogRefusal) (why : LogRefusal) (Q : Log → Type 0) → kind_of_log g ≡ WithoutGoal → fail ≡ Refused why → MatchAnswer (Err fail) Q (IsRefused P (kind_of_log g) (log_text P g)) → IsRefused P WithoutGoal (log_text P g) why
 refused_text P g fail why Q none e h =
-    let R : LogRefusal → Type 0 = IsRefused P (kind_by g.goal) (log_text P g) in
+    let R : LogRefusal → Type 0 = IsRefused P (kind_of_log g) (log_text P g) in
     subst (λ (kind : LogKind). IsRefused P kind (log_text P g) why) none (subst (λ (f : Fail LogRefusal). MatchAnswer (Err f) Q R) e h)
 
 -- what a refused staff text names is the instance's, whatever the number of weeks

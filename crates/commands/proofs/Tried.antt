@@ -18,4 +18,4 @@ tried_as_planned number weeks P (Founds.Roster s) law some is h = h
 tried_as_planned number weeks P (Founds.Undecided g) law some is h = (h.0, h.1)
 tried_as_planned number weeks P (Founds.NoRoster g) law some is h =
     let meets : MeetsAll P (roster_of is.0) = subst (λ (Q : Instance). MeetsAll Q (roster_of is.0)) (sym is.2) (law number weeks is.0 some is.1) in
-    exclusive P (roster_of is.0) g meets h.0 h.2.no_goal
+    exclusive P (roster_of is.0) g meets h.0 h.2.of_kind

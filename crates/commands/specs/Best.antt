@@ -13,9 +13,9 @@ use Rattle.refutation_log.specs.Bests.{IsBestFound, IsBestCounted, IsUndecided}
 use Rattle.refutation_log.specs.declared.best_found.BestFound.{BestFound}
 use Rattle.refutation_log.specs.declared.best_found.BestFound.TheVariants.{Best, NoRoster, Undecided}
 use Rattle.plain_words.specs.Statements.{Statement, FreeWeekends, Then}
-use Rattle.plain_words.specs.LogTold.{Are, IsSaidOfLog, rosters_by}
+use Rattle.plain_words.specs.LogTold.{Are, IsSaidOfLog, rosters_of}
 use Rattle.plain_words.specs.declared.pieces.TheConstants.{BUDGET_SPENT}
-use Rattle.commands.specs.Told.{IsTold, IsSaidOfSpent, refuted_statements}
+use Rattle.commands.specs.Told.{IsTold, IsSaidBehind, refuted_statements}
 use Rattle.commands.specs.Lines.{line}
 
 -- a roster with a proof that none has more free weekends; or a proof that there is no roster; or what is known where
@@ -57,9 +57,9 @@ IsBestOf P (Undecided s g) = IsRosterFound P s × Fits P g
 -- which statements are told of an answer
 abbrev pub AreBestStatements : Instance → BestFound → List Statement → Type 0
 AreBestStatements P (Best s g) =
-    Then (Are (FreeWeekends (free_weekends s.cells) ∷ [])) (IsSaidOfLog P (rosters_by g.goal) g)
-AreBestStatements P (NoRoster g) = Then (Are (refuted_statements g)) (IsSaidOfLog P (rosters_by g.goal) g)
-AreBestStatements P (Undecided s g) = IsSaidOfSpent P BUDGET_SPENT.now g
+    Then (Are (FreeWeekends (free_weekends s.cells) ∷ [])) (IsSaidOfLog P (rosters_of g) g)
+AreBestStatements P (NoRoster g) = Then (Are (refuted_statements g)) (IsSaidOfLog P (rosters_of g) g)
+AreBestStatements P (Undecided s g) = IsSaidBehind P BUDGET_SPENT.now g
 
 -- what is told of an answer
 abbrev pub IsBestTold : Instance → BestFound → List ℕ → Type 0

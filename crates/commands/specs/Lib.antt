@@ -7,7 +7,6 @@ pub mod Verify
 pub mod Check
 pub mod Reduce
 pub mod Fill
-pub mod CheckFill
 pub mod Crew
 pub mod Mend
 pub mod Rest

@@ -13,7 +13,7 @@ use Rattle.plain_words.specs.Statements.{Statement, Plain, Then}
 use Rattle.plain_words.specs.LogTold.{Are, IsSaidOfLog, IsSaidOfReduced}
 use Rattle.plain_words.specs.declared.reason.Rosters.TheVariants.{Every}
 use Rattle.plain_words.specs.declared.pieces.TheConstants.{BUDGET_SPENT, MEND_LOOKS, REDUCE_MAY}
-use Rattle.commands.specs.Told.{IsTold, IsSaidOfSpent, refuted_statements}
+use Rattle.commands.specs.Told.{IsTold, IsSaidBehind, refuted_statements}
 use Rattle.commands.specs.declared.plan.TheConstants.{MOST_LINES_REDUCED}
 
 -- what a plan finds within the budget, which counts blocks or not
@@ -43,7 +43,7 @@ ArePlanStatements P (Roster s) = Are []
 ArePlanStatements P (NoRoster g) =
     Then (Are (refuted_statements g))
     (Then (IsSaidShortly (nat_le (length g.lines) MOST_LINES_REDUCED) P g) (Are (Plain MEND_LOOKS.now ∷ [])))
-ArePlanStatements P (Undecided g) = IsSaidOfSpent P BUDGET_SPENT.now g
+ArePlanStatements P (Undecided g) = IsSaidBehind P BUDGET_SPENT.now g
 
 -- what is told of an answer
 abbrev pub IsPlanTold : Instance → Found → List ℕ → Type 0

@@ -4,9 +4,9 @@ use Rattle.rwsp_terms.specs.Instance.{Instance}
 use Rattle.refutation_terms.specs.declared.lines.LogKind.TheVariants.{WithoutGoal}
 use Rattle.refutation_terms.specs.Log.{Log, Fits, Passes}
 use Rattle.refutation_terms.specs.LogText.{log_text}
-use Rattle.refutation_terms.specs.Strip.{IsReduced}
+use Rattle.refutation_terms.specs.Strip.{IsReduced, NeedsEachRule}
 use Rattle.refutation_terms.specs.Verdict.{IsAccepted, IsRefused}
-use Rattle.refutation_log.specs.Needs.{NeedsEach, NeedsTogether}
+use Rattle.refutation_log.specs.Needs.{NeedsTogether}
 use Rattle.plain_words.specs.Statements.{told_lines}
 use Rattle.plain_words.specs.LogTold.{IsSaidOfLog}
 use Rattle.plain_words.specs.Told.{log_refusal_statement}
@@ -20,7 +20,7 @@ use Rattle.commands.specs.declared.reduce.Answer.TheVariants.{Reduced, Refused}
 -- a log that passes, and can't do without any rule that it names, nor without several window rules
 pub record IsSparing (P : Instance) (g : Log) : Type 0 where
   pub passes : Passes P g
-  pub each : NeedsEach P g
+  pub each : NeedsEachRule P g
   pub together : NeedsTogether P g
 
 -- what an answer says of the bytes of a log without a goal: reduced is the log that passes

@@ -3,7 +3,7 @@ use Rattle.std.specs.Prelude.{ℕ, ◌==◌, Bool, true, List, [], ◌∷◌, �
 use Rattle.rwsp_terms.specs.Instance.{Instance}
 use Rattle.refutation_terms.specs.Log.{Log}
 use Rattle.plain_words.specs.Statements.{Statement, Plain, Tells, Then}
-use Rattle.plain_words.specs.LogTold.{Are, end_statement, rosters_by, IsSaidOfLog}
+use Rattle.plain_words.specs.LogTold.{Are, end_statement, rosters_of, IsSaidOfLog}
 use Rattle.plain_words.specs.declared.pieces.TheConstants.{NONE_HERE}
 
 -- the name where a line begins
@@ -27,6 +27,6 @@ IsTold P Are text = Tells P Are [] text
 abbrev pub refuted_statements : Log → List Statement
 refuted_statements g = Plain NONE_HERE.now ∷ end_statement g.lines ∷ []
 
--- a sentence, and then what is said of a log as one about rosters of its goal
-abbrev pub IsSaidOfSpent : Instance → (sentence : List ℕ) → Log → List Statement → Type 0
-IsSaidOfSpent P sentence g = Then (Are (Plain sentence ∷ [])) (IsSaidOfLog P (rosters_by g.goal) g)
+-- a sentence, and then what is said of a log as one about the rosters of its goal or with its cells
+abbrev pub IsSaidBehind : Instance → (sentence : List ℕ) → Log → List Statement → Type 0
+IsSaidBehind P sentence g = Then (Are (Plain sentence ∷ [])) (IsSaidOfLog P (rosters_of g) g)

@@ -5,7 +5,7 @@ ghost use Rattle.commands.specs.Best.{IsBestTold, IsBestAnswer, IsBestOf, best_t
 
 mod texts;
 
-use crate::telling::spent_told;
+use crate::telling::log_told;
 use plain_words::pieces::BUDGET_SPENT;
 use refutation_log::{BestFound, print_log};
 use roster_planner::{Effort, best};
@@ -46,7 +46,7 @@ pub fn told(alloc: Global, problem: &Problem, found: &BestFound) -> Result<Vec<u
     match found {
         BestFound::Best { roster, proof } => best_told(alloc, problem, roster, proof),
         BestFound::NoRoster(log) => none_told(alloc, problem, log),
-        BestFound::Undecided { partial, .. } => spent_told(alloc, problem, BUDGET_SPENT, partial),
+        BestFound::Undecided { partial, .. } => log_told(alloc, problem, BUDGET_SPENT, partial),
     }
 }
 

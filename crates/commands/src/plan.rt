@@ -6,7 +6,7 @@ ghost use Rattle.refutation_log.specs.declared.found.Found.TheVariants as Founds
 ghost use Rattle.plain_words.specs.Statements.{Tells};
 ghost use Rattle.commands.specs.Plan.{IsPlanTold, IsSaidShortly, IsPlanAnswer, plan_text, plan_status, IsPlanOf};
 
-use crate::telling::{put_refuted, spent_told};
+use crate::telling::{log_told, put_refuted};
 use clean_words::Gate;
 use plain_words::pieces::{BUDGET_SPENT, MEND_LOOKS, REDUCE_MAY};
 use plain_words::{Rosters, put_log_told, put_plain_told, put_reduced_told};
@@ -14,8 +14,8 @@ use refutation_log::{Found, Log, print_log};
 pub use roster_planner::Effort;
 use roster_planner::plan_roster;
 use roster_print::print_roster;
-use rule_reducer::reduce;
-use rwsp_model::{Fail, Problem};
+use rule_reducer::reduce_passing;
+use rwsp_model::Problem;
 use rwsp_terms::limits::GREATEST_BUDGET;
 use std::alloc::{AllocError, Global};
 use std::thread::Threads;
@@ -57,7 +57,7 @@ pub fn told(alloc: Global, problem: &Problem, found: &Found) -> Result<Vec<u8>, 
     match found {
         Found::Roster(_) => Ok(Vec::new(alloc)),
         Found::NoRoster(log) => refuted_told(alloc, problem, log),
-        Found::Undecided(log) => spent_told(alloc, problem, BUDGET_SPENT, log),
+        Found::Undecided(log) => log_told(alloc, problem, BUDGET_SPENT, log),
     }
 }
 
@@ -113,12 +113,8 @@ fn reduction(alloc: Global, problem: &Problem, log: &Log) -> Result<Log, AllocEr
     ensures reduced { IfOk result (IsReduced problem.now log.now) }
     ensures fits { IfOk result (Fits problem.now) }
 {
-    problem.prove_limits();
-    match reduce(alloc, problem, log) {
-        Ok(reduced) => Ok(reduced),
-        Err(Fail::Refused(_)) => unreachable!(),
-        Err(Fail::Memory) => Err(AllocError),
-    }
+    let copied = log.copy()?;
+    reduce_passing(alloc, problem, copied)
 }
 
 /// The status of a plan.

@@ -2,7 +2,7 @@
 ghost use Rattle.std.specs.Prelude.{◌≡◌, IfOk};
 ghost use Rattle.refutation_terms.specs.Log.{Fits};
 ghost use Rattle.refutation_terms.specs.LogText.{log_text};
-ghost use Rattle.refutation_terms.specs.Verdict.{kind_by};
+ghost use Rattle.refutation_terms.specs.Verdict.{kind_of_log};
 ghost use Rattle.refutation_terms.specs.declared.lines.LogRefusal.{LogRefusal as Why};
 ghost use Rattle.refutation_log.specs.ReadLog.{IsUnread};
 ghost use Rattle.plain_words.specs.LogTold.{IsSaidOfLog};
@@ -17,7 +17,7 @@ use clean_words::Gate;
 use plain_words::{Rosters, put_log_told};
 use refutation_checker::{UncheckedLog, check_with};
 use refutation_log::{Log, LogKind, LogRefusal, print_log, read_log};
-use rule_reducer::reduce_in_place;
+use rule_reducer::reduce;
 use rwsp_model::{Fail, Problem};
 use rwsp_terms::limits::USUAL_WORKERS;
 use std::alloc::{AllocError, Global};
@@ -54,14 +54,14 @@ pub fn job<R: Threads + Sync, G: Gate>(
     }
 }
 
-// The log, which has no goal, without the rules that it can do without.
+// The log, which has no goal and gives no cells, without the rules that it can do without.
 fn reduced(alloc: Global, problem: &Problem, log: Log) -> Result<Answer, AllocError>
-    requires kind { kind_by log.goal ≡ LogKind.WithoutGoal }
+    requires kind { kind_of_log log ≡ LogKind.WithoutGoal }
     requires fits { Fits problem.now log }
     ensures says { IfOk result (IsReduction problem.now (log_text problem.now log)) }
     ensures own { IfOk result (IsReductionOf problem.now) }
 {
-    match reduce_in_place(alloc, problem, log) {
+    match reduce(alloc, problem, log) {
         Ok(log) => Ok(Answer::Reduced(log)),
         Err(Fail::Refused(why)) => Ok(Answer::Refused(why)),
         Err(Fail::Memory) => Err(AllocError),

@@ -2,10 +2,10 @@
 ghost use Rattle.std.specs.Prelude.{◌≡◌, ◌∷◌, ◌++◌, [], IfOk, OnOk};
 ghost use Rattle.refutation_terms.specs.Log.{Fits};
 ghost use Rattle.plain_words.specs.Statements.{Plain, Numbered, told_lines};
-ghost use Rattle.commands.specs.Told.{name_where, behind_rwsp, IsTold, IsSaidOfSpent, refuted_statements};
+ghost use Rattle.commands.specs.Told.{name_where, behind_rwsp, IsTold, IsSaidBehind, refuted_statements};
 
 use plain_words::pieces::NONE_HERE;
-use plain_words::{put_end_told, put_log_told, put_numbered_told, put_plain_told, rosters_by};
+use plain_words::{put_end_told, put_log_told, put_numbered_told, put_plain_told, rosters_of};
 use refutation_log::Log;
 use rwsp_model::Problem;
 use std::alloc::{AllocError, Global};
@@ -68,8 +68,8 @@ pub fn put_refuted(out: &mut Vec<u8>, problem: &Problem, log: &Log) -> Result<()
     Ok(())
 }
 
-/// What is told of a search that has spent its budget: a sentence, and what its log says.
-pub fn spent_told(
+/// What is told in a sentence, and what a log says.
+pub fn log_told(
     alloc: Global,
     problem: &Problem,
     sentence: &[u8],
@@ -77,10 +77,10 @@ pub fn spent_told(
 ) -> Result<Vec<u8>, AllocError>
     requires { Fits problem.now log.now }
     ensures { IfOk result (λ v.
-        IsTold problem.now (IsSaidOfSpent problem.now sentence.now log.now) v.items) }
+        IsTold problem.now (IsSaidBehind problem.now sentence.now log.now) v.items) }
 {
     let mut out = Vec::new(alloc);
     put_plain_told(&mut out, problem, sentence)?;
-    put_log_told(&mut out, problem, rosters_by(log.goal()), log)?;
+    put_log_told(&mut out, problem, rosters_of(log), log)?;
     Ok(out)
 }

@@ -14,7 +14,7 @@ use Rattle.refutation_terms.specs.declared.lines.LogKind.TheVariants.{WithoutGoa
 use Rattle.refutation_terms.specs.declared.lines.LogRefusal.{LogRefusal}
 use Rattle.refutation_terms.specs.Log.{Log}
 use Rattle.refutation_terms.specs.LogText.{log_text}
-use Rattle.refutation_terms.specs.Verdict.{kind_by}
+use Rattle.refutation_terms.specs.Verdict.{kind_of_log}
 use Rattle.refutation_log.specs.ReadLog.{IsReadAs, IsUnread}
 use Rattle.refutation_log.proofs.OneCause.{texts_read}
 use Rattle.crew_size.specs.Sizes.{with_weeks, IsSize}
@@ -187,7 +187,7 @@ no_log P sized m bytes log rest why limits is whole cut unread other begins =
     let g = begins.log in
     let once = cut_once log (log_text Q g) rest other cut begins.cut (sym whole ∙ begins.whole) in
     let there : IsUnread Q WithoutGoal log why = subst (λ (R : Instance). IsUnread R WithoutGoal log why) is unread in
-    let text : IsUnread Q (kind_by g.goal) (log_text Q g) why = subst (λ (k : LogKind). IsUnread Q k (log_text Q g) why) (sym begins.read.plain) (subst (λ t. IsUnread Q WithoutGoal t why) once.0 there) in
+    let text : IsUnread Q (kind_of_log g) (log_text Q g) why = subst (λ (k : LogKind). IsUnread Q k (log_text Q g) why) (sym begins.read.plain) (subst (λ t. IsUnread Q WithoutGoal t why) once.0 there) in
     texts_read Q g why (sized_keeps P m limits begins.read.size) begins.read.fits begins.read.tree text
 
 -- a line that is no heading which may stand there

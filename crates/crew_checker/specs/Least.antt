@@ -8,7 +8,7 @@ use Rattle.refutation_terms.specs.declared.lines.LogKind.TheVariants.{WithoutGoa
 use Rattle.refutation_terms.specs.Tree.{IsTree}
 use Rattle.refutation_terms.specs.Log.{Log, Fits}
 use Rattle.refutation_terms.specs.LogText.{log_text}
-use Rattle.refutation_terms.specs.Verdict.{kind_by}
+use Rattle.refutation_terms.specs.Verdict.{kind_of_log}
 use Rattle.crew_size.specs.Sizes.{with_weeks, IsSize}
 use Rattle.crew_size.specs.Texts.{refuted_line, roster_line, sections_text}
 use Rattle.crew_size.specs.Sections.{AreUpToHeading}
@@ -17,7 +17,7 @@ use Rattle.crew_size.specs.Places.{IsNextOf}
 -- the log fits the problem with m weeks, has no goal, and is one whole tree
 pub record IsReadLog (P : Instance) (m : ℕ) (g : Log) : Type 0 where
   pub size : IsSize P m
-  pub plain : kind_by g.goal ≡ WithoutGoal
+  pub plain : kind_of_log g ≡ WithoutGoal
   pub fits : Fits (with_weeks P m) g
   pub tree : IsTree g.lines
 

@@ -13,11 +13,10 @@ use Rattle.rwsp_model.proofs.OtherWeeks.{other_weeks_keep}
 use Rattle.roster_print.specs.RosterText.{roster_text}
 use Rattle.roster_print.proofs.Printed.{printed_is_short, printed_is_spelled}
 use Rattle.refutation_terms.specs.Log.{Log, Passes}
-use Rattle.refutation_terms.proofs.Sound.{passing_leaves_none}
+use Rattle.refutation_terms.proofs.LogKinds.{plain_leaves_none}
 use Rattle.refutation_terms.proofs.Named.{named-IsRule}
 use Rattle.refutation_terms.specs.declared.lines.LogKind.TheVariants.{WithoutGoal}
-use Rattle.refutation_terms.specs.Verdict.{kind_by}
-use Rattle.refutation_terms.specs.Laws.{HasGoal}
+use Rattle.refutation_terms.specs.Verdict.{kind_of_log}
 use Rattle.crew_size.specs.Sizes.{with_weeks, IsSize}
 use Rattle.crew_size.specs.Texts.{Staff, next_size, roster_line, none_line, sections_text, end_text}
 use Rattle.crew_size.specs.Fitting.{EndFits, FitsSizes}
@@ -34,19 +33,15 @@ use Rattle.crew_size.proofs.Searches.{AreRefuted, fits_sizes}
 pub sized_keeps : (P : Instance) (m : ℕ) → KeepsLimits P → IsSize P m → KeepsLimits (with_weeks P m)
 sized_keeps P m limits size = other_weeks_keep P m limits size.some size.few size.few_cells
 
--- a log without a goal leaves no roster, whatever its free weekends
-no_goal : (goal : Option ℕ) (s : List Symbol) → kind_by goal ≡ WithoutGoal → HasGoal goal s
-no_goal None s plain = tt
-no_goal (Some goal) s plain = absurd (cc)
-
-none_of_log : (P : Instance) (m : ℕ) (g : Log) → kind_by g.goal ≡ WithoutGoal → Passes (with_weeks P m) g → HasNoRoster P m
+-- a log without a goal and without given cells leaves no roster
+none_of_log : (P : Instance) (m : ℕ) (g : Log) → kind_of_log g ≡ WithoutGoal → Passes (with_weeks P m) g → HasNoRoster P m
 none_of_log P m g plain passes = λ s meets.
-    passing_leaves_none (with_weeks P m) g s passes
-    (record { is_roster = meets.is_roster; rules = λ r named. meets.rules r (named-IsRule (with_weeks P m) g.named r named) }) (no_goal g.goal s plain)
+    plain_leaves_none (with_weeks P m) g s passes plain
+    (record { is_roster = meets.is_roster; rules = λ r named. meets.rules r (named-IsRule (with_weeks P m) g.named r named) })
 
 -- the logs of the sizes pass
 abbrev AllPass : Instance → ℕ → List Log → Type 0
-AllPass P low logs = (k : ℕ) (g : Log) → slice_get logs k ≡ Some g → (kind_by g.goal ≡ WithoutGoal) × Passes (with_weeks P (low + k)) g
+AllPass P low logs = (k : ℕ) (g : Log) → slice_get logs k ≡ Some g → (kind_of_log g ≡ WithoutGoal) × Passes (with_weeks P (low + k)) g
 
 none_among : (P : Instance) (low : ℕ) (logs : List Log) → AllPass P low logs → (k : ℕ) → low ≤ k → k < low + length logs → HasNoRoster P k
 none_among P low [] all k a b = absurd (omega (arith, a, b))
@@ -84,11 +79,11 @@ decided_by : (P : Instance) (high budget low m : ℕ) (logs : List Log) (end : S
 decided_by P high budget low m logs (Ends.Least s) staffed le are e h same =
     let eq : Least low m ≡ staffed = cc in
     subst (IsDecidedWithin P low high) eq
-    (refl, h.0, (omega (arith, e), (s.cells, h.1.1), λ k a b. none_among P low logs (λ i g at. (ap kind_by (are i g at).2.no_goal, (are i g at).0)) k a (omega (arith, b, e))))
+    (refl, h.0, (omega (arith, e), (s.cells, h.1.1), λ k a b. none_among P low logs (λ i g at. ((are i g at).2.of_kind, (are i g at).0)) k a (omega (arith, b, e))))
 decided_by P high budget low m logs Ends.NoneTo staffed le are e h same =
     let eq : NoneTo low (m - 1) ≡ staffed = cc in
     subst (IsDecidedWithin P low high) eq
-    (refl, omega (arith, h), (omega (arith, h, le), λ k a b. none_among P low logs (λ i g at. (ap kind_by (are i g at).2.no_goal, (are i g at).0)) k a (omega (arith, b, e, h))))
+    (refl, omega (arith, h), (omega (arith, h, le), λ k a b. none_among P low logs (λ i g at. ((are i g at).2.of_kind, (are i g at).0)) k a (omega (arith, b, e, h))))
 decided_by P high budget low m logs (Ends.Undecided g) staffed le are e h same = absurd (cc)
 
 decided_within : (P : Instance) (low high budget : ℕ) (run : Staff) (staffed : Staffed) → low ≤ high → IsStaffed P low high budget run → decision_of run ≡ Some staffed → IsDecidedWithin P low high staffed
@@ -198,5 +193,5 @@ pub printed_accepted : PrintedRunsAreAccepted
 printed_accepted P low high budget run staffed limits one le size h same =
     let fits : FitsSizes P run = fits_sizes P low high budget run one le size h in
     let moved : IsStaffed P run.low high budget run = subst (λ n. IsStaffed P n high budget run) (sym h.first) h in
-    let passing : ArePassing P run.low run.logs = record { sizes = fits.sizes; plain = λ k g at. ap kind_by (moved.refuted k g at).2.no_goal; passes = λ k g at. (moved.refuted k g at).0 } in
+    let passing : ArePassing P run.low run.logs = record { sizes = fits.sizes; plain = λ k g at. (moved.refuted k g at).2.of_kind; passes = λ k g at. (moved.refuted k g at).0 } in
     printed_by P high budget run.low (next_size run) run.logs run.end staffed limits passing refl fits.end fits.some moved.end same

@@ -12,7 +12,7 @@ use Rattle.rwsp_terms.specs.Instance.{Instance}
 use Rattle.refutation_terms.specs.Log.{Log, Passes}
 use Rattle.refutation_terms.specs.LogText.{log_text}
 use Rattle.refutation_terms.specs.declared.lines.LogKind.TheVariants.{WithoutGoal}
-use Rattle.refutation_terms.specs.Verdict.{kind_by}
+use Rattle.refutation_terms.specs.Verdict.{kind_of_log}
 use Rattle.crew_size.specs.Sizes.{with_weeks, IsSize}
 use Rattle.crew_size.specs.Texts.{refuted_line, section_text, sections_text}
 use Rattle.crew_size.specs.Sections.{ArePassing, StandsBehindLogs, IsHeadingsPlace, BeginsAsHeading, AreUpToHeading, IsNextSize, IsLastSize, line_behind}
@@ -42,7 +42,7 @@ sections_push P m (h ∷ logs) g =
     ∙ sym (append_assoc (section_text P m h) (sections_text P (m + 1) logs) (section_text P (m + 1 + length logs) g))
     ∙ ap (λ k. (section_text P m h ++ sections_text P (m + 1) logs) ++ section_text P k g) same
 
-passing_push : (P : Instance) (low m : ℕ) (logs : List Log) (g : Log) → ArePassing P low logs → m ≡ low + length logs → IsSize P m → kind_by g.goal ≡ WithoutGoal → Passes (with_weeks P m) g → ArePassing P low (logs ++ g ∷ [])
+passing_push : (P : Instance) (low m : ℕ) (logs : List Log) (g : Log) → ArePassing P low logs → m ≡ low + length logs → IsSize P m → kind_of_log g ≡ WithoutGoal → Passes (with_weeks P m) g → ArePassing P low (logs ++ g ∷ [])
 passing_push P low m logs g are e size plain passes = record {
   sizes = λ k h at.
       ⊎_elim (λ (a : slice_get logs k ≡ Some h). are.sizes k h a)
@@ -50,7 +50,7 @@ passing_push P low m logs g are e size plain passes = record {
       (pushed_at logs g h k at);
   plain = λ k h at.
       ⊎_elim (λ (a : slice_get logs k ≡ Some h). are.plain k h a)
-      (λ (b : (k ≡ length logs) × (g ≡ h)). subst (λ (l : Log). kind_by l.goal ≡ WithoutGoal) b.1 plain)
+      (λ (b : (k ≡ length logs) × (g ≡ h)). subst (λ (l : Log). kind_of_log l ≡ WithoutGoal) b.1 plain)
       (pushed_at logs g h k at);
   passes = λ k h at.
       ⊎_elim (λ (a : slice_get logs k ≡ Some h). are.passes k h a)
@@ -95,7 +95,7 @@ place_behind : (logs : List Log) (g : Log) (rest : List ℕ) → (rest ≡ []) �
 place_behind [] g rest h = h
 place_behind (l ∷ logs) g rest h = h
 
-pub one_more_stands : (P : Instance) (text : List ℕ) (low m : ℕ) (logs : List Log) (g : Log) (log rest : List ℕ) → ArePassing P low logs → m ≡ low + length logs → IsSize P m → log ≡ log_text (with_weeks P m) g → kind_by g.goal ≡ WithoutGoal → Passes (with_weeks P m) g → text ≡ sections_text P low logs ++ (refuted_line m ++ (log ++ rest)) → AreUpToHeading log rest → StandsBehindLogs P text low (logs ++ g ∷ []) rest
+pub one_more_stands : (P : Instance) (text : List ℕ) (low m : ℕ) (logs : List Log) (g : Log) (log rest : List ℕ) → ArePassing P low logs → m ≡ low + length logs → IsSize P m → log ≡ log_text (with_weeks P m) g → kind_of_log g ≡ WithoutGoal → Passes (with_weeks P m) g → text ≡ sections_text P low logs ++ (refuted_line m ++ (log ++ rest)) → AreUpToHeading log rest → StandsBehindLogs P text low (logs ++ g ∷ []) rest
 one_more_stands P text low m logs g log rest are e size spelled plain passes whole cut =
     let front = sections_text P low logs in
     let section : refuted_line m ++ log ≡ section_text P (low + length logs) g = ap (λ t. refuted_line m ++ t) spelled ∙ ap (λ k. section_text P k g) e in

@@ -1,11 +1,11 @@
 -- What follows the text of a log as a heading doesn't cut it short.
 use Rattle.std.proofs.Common.{◌≡◌, ℕ, zero, suc, ◌+◌, ◌-◌, ◌<◌, ◌≤◌, List, [], ◌∷◌, ◌++◌, length, take, get_or, Bool, true, false, ◌&&◌, ◌||◌, ◌==◌, Option, Some, None, refl, ap, sym, ◌∙◌, subst, arith, inl, inr, ⊎_elim, length-append}
-use Rattle.std.specs.Prelude.{◌⊎◌, not}
-use Rattle.std.specs.List.{join_with_byte, list_all, AllByRecursion}
+use Rattle.std.specs.Prelude.{◌⊎◌, not, codes, map}
+use Rattle.std.specs.List.{join_with_byte, list_all, flat_map, AllByRecursion}
 use Rattle.std.proofs.lemmas.Bool.{cases_lt, and_parts}
 use Rattle.std.proofs.lemmas.List.{append-nil, append_assoc, get_or_append_left}
 use Rattle.std.proofs.Math.Seq.{take-append-add, drop-append-add, take-append_seam, drop-append_seam}
-use Rattle.rwsp_text.specs.Fields.{Words, text_of}
+use Rattle.rwsp_text.specs.Fields.{Words, cell_fields, text_of}
 use Rattle.rwsp_text.specs.Kinds.{Kind, IsLine}
 use Rattle.rwsp_text.specs.Lines.{AreWords, AreLines, text_of_lines}
 use Rattle.rwsp_text.proofs.LineLaws.{join_no_feed}
@@ -13,11 +13,11 @@ use Rattle.rwsp_text.proofs.KindLaws.{no_words}
 use Rattle.rwsp_terms.specs.Instance.{Instance}
 use Rattle.refutation_terms.specs.declared.lines.Line.{Line}
 use Rattle.refutation_terms.specs.declared.lines.Opening.{Opening}
-use Rattle.refutation_terms.specs.declared.lines.Opening.TheVariants.{Full, Turned}
-use Rattle.refutation_terms.specs.LogText.{RawLine, raw, raw_fields, line_text, line_kinds, version_kinds}
+use Rattle.refutation_terms.specs.declared.lines.Opening.TheVariants.{Full, Turned, Given}
+use Rattle.refutation_terms.specs.LogText.{RawLine, raw, raw_fields, line_text, line_kinds, version_kinds, version_of, named_cell}
 use Rattle.refutation_terms.specs.TextLaws.{HasNames}
 use Rattle.refutation_terms.proofs.LineTables.{rules_fields, version_fields, version_line, raw_line, spelled_raw}
-use Rattle.refutation_terms.proofs.Texts.{lines_fields, log_fields, log_written, log_words, version_of, opening_fields, third_fields, each_fits}
+use Rattle.refutation_terms.proofs.Texts.{lines_fields, log_fields, log_written, log_words, third_fields, each_fits}
 use Rattle.refutation_log.proofs.OneText.{is_writable, has_names}
 use Rattle.refutation_terms.specs.declared.lines.Version.{Version}
 use Rattle.refutation_terms.specs.Log.{Log, LineFits, Fits}
@@ -165,14 +165,12 @@ lines_other P goal counts (line ∷ lines) names fit are = (
   lines_other P goal counts lines names fit.1 are.1,
 )
 
-opening_other : (P : Instance) (o : Opening) (t : List ℕ) → opens (text_of (opening_fields P o) ++ t) ≡ false
-opening_other P Full t = refl
-opening_other P (Turned turn) t = refl
-
 third_other : (P : Instance) (o : Opening) (goal : Option ℕ) (counts : Bool) (lines : List Line) → HasNames P → AllByRecursion (LineFits P goal counts) lines → AreLines (third_fields P o goal counts ++ lines_fields P goal lines) → AreOther (third_fields P o goal counts ++ lines_fields P goal lines)
+third_other P (Given given) None counts lines names fit are =
+    (record { words = are.0; other = λ t. words_other (codes "cells") (flat_map (cell_fields P.days) (map (named_cell P) given)) t refl }, lines_other P None counts lines names fit are.1)
+third_other P (Turned turn) None counts lines names fit are = (record { words = are.0; other = λ t. refl }, lines_other P None counts lines names fit are.1)
+third_other P Full None true lines names fit are = (record { words = are.0; other = λ t. refl }, lines_other P None true lines names fit are.1)
 third_other P Full None false lines names fit are = lines_other P None false lines names fit are
-third_other P (Turned turn) None false lines names fit are = (record { words = are.0; other = λ t. refl }, lines_other P None false lines names fit are.1)
-third_other P o None true lines names fit are = (record { words = are.0; other = opening_other P o }, lines_other P None true lines names fit are.1)
 third_other P o (Some goal) counts lines names fit are = (record { words = are.0; other = λ t. refl }, lines_other P (Some goal) counts lines names fit are.1)
 
 version_other : (v : Version) (t : List ℕ) → opens (text_of (version_fields v) ++ t) ≡ false

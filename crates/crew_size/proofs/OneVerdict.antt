@@ -8,7 +8,7 @@ use Rattle.rwsp_model.specs.Validity.{KeepsLimits}
 use Rattle.refutation_terms.specs.Log.{Log, Passes}
 use Rattle.refutation_terms.specs.LogText.{log_text}
 use Rattle.refutation_terms.specs.declared.lines.LogKind.TheVariants.{WithoutGoal}
-use Rattle.refutation_terms.specs.Verdict.{kind_by}
+use Rattle.refutation_terms.specs.Verdict.{kind_of_log}
 use Rattle.crew_size.specs.Sizes.{with_weeks, IsSize}
 use Rattle.crew_size.specs.Texts.{refuted_line, roster_line, none_line, section_text, sections_text}
 use Rattle.crew_size.specs.Sections.{BeginsAsHeading, AreUpToHeading, ArePassing, StandsBehindLogs, IsHeadingsPlace, IsNextSize, IsLastSize, IsHeading, line_behind}
@@ -122,7 +122,7 @@ refused_said P text Refusals.Ends h = record { low = h.low; logs = h.logs; rest 
 record Follows (P : Instance) (sizes : Option (ℕ × ℕ)) (m : ℕ) (log : Log) (text behind : List ℕ) : Type 0 where
   next : IsNextOf P sizes m
   size : IsSize P m
-  plain : kind_by log.goal ≡ WithoutGoal
+  plain : kind_of_log log ≡ WithoutGoal
   passes : Passes (with_weeks P m) log
   whole : text ≡ refuted_line m ++ (log_text (with_weeks P m) log ++ behind)
   place : (behind ≡ []) ⊎ BeginsAsHeading behind

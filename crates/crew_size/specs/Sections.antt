@@ -3,7 +3,7 @@ use Rattle.std.specs.Prelude.{◌≡◌, ◌⊎◌, ℕ, ◌+◌, ◌<◌, List,
 use Rattle.rwsp_terms.specs.Instance.{Instance}
 use Rattle.refutation_terms.specs.Log.{Log, Passes}
 use Rattle.refutation_terms.specs.declared.lines.LogKind.TheVariants.{WithoutGoal}
-use Rattle.refutation_terms.specs.Verdict.{kind_by}
+use Rattle.refutation_terms.specs.Verdict.{kind_of_log}
 use Rattle.crew_size.specs.Sizes.{with_weeks, IsSize}
 use Rattle.crew_size.specs.Texts.{sections_text, refuted_line, roster_line, none_line}
 
@@ -29,7 +29,7 @@ pub record AreUpToHeading (bytes rest : List ℕ) : Type 0 where
 -- each of the logs passes and has no goal, for sizes that rise by one from the first and that the problem may have
 pub record ArePassing (P : Instance) (low : ℕ) (logs : List Log) : Type 0 where
   pub sizes : (k : ℕ) (g : Log) → slice_get logs k ≡ Some g → IsSize P (low + k)
-  pub plain : (k : ℕ) (g : Log) → slice_get logs k ≡ Some g → kind_by g.goal ≡ WithoutGoal
+  pub plain : (k : ℕ) (g : Log) → slice_get logs k ≡ Some g → kind_of_log g ≡ WithoutGoal
   pub passes : (k : ℕ) (g : Log) → slice_get logs k ≡ Some g → Passes (with_weeks P (low + k)) g
 
 -- behind a section a heading's place is where a line begins as a heading does, or the text ends; in front of all

@@ -4,6 +4,7 @@ pub mod StoreLemmas
 pub mod Stack
 pub mod Idle
 pub mod Moves
+pub mod Openings
 mod Pairs
 mod Lying
 mod Shapes

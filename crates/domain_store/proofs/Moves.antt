@@ -1,29 +1,20 @@
 -- What the moves of a walk leave.
-use Rattle.std.proofs.Common.{◌≡◌, ℕ, ◌+◌, ◌-◌, ◌*◌, ◌<◌, ◌≤◌, List, [], ◌∷◌, ◌++◌, length, take, refl, ap, sym, ◌∙◌, subst, arith, Bool, true, false, ◌&&◌, ◌||◌, ◌==◌, not, IsTrue, cond}
-use Rattle.std.proofs.Math.Bool.{and-true}
-use Rattle.std.proofs.Math.Nat.{mul-le-mul_right}
-use Rattle.std.specs.Prelude.{◌↔◌, nat_le}
-use Rattle.std.proofs.lemmas.Bool.{le-leb}
-use Rattle.std.specs.List.{range_with_len}
-use Rattle.std.proofs.lemmas.List.{take_all, length-take-le, length_push, get_or-replicate, length-replicate}
+use Rattle.std.proofs.Common.{◌≡◌, ℕ, ◌+◌, ◌<◌, ◌≤◌, List, [], ◌∷◌, ◌++◌, length, take, refl, ap, sym, ◌∙◌, subst, arith, Bool, true, false, ◌&&◌, ◌||◌, ◌==◌, not, IsTrue, cond}
+use Rattle.std.specs.Prelude.{◌↔◌}
+use Rattle.std.proofs.lemmas.List.{take_all, length-take-le, length_push}
 use Rattle.std.proofs.lemmas.List.Sums.{sum_by-cons, sum_by-append}
-use Rattle.std.proofs.lemmas.List.FromFn.{length-range_with_len}
 use Rattle.rwsp_terms.specs.declared.data.Symbol.{Symbol}
-use Rattle.rwsp_terms.specs.Instance.{Instance, cells, shift_count}
-use Rattle.rwsp_model.specs.Validity.{KeepsLimits}
+use Rattle.rwsp_terms.specs.Instance.{Instance, cells}
 use Rattle.refutation_terms.specs.declared.lines.Line.{Line}
 use Rattle.refutation_terms.specs.declared.lines.Line.TheVariants.{Split, Unfinished}
 use Rattle.refutation_terms.specs.declared.lines.Opening.{Opening}
-use Rattle.refutation_terms.specs.declared.lines.Opening.TheVariants.{Full, Turned}
-use Rattle.refutation_terms.specs.declared.lines.Turn.{Turn}
 use Rattle.refutation_terms.specs.Word.{Domains, AreSame}
 use Rattle.refutation_terms.specs.Tree.{IsLeaf, Leaf, IsTree, after_trees, opening, lines_leave, domains_at, is_idle}
-use Rattle.refutation_terms.specs.Log.{OpeningFits}
-use Rattle.domain_store.specs.Store.{Store, store_at, domain_at, has_domain, changed, full_store, HasSameShape, BelongsTo, IsStore, HasDomains}
+use Rattle.domain_store.specs.Store.{Store, store_at, domain_at, has_domain, changed, HasSameShape, BelongsTo, IsStore, HasDomains}
 use Rattle.domain_store.specs.declared.open_split.OpenSplit.{OpenSplit}
 use Rattle.domain_store.specs.Splits.{Agrees, IsSplitAt, NoLines, InSplits, HasRead, IsBehindTree, second_sides_to_come, is_idle_in}
 use Rattle.domain_store.specs.States.{IsStateOf, IsWalk}
-use Rattle.domain_store.proofs.Stack.{narrowed_there, tree_read, split_read, second_ended, first_ended, innermost, read_leaves, read_is_tree, read_whole, read_part}
+use Rattle.domain_store.proofs.Stack.{tree_read, split_read, second_ended, first_ended, innermost, read_leaves, read_is_tree, read_whole, read_part}
 use Rattle.domain_store.proofs.Idle.{idle_in_store, held_where_useful, more_where_useful, positions_of}
 
 -- the split on top of the stack
@@ -140,42 +131,6 @@ state_ended P start lines rest S splits whole ended w =
 pub state_open : (P : Instance) (start : Opening) (lines rest : List Line) (S : Store) (splits : List OpenSplit) (whole : Bool) → whole ≡ false → IsStateOf P start lines (record { store = S; splits = splits; whole = whole }) → after_trees 1 (lines ++ rest) ≡ after_trees (second_sides_to_come splits + 1) rest
 state_open P start lines rest S splits whole part w =
     read_part (length S.sets) S (opening P start) splits lines rest (part_of P start lines S splits whole part w)
-
--- full domains have two symbols at least
-pub two_in_full : (P : Instance) (S : Store) (p : ℕ) → KeepsLimits P → S ≡ full_store P → p < cells P → 2 ≤ length (domain_at S p)
-two_in_full P S p limits e lt =
-    let at : domain_at S p ≡ range_with_len 0 (shift_count P + 1) = ap (λ T. domain_at T p) e ∙ get_or-replicate (cells P) p (range_with_len 0 (shift_count P + 1)) [] lt in
-    omega (arith, ap length at, length-range_with_len 0 (shift_count P + 1), limits.some_shifts)
-
--- the day of a start is one of the first week
-turn_fits : (P : Instance) (start : Opening) (t : Turn) → OpeningFits P start → start ≡ Turned t → OpeningFits P (Turned t)
-turn_fits P start t h e = subst (OpeningFits P) e h
-
-pub full_position : (P : Instance) (p : ℕ) → p < cells P → p < length (full_store P).sets
-full_position P p lt = subst (λ n. p < n) (sym (length-replicate (cells P) (range_with_len 0 (shift_count P + 1)))) lt
-
-pub symbol_held : (P : Instance) (start : Opening) (t : Turn) → OpeningFits P start → start ≡ Turned t → nat_le t.x.number (shift_count P) ≡ true
-symbol_held P start t h e = le-leb t.x.number (shift_count P) (turn_fits P start t h e).1
-
--- the domains at the first line, with the start's symbol alone on its day or with all symbols
-pub open_with_turn : (P : Instance) (S T : Store) (start : Opening) (t : Turn) → start ≡ Turned t → ((p x : ℕ) → p < cells P → has_domain S p x ≡ nat_le x (shift_count P)) → ((q y : ℕ) → has_domain T q y ≡ ((not (q == t.day - 1) || (y == t.x.number)) && has_domain S q y)) → AreSame P (has_domain T) (opening P start)
-open_with_turn P S T start t e full has p x lt =
-    has p x
-    ∙ narrowed_there p (t.day - 1) (x == t.x.number) (has_domain S p x) (nat_le x (shift_count P)) (full p x lt)
-    ∙ ap (λ o. opening P o p x) (sym e)
-
-pub open_without_turn : (P : Instance) (S : Store) (start : Opening) → start ≡ Full → ((p x : ℕ) → p < cells P → has_domain S p x ≡ nat_le x (shift_count P)) → AreSame P (has_domain S) (opening P start)
-open_without_turn P S Full none full p x lt = full p x lt ∙ sym (and-true (nat_le x (shift_count P)))
-open_without_turn P S (Turned t) none full p x lt = absurd (cc)
-
-pub day_within : (P : Instance) (start : Opening) (t : Turn) → KeepsLimits P → OpeningFits P start → start ≡ Turned t → t.day - 1 < cells P
-day_within P start t limits h e =
-    let fits : OpeningFits P (Turned t) = turn_fits P start t h e in
-    let some : 0 < t.day = fits.0.0 in
-    let few : t.day ≤ P.days = fits.0.1 in
-    let weeks : 1 ≤ P.weeks = limits.some_weeks in
-    let most : 1 * P.days ≤ P.weeks * P.days = mul-le-mul_right P.days weeks in
-    omega arith
 
 abbrev pub in_first : Bool → ℕ
 in_first second = cond (not second) 1 0

@@ -18,6 +18,7 @@ mod kept_sets;
 mod look;
 mod mark;
 mod open_split;
+mod opening;
 mod pair;
 mod pattern;
 mod propagator;

@@ -13,6 +13,7 @@ ghost use Rattle.domain_store.specs.Splits.{second_sides_to_come, is_idle_in};
 use crate::Domains;
 use crate::ending::end_tree;
 use crate::open_split::OpenSplit;
+use crate::opening::opening_domains;
 use refutation_terms::Opening;
 use rwsp_model::Problem;
 use rwsp_terms::Symbol;
@@ -45,11 +46,13 @@ impl Model for Walk {
 impl Walk {
     ghost use Rattle.domain_store.specs.States.{IsStateOf, OfLinesRead, HasReadOn, open_trees};
 
-    /// A walk that has read no line. With a turn, its symbol is alone on its day of the first week.
-    pub fn new(alloc: Global, problem: &Problem, start: Opening) -> Result<Walk, AllocError>
-        requires { OpeningFits problem.now start }
-        ensures starts { IfOk result (λ w. IsStateOf problem.now start [] w) }
+    /// A walk that has read no line. The symbol of a turn is alone on its day of the first week, and the symbol of each
+    /// given cell at its position. Costs as much as there are given cells, beside the domains.
+    pub fn new(alloc: Global, problem: &Problem, start: &Opening) -> Result<Walk, AllocError>
+        requires { OpeningFits problem.now start.now }
+        ensures starts { IfOk result (λ w. IsStateOf problem.now start.now [] w) }
         ensures part { IfOk result (λ w. w.whole ≡ false) }
+        ensures one { IfOk result (λ w. open_trees w ≡ 1) }
     {
         let domains = opening_domains(alloc, problem, start)?;
         domains.prove_facts();
@@ -184,23 +187,6 @@ fn second_sides_to_come(splits: &[OpenSplit]) -> usize
     ensures few { result ≤ length splits.now }
 {
     splits.iter().filter(|split| !split.in_second).count()
-}
-
-// The domains at the first line.
-fn opening_domains(alloc: Global, problem: &Problem, start: Opening) -> Result<Domains, AllocError>
-    requires { OpeningFits problem.now start }
-    ensures belongs { IfOk result (λ D. BelongsTo problem.now D) }
-    ensures has { IfOk result (λ D. AreSame problem.now (has_domain D) (opening problem.now start)) }
-{
-    let mut domains = Domains::new(alloc, problem)?;
-    match start {
-        Opening::Full => {}
-        Opening::Turned(first) => {
-            problem.prove_limits();
-            domains.set_only(first.day - 1, first.x);
-        }
-    }
-    Ok(domains)
 }
 
 // A walk may be sent to other threads and shared with them.

@@ -1,12 +1,12 @@
 // Fill logs, judged with their texts and without. What is refused, and why, is tried on the program's own tests.
-use refutation_checker::{NoGate, check_fill_with, fill_passes};
-use refutation_log::{FillLog, LogRefusal, Opening, read_fill_header};
-use rwsp_model::Fail::Refused;
+use refutation_checker::{NoGate, UncheckedLog, check_log, check_with};
+use refutation_log::{LogKind, LogRefusal};
+use rwsp_model::Fail::{Memory, Refused};
 use rwsp_model::Problem;
 use std::alloc::Global;
 use std::test::Fail;
 use std::thread::Threads;
-use test_helpers::{TWOS_IN_SIX, log_of, problem_of};
+use test_helpers::{TWOS_IN_SIX, log_of_kind, problem_of};
 
 // Four days are off, of which three may be.
 const FOUR_OFF: &[u8] = b"rwsp-fill 1\nrules 7\ncells 1 1 - 2 1 - 3 1 - 4 1 -\nday 1 - over\n";
@@ -17,41 +17,21 @@ const THREE_OFF: &[u8] = b"rwsp-fill 1\nrules 7\ncells 1 1 - 2 1 - 4 1 -\nday 1 
 const SPLIT_ON_A_CELL: &[u8] =
     b"rwsp-fill 1\nrules 1 2 3 4\ncells 2 1 D\nsplit 2 1 D\nopen\nopen\n";
 
-// A fill log's text, that of the log in it, and whether it passes.
-const FILL_LOGS: [(&[u8], &[u8], bool); 3] = [
-    (FOUR_OFF, b"rwsp-log 3\nrules 7\nturn\nday 1 - over\n", true),
-    (
-        THREE_OFF,
-        b"rwsp-log 3\nrules 7\nturn\nday 1 - over\n",
-        false,
-    ),
-    (
-        SPLIT_ON_A_CELL,
-        b"rwsp-log 3\nrules 1 2 3 4\nturn\nsplit 2 1 D\nopen\nopen\n",
-        false,
-    ),
+// A fill log's text, and whether it passes.
+const FILL_LOGS: [(&[u8], bool); 3] = [
+    (FOUR_OFF, true),
+    (THREE_OFF, false),
+    (SPLIT_ON_A_CELL, false),
 ];
 
-// Whether the fill log of the text's cells and this log passes.
-fn passes_by_itself(
-    alloc: Global,
-    problem: &Problem,
-    text: &[u8],
-    log: &[u8],
-) -> Result<bool, Fail> {
-    let header = match read_fill_header(alloc, problem, text) {
-        Ok(header) => header,
-        Err(why) => return Err(Fail::from(why)),
-    };
-    let log = log_of(alloc, problem, log)?;
-    if log.opening() != Opening::Full || log.goal().is_some() || !log.counts() {
-        return Err(Fail::from("no log of a fill log"));
+// Whether the fill log passes that is read from the text.
+fn passes_by_itself(alloc: Global, problem: &Problem, text: &[u8]) -> Result<bool, Fail> {
+    let log = log_of_kind(alloc, problem, LogKind::WithCells, text)?;
+    match check_log(alloc, problem, &log) {
+        Ok(()) => Ok(true),
+        Err(Refused(_)) => Ok(false),
+        Err(Memory) => Err(Fail::from("no memory")),
     }
-    let fill = FillLog {
-        given: header.given,
-        log,
-    };
-    Ok(fill_passes(alloc, problem, &fill)?)
 }
 
 // What is said of the text of a fill log, with the line that is refused.
@@ -103,7 +83,11 @@ fn verdict_by<R: Threads + Sync>(
     if text.len() > 1_000 || workers < 1 || workers > 4 {
         return Verdict::Other;
     }
-    match check_fill_with(rt, alloc, problem, text, workers, &NoGate) {
+    let log = UncheckedLog {
+        kind: LogKind::WithCells,
+        bytes: text,
+    };
+    match check_with(rt, alloc, problem, log, workers, &NoGate) {
         Ok(_) => Passes,
         Err(Refused(LogRefusal::Idle(line))) => Idle(line),
         Err(Refused(LogRefusal::Fails(line))) => Fails(line),
@@ -117,8 +101,8 @@ fn verdict_by<R: Threads + Sync>(
 #[test]
 fn fill_logs_pass(rt: HostRuntime) -> Result<(), Fail> {
     let problem = problem_of(rt.alloc(), TWOS_IN_SIX)?;
-    for (text, log, passes) in FILL_LOGS {
-        assert_eq!(rt; passes_by_itself(rt.alloc(), &problem, text, log)?, passes);
+    for (text, passes) in FILL_LOGS {
+        assert_eq!(rt; passes_by_itself(rt.alloc(), &problem, text)?, passes);
     }
     Ok(())
 }

@@ -75,6 +75,22 @@ fn texts_come_back(rt: HostRuntime) -> Result<(), Fail> {
     Ok(())
 }
 
+// Fill logs of two D and two days off in turn, in six cells.
+const FILL_TEXTS: [&[u8]; 3] = [
+    b"rwsp-fill 1\nrules 7\ncells 1 1 - 2 1 - 3 1 - 4 1 -\nday 1 - over\n",
+    b"rwsp-fill 1\nrules 1 2 3 4\ncells 2 1 D\nsplit 1 1 D\ndead 1 1 7 rules 1 2 3 4\nblocks D\n",
+    b"rwsp-fill 1\nrules\ncells\nopen\n",
+];
+
+#[test]
+fn fill_logs_come_back(rt: HostRuntime) -> Result<(), Fail> {
+    for text in FILL_TEXTS {
+        let printed = read_and_printed(rt.alloc(), TWOS_IN_SIX, LogKind::WithCells, text)?;
+        assert_eq!(rt; printed.as_slice(), text);
+    }
+    Ok(())
+}
+
 // Why a text is refused, with the line. Reading finds no other causes than these four.
 #[derive(Clone, Copy, PartialEq)]
 enum Cause {
@@ -167,12 +183,40 @@ const REFUSALS: [(&[u8], Cause); 41] = [
     (b"rwsp-log 1\nrules\nfree 1 1 rules weights\n", Form(3)),
 ];
 
-// Whether the text is refused for this cause.
-fn is_refused_for(alloc: Global, problem: &Problem, text: &[u8], wanted: Cause) -> bool {
-    if text.len() > 1_000_000 {
+const FILL_REFUSALS: [(&[u8], Cause); 19] = [
+    (b"", Ends),
+    (b"rwsp-fill 1", Form(1)),
+    (b"rwsp-fill 2\nrules\ncells\n", Form(1)),
+    (b"rwsp-log 3\nrules\nturn\n", Form(1)),
+    (b"rwsp-fill 1\n", Ends),
+    (b"rwsp-fill 1\nrules 8\ncells\n", Form(2)),
+    (b"rwsp-fill 1\ncells\n", Form(2)),
+    (b"rwsp-fill 1\nrules\n", Ends),
+    (b"rwsp-fill 1\nrules\nturn\n", Form(3)),
+    (b"rwsp-fill 1\nrules\ncells", Form(3)),
+    (b"rwsp-fill 1\nrules\ncells \n", Form(3)),
+    (b"rwsp-fill 1\nrules\ncells 1 1\n", Form(3)),
+    (b"rwsp-fill 1\nrules\ncells 1 2 D\n", Form(3)),
+    (b"rwsp-fill 1\nrules\ncells 7 1 D\n", Form(3)),
+    (b"rwsp-fill 1\nrules\ncells 1 1 D 1 1 D\n", Form(3)),
+    (b"rwsp-fill 1\nrules\ncells 2 1 Q 1 1 D\n", Form(3)),
+    (b"rwsp-fill 1\nrules\ncells 1 1 Q 2 1\n", Form(3)),
+    (b"rwsp-fill 1\nrules\ncells 1 1 Q 2 1 D\n", Name(3)),
+    (b"rwsp-fill 1\nrules\ncells 1 1 D\n", Ends),
+];
+
+// Whether the text is refused for this cause as a log of the kind, which isn't that of logs with a goal.
+fn is_refused_for(
+    alloc: Global,
+    problem: &Problem,
+    kind: LogKind,
+    text: &[u8],
+    wanted: Cause,
+) -> bool {
+    if text.len() > 1_000_000 || matches!(kind, LogKind::WithGoal) {
         return false;
     }
-    match read_log(alloc, problem, LogKind::WithoutGoal, text) {
+    match read_log(alloc, problem, kind, text) {
         Err(Failure::Refused(why)) => cause_of(&why) == Some(wanted),
         _ => false,
     }
@@ -183,7 +227,19 @@ fn other_texts_are_refused(rt: HostRuntime) -> Result<(), Fail> {
     let problem = problem_of(rt.alloc(), TWOS_IN_SIX)?;
     for (text, wanted) in &REFUSALS {
         assert!(rt;
-            is_refused_for(rt.alloc(), &problem, text, *wanted),
+            is_refused_for(rt.alloc(), &problem, LogKind::WithoutGoal, text, *wanted),
+            "{text:?}"
+        );
+    }
+    Ok(())
+}
+
+#[test]
+fn other_fill_logs_are_refused(rt: HostRuntime) -> Result<(), Fail> {
+    let problem = problem_of(rt.alloc(), TWOS_IN_SIX)?;
+    for (text, wanted) in &FILL_REFUSALS {
+        assert!(rt;
+            is_refused_for(rt.alloc(), &problem, LogKind::WithCells, text, *wanted),
             "{text:?}"
         );
     }
@@ -197,7 +253,7 @@ fn many_splits_and_nothing_more(rt: HostRuntime) -> Result<(), Fail> {
     for _ in 0..4200 {
         text.extend_from_slice(b"split 1 1 D\n")?;
     }
-    assert!(rt; is_refused_for(rt.alloc(), &problem, &text, Ends));
+    assert!(rt; is_refused_for(rt.alloc(), &problem, LogKind::WithoutGoal, &text, Ends));
     Ok(())
 }
 
@@ -274,16 +330,19 @@ fn put_all_cited(rules: &mut RuleList, problem: &Problem, log: &Log) -> Result<(
     Ok(())
 }
 
-fn turn_of(alloc: Global, text: &[u8]) -> Result<Opening, Fail> {
+fn turn_of(alloc: Global, text: &[u8]) -> Result<Option<Turn>, Fail> {
     let problem = problem_of(alloc, text)?;
-    Ok(first_turn(&problem))
+    match first_turn(&problem) {
+        Opening::Turned(turn) => Ok(Some(turn)),
+        _ => Ok(None),
+    }
 }
 
 #[test]
 fn turns(rt: HostRuntime) -> Result<(), Fail> {
-    assert_eq!(rt; turn_of(rt.alloc(), NO_DEMAND)?, Opening::Full);
+    assert_eq!(rt; turn_of(rt.alloc(), NO_DEMAND)?, None);
     let turn = Turn { day: 1, x: D };
-    assert_eq!(rt; turn_of(rt.alloc(), D_ON_BOTH_DAYS)?, Opening::Turned(turn));
+    assert_eq!(rt; turn_of(rt.alloc(), D_ON_BOTH_DAYS)?, Some(turn));
     Ok(())
 }
 

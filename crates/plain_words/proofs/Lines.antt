@@ -7,8 +7,6 @@ use Rattle.refutation_terms.specs.declared.lines.Turn.{Turn}
 use Rattle.refutation_terms.specs.declared.lines.Line.{Line}
 use Rattle.refutation_terms.specs.declared.lines.Opening.{Opening}
 use Rattle.refutation_terms.specs.Log.{Log}
-use Rattle.refutation_log.specs.declared.cells.GivenCell.{GivenCell}
-use Rattle.refutation_log.specs.FillLog.{FillLog}
 use Rattle.crew_size.specs.Sizes.{with_weeks}
 use Rattle.crew_size.specs.Texts.{Staff, next_size}
 use Rattle.crew_size.specs.declared.run.StaffEnd.{StaffEnd}
@@ -17,8 +15,8 @@ use Rattle.plain_words.specs.declared.reason.Rosters.TheVariants.{Weeks}
 use Rattle.plain_words.specs.ReasonWords.{first_words}
 use Rattle.plain_words.specs.Fixed.{fixed}
 use Rattle.plain_words.specs.declared.pieces.TheConstants.{LINE_END, TOLD}
-use Rattle.plain_words.specs.Statements.{Statement, Cells, OfSize, statement_words, told_line, told_lines, Tells, Then}
-use Rattle.plain_words.specs.LogTold.{Are, IsLoneTurn, rule_statement, first_statement, counted_statements, reason_statements, IsReason, is_open, spent_statement, IsSaidBy, IsSaidOfLog, fill_statements_by, fill_statements, size_statements, IsSaidOfSize, IsSaidOfLast, AreSaidOfLogs, IsSaidOfEnd, AreSaidOfStaff}
+use Rattle.plain_words.specs.Statements.{Statement, OfSize, statement_words, told_line, told_lines, Tells, Then}
+use Rattle.plain_words.specs.LogTold.{Are, IsLoneTurn, rule_statement, first_statement, begin_statement, counted_statements, reason_statements, IsReason, is_open, spent_statement, IsSaidBy, IsSaidOfLog, size_statements, IsSaidOfSize, IsSaidOfLast, AreSaidOfLogs, IsSaidOfEnd, AreSaidOfStaff}
 use Rattle.plain_words.proofs.Joined.{behind, one_of, three_of, piece_then}
 
 -- lines behind others
@@ -58,13 +56,13 @@ first_line P w R old one two new a b c =
 -- a reason
 pub reason_told : (P : Instance) (w : Rosters) (g : Log) (lone : Option Turn) (o : Opening) (R : List ℕ) (lines more : List Line) (old first mid new : List ℕ)
     → o ≡ g.opening → R ≡ g.named → lines ≡ g.lines → more ≡ g.lines → IsLoneTurn P o lines lone
-    → first ≡ old ++ told_line P (first_statement w R) → mid ≡ first ++ told_lines P (map (rule_statement P lone) R)
+    → first ≡ old ++ told_line P (begin_statement o w R) → mid ≡ first ++ told_lines P (map (rule_statement P lone) R)
     → new ≡ mid ++ told_lines P (counted_statements P more) → Tells P (IsReason P w g) old new
 reason_told P w g lone o R lines more old first mid new own rules same rest is a b c = (
-  reason_statements P w g.named lone (counted_statements P g.lines),
+  reason_statements P g.opening w g.named lone (counted_statements P g.lines),
   (lone, subst (λ ls. IsLoneTurn P g.opening ls lone) same (subst (λ (q : Opening). IsLoneTurn P q lines lone) own is), refl),
-  told_front P (first_statement w g.named) (map (rule_statement P lone) g.named) (counted_statements P g.lines) old first mid new
-      (a ∙ ap (λ ks. old ++ told_line P (first_statement w ks)) rules)
+  told_front P (begin_statement g.opening w g.named) (map (rule_statement P lone) g.named) (counted_statements P g.lines) old first mid new
+      (a ∙ ap (λ q. old ++ told_line P (begin_statement q w R)) own ∙ ap (λ ks. old ++ told_line P (begin_statement g.opening w ks)) rules)
       (b ∙ ap (λ ks. first ++ told_lines P (map (rule_statement P lone) ks)) rules)
       (c ∙ ap (λ ls. mid ++ told_lines P (counted_statements P ls)) rest),
 )
@@ -78,19 +76,6 @@ spent_told P w g (suc n) lines old new same left some e = (
   subst (λ (k : ℕ). IsSaidBy k P w g (spent_statement w g.lines ∷ [])) left refl,
   one_of (told_line P) (spent_statement w g.lines) old new (e ∙ ap (λ ls. old ++ told_line P (spent_statement w ls)) same),
 )
-
--- a fill log with no open line
-pub fill_told : (P : Instance) (f : FillLog) (n : ℕ) (given : List GivenCell) (R : List ℕ) (lines : List Line) (old first mid new : List ℕ)
-    → n ≡ count_by is_open f.log.lines → n ≡ 0 → given ≡ f.given → R ≡ f.log.named → lines ≡ f.log.lines
-    → first ≡ old ++ told_line P (Cells given R) → mid ≡ first ++ told_lines P (map (rule_statement P None) R)
-    → new ≡ mid ++ told_lines P (counted_statements P lines) → new ≡ old ++ told_lines P (fill_statements P f)
-fill_told P f (suc n) given R lines old first mid new left none cells rules same a b c = absurd (omega (arith, none))
-fill_told P f zero given R lines old first mid new left none cells rules same a b c =
-    told_front P (Cells f.given f.log.named) (map (rule_statement P None) f.log.named) (counted_statements P f.log.lines) old first mid new
-    (a ∙ ap (λ g. old ++ told_line P (Cells g R)) cells ∙ ap (λ ks. old ++ told_line P (Cells f.given ks)) rules)
-    (b ∙ ap (λ ks. first ++ told_lines P (map (rule_statement P None) ks)) rules)
-    (c ∙ ap (λ ls. mid ++ told_lines P (counted_statements P ls)) same)
-    ∙ ap (λ (k : ℕ). old ++ told_lines P (fill_statements_by k P f)) left
 
 -- of another number of weeks
 sized_line : (P : Instance) (m : ℕ) (s : Statement) → told_line (with_weeks P m) s ≡ told_line P (OfSize m s)
@@ -114,10 +99,6 @@ logs_told P low logs before last old mid new front end said lines =
     let told : Tells P (IsSaidOfLast P low before (Some last)) old new = then_told P (IsSaidOfSize P (low + length before) last) (Are (size_statements low before)) old mid new said (tells_these P (size_statements low before) mid new lines) in
     subst (λ (ls : List Log). Tells P (IsSaidOfLast P low ls (slice_get logs (length logs - 1))) old new) front
     (subst (λ (l : Option Log). Tells P (IsSaidOfLast P low before l) old new) (sym end) told)
-
-pub no_logs_told : (P : Instance) (low : ℕ) (logs : List Log) (old : List ℕ) → logs ≡ [] → Tells P (AreSaidOfLogs P low logs) old old
-no_logs_told P low logs old none =
-    subst (λ (ls : List Log). Tells P (AreSaidOfLogs P low ls) old old) (sym none) ([], refl, sym (append-nil old))
 
 -- a search by numbers of weeks
 pub staff_told : (P : Instance) (run : Staff) (a b d : ℕ) (logs : List Log) (end : StaffEnd) (old mid new : List ℕ) → a ≡ run.low → b ≡ run.low → d ≡ run.low → logs ≡ run.logs → end ≡ run.end

@@ -11,7 +11,7 @@ use Rattle.refutation_terms.specs.declared.lines.Line.{Line}
 use Rattle.refutation_terms.specs.declared.lines.Line.TheVariants.{Closing}
 use Rattle.refutation_terms.specs.declared.lines.Leaf.TheVariants.{Blocks}
 use Rattle.refutation_terms.specs.declared.lines.Opening.{Opening}
-use Rattle.refutation_terms.specs.declared.lines.Opening.TheVariants.{Full, Turned}
+use Rattle.refutation_terms.specs.declared.lines.Opening.TheVariants.{Full, Turned, Given}
 use Rattle.refutation_terms.specs.Log.{Log}
 use Rattle.crew_size.specs.Sizes.{with_weeks}
 use Rattle.crew_size.specs.declared.run.StaffEnd.{StaffEnd}
@@ -20,8 +20,8 @@ use Rattle.plain_words.specs.declared.reason.Rosters.{Rosters}
 use Rattle.plain_words.specs.declared.reason.Rosters.TheVariants.{Weeks}
 use Rattle.plain_words.specs.Counting.{is_misfit}
 use Rattle.plain_words.specs.Statements.{Statement, Named, OnlyTurn, Counted, OfSize, Then}
-use Rattle.plain_words.specs.LogTold.{Are, IsLoneTurn, day_number, rule_statement, counts_blocks, is_counted, counted_if, counted_statements, first_statement, reason_statements, is_open, IsSaidBy, IsSaidOfSize, IsSaidOfLast, IsSaidOfEnd}
-use Rattle.plain_words.specs.Laws.{rule_in, NamedRulesAreSaid, FillRulesAreSaid, CountedAreLeavesOf, LogsSayOne, StaffsSayOne}
+use Rattle.plain_words.specs.LogTold.{Are, IsLoneTurn, day_number, rule_statement, counts_blocks, is_counted, counted_if, counted_statements, begin_statement, reason_statements, is_open, IsSaidBy, IsSaidOfSize, IsSaidOfLast, IsSaidOfEnd}
+use Rattle.plain_words.specs.Laws.{rule_in, NamedRulesAreSaid, CountedAreLeavesOf, LogsSayOne, StaffsSayOne}
 use Rattle.plain_words.proofs.Misfits.{misfits_are_leaves}
 
 -- rules
@@ -47,19 +47,19 @@ named_rules f names [] rest none = none
 named_rules f names (k ∷ R) rest none =
     ap (λ (l : List ℕ). l ++ flat_map rule_in (map f R ++ rest)) (names k) ∙ ap (λ (l : List ℕ). k ∷ l) (named_rules f names R rest none)
 
-first_rule : (w : Rosters) (R : List ℕ) → rule_in (first_statement w R) ≡ []
-first_rule w [] = refl
-first_rule w (k ∷ R) = refl
+begin_rule : (o : Opening) (w : Rosters) (R : List ℕ) → rule_in (begin_statement o w R) ≡ []
+begin_rule (Given given) w R = refl
+begin_rule Full w [] = refl
+begin_rule Full w (k ∷ R) = refl
+begin_rule (Turned t) w [] = refl
+begin_rule (Turned t) w (k ∷ R) = refl
 
 pub rules_said : NamedRulesAreSaid
 rules_said P w g statements is =
     let counted = counted_statements P g.lines in
     ap (flat_map rule_in) is.2
-    ∙ ap (λ (l : List ℕ). l ++ flat_map rule_in (map (rule_statement P is.0) g.named ++ counted)) (first_rule w g.named)
+    ∙ ap (λ (l : List ℕ). l ++ flat_map rule_in (map (rule_statement P is.0) g.named ++ counted)) (begin_rule g.opening w g.named)
     ∙ named_rules (rule_statement P is.0) (rule_of_statement P is.0) g.named counted (no_rules P g.lines 0 (shift_count P + 1))
-
-pub fill_rules_said : FillRulesAreSaid
-fill_rules_said P f = named_rules (rule_statement P None) (λ k. refl) f.log.named (counted_statements P f.log.lines) (no_rules P f.log.lines 0 (shift_count P + 1))
 
 -- leaves that count
 
@@ -75,9 +75,12 @@ rule_uncounted : (P : Instance) (lone : Option Turn) (k : ℕ) → Uncounted (ru
 rule_uncounted P None k x e = absurd (cc)
 rule_uncounted P (Some t) k x e = uncounted_by (k == day_number P t.day) t k x e
 
-first_uncounted : (w : Rosters) (R : List ℕ) → Uncounted (first_statement w R)
-first_uncounted w [] x e = absurd (cc)
-first_uncounted w (k ∷ R) x e = absurd (cc)
+begin_uncounted : (o : Opening) (w : Rosters) (R : List ℕ) → Uncounted (begin_statement o w R)
+begin_uncounted (Given given) w R x e = absurd (cc)
+begin_uncounted Full w [] x e = absurd (cc)
+begin_uncounted Full w (k ∷ R) x e = absurd (cc)
+begin_uncounted (Turned t) w [] x e = absurd (cc)
+begin_uncounted (Turned t) w (k ∷ R) x e = absurd (cc)
 
 -- it is behind the rules
 behind_one : (s : Statement) (rest : List Statement) (x : Symbol) → Uncounted s → Contains (s ∷ rest) (Counted x) → Contains rest (Counted x)
@@ -129,7 +132,7 @@ pub counted_said : CountedAreLeavesOf
 counted_said P w g statements x known is there =
     let counted = counted_statements P g.lines in
     let h = subst (λ (l : List Statement). Contains l (Counted x)) is.2 there in
-    let behind = behind_one (first_statement w g.named) (map (rule_statement P is.0) g.named ++ counted) x (first_uncounted w g.named) h in
+    let behind = behind_one (begin_statement g.opening w g.named) (map (rule_statement P is.0) g.named ++ counted) x (begin_uncounted g.opening w g.named) h in
     let c = counted_in P g.lines 0 (shift_count P + 1) x (behind_rules P is.0 g.named counted x behind) in
     let b = and_parts (list_any (counts_blocks x) g.lines) (is_misfit P x) c in
     (some_counts x g.lines b.0, (misfits_are_leaves P x).0 b.1)
@@ -141,6 +144,7 @@ IsOne Said = (a b : List Statement) → Said a → Said b → a ≡ b
 
 lone_one : (P : Instance) (o : Opening) (lines : List Line) (a b : Option Turn) → IsLoneTurn P o lines a → IsLoneTurn P o lines b → a ≡ b
 lone_one P Full lines a b is other = is ∙ sym other
+lone_one P (Given given) lines a b is other = is ∙ sym other
 lone_one P (Turned t) lines None None is other = refl
 lone_one P (Turned t) lines None (Some u) is other = absurd (other.1 is)
 lone_one P (Turned t) lines (Some u) None is other = absurd (is.1 other)
@@ -148,7 +152,7 @@ lone_one P (Turned t) lines (Some u) (Some v) is other = ap (λ (x : Turn). Some
 
 one_by : (n : ℕ) (P : Instance) (w : Rosters) (g : Log) → IsOne (IsSaidBy n P w g)
 one_by zero P w g a b is other =
-    is.2 ∙ ap (λ (l : Option Turn). reason_statements P w g.named l (counted_statements P g.lines)) (lone_one P g.opening g.lines is.0 other.0 is.1 other.1) ∙ sym other.2
+    is.2 ∙ ap (λ (l : Option Turn). reason_statements P g.opening w g.named l (counted_statements P g.lines)) (lone_one P g.opening g.lines is.0 other.0 is.1 other.1) ∙ sym other.2
 one_by (suc n) P w g a b is other = is ∙ sym other
 
 pub logs_say_one : LogsSayOne

@@ -9,7 +9,6 @@ use Rattle.refutation_terms.specs.declared.lines.Line.TheVariants.{Closing}
 use Rattle.refutation_terms.specs.declared.lines.Leaf.TheVariants.{Blocks}
 use Rattle.refutation_terms.specs.BlocksLeaf.{BlocksHold}
 use Rattle.refutation_terms.specs.Log.{Log}
-use Rattle.refutation_log.specs.FillLog.{FillLog}
 use Rattle.rwsp_file.specs.declared.long_numbers.LongNumber.{LongNumber}
 use Rattle.crew_size.specs.Texts.{Staff}
 use Rattle.plain_words.specs.declared.sentence.Sentence.{Sentence}
@@ -19,7 +18,7 @@ use Rattle.plain_words.specs.Sentences.{problem_sentences}
 use Rattle.plain_words.specs.Statements as Statements
 use Rattle.plain_words.specs.Statements.{Statement, Named, OnlyTurn}
 use Rattle.plain_words.specs.Told.{is_outside, first_outside}
-use Rattle.plain_words.specs.LogTold.{IsReason, IsSaidOfLog, fill_statements_by, AreSaidOfStaff}
+use Rattle.plain_words.specs.LogTold.{IsReason, IsSaidOfLog, AreSaidOfStaff}
 
 -- a sentence that says a rule
 abbrev pub says_rule : Sentence → Bool
@@ -49,10 +48,6 @@ abbrev pub NamedRulesAreSaid : Type 0
 NamedRulesAreSaid =
     (P : Instance) (w : Rosters) (g : Log) (statements : List Statement)
     → IsReason P w g statements → flat_map rule_in statements ≡ g.named
-
--- so too in what is said of a fill log with no open line
-abbrev pub FillRulesAreSaid : Type 0
-FillRulesAreSaid = (P : Instance) (f : FillLog) → flat_map rule_in (fill_statements_by 0 P f) ≡ f.log.named
 
 -- what is said to be counted are leaves of the log, and hold
 abbrev pub CountedAreLeavesOf : Type 0

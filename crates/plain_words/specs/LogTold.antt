@@ -1,4 +1,4 @@
--- Which statements are told of logs: with a goal or without, behind given cells, and of numbers of weeks.
+-- Which statements are told of logs: with a goal, with given cells or with neither, and of numbers of weeks.
 use Rattle.std.specs.Prelude.{◌≡◌, ℕ, zero, suc, ◌+◌, ◌-◌, ◌==◌, ◌&&◌, List, [], ◌∷◌, ◌++◌, map, length, take, slice_get, Bool, true, false, Option, Some, None, count_by, nat_lt, if◌then◌else◌}
 use Rattle.std.specs.List.{list_any, flat_map, range_with_len}
 use Rattle.rwsp_terms.specs.declared.data.Symbol.{Symbol}
@@ -9,13 +9,12 @@ use Rattle.rwsp_model.specs.RuleNumbers.{place_of}
 use Rattle.refutation_terms.specs.declared.lines.Turn.{Turn}
 use Rattle.refutation_terms.specs.declared.lines.Opening.{Opening}
 use Rattle.refutation_terms.specs.declared.lines.Opening.TheVariants.{Full, Turned}
+use Rattle.refutation_terms.specs.declared.lines.Opening.TheVariants as Openings
 use Rattle.refutation_terms.specs.declared.lines.Line.{Line}
 use Rattle.refutation_terms.specs.declared.lines.Line.TheVariants.{Closing, Unfinished}
 use Rattle.refutation_terms.specs.declared.lines.Leaf.TheVariants.{Blocks, Words}
 use Rattle.refutation_terms.specs.declared.lines.WordClaim.TheVariants.{Light}
 use Rattle.refutation_terms.specs.Log.{Log, Cites}
-use Rattle.refutation_log.specs.declared.cells.GivenCell.{GivenCell}
-use Rattle.refutation_log.specs.FillLog.{FillLog}
 use Rattle.crew_size.specs.Sizes.{with_weeks}
 use Rattle.crew_size.specs.Texts.{Staff, next_size}
 use Rattle.crew_size.specs.declared.run.StaffEnd.{StaffEnd}
@@ -37,6 +36,7 @@ SomeCites P lines r = (k : ℕ) × (line : Line) × (slice_get lines k ≡ Some 
 -- the turn, where no line rests on the rule of its day; so of that rule it is enough that somebody has the symbol then
 abbrev pub IsLoneTurn : Instance → Opening → List Line → Option Turn → Type 0
 IsLoneTurn P Full lines lone = lone ≡ None
+IsLoneTurn P (Openings.Given given) lines lone = lone ≡ None
 IsLoneTurn P (Turned t) lines None = SomeCites P lines (Day t.day)
 IsLoneTurn P (Turned t) lines (Some u) = (u ≡ t) × (SomeCites P lines (Day t.day) → ⊥)
 
@@ -71,16 +71,22 @@ abbrev pub first_statement : Rosters → List ℕ → Statement
 first_statement w [] = Whatever w
 first_statement w (k ∷ R) = Together w
 
--- what is said of a refutation that names these rules, from the turn that stands for its day, and of what it counts
-abbrev pub reason_statements : Instance → Rosters → List ℕ → Option Turn → List Statement → List Statement
-reason_statements P w R lone counted = first_statement w R ∷ (map (rule_statement P lone) R ++ counted)
+-- and where the log gives cells, they are said with the rules
+abbrev pub begin_statement : Opening → Rosters → List ℕ → Statement
+begin_statement (Openings.Given given) w R = Cells given R
+begin_statement o w R = first_statement w R
+
+-- what is said of a refutation with this opening that names these rules, from the turn that stands for its day, and of
+-- what it counts
+abbrev pub reason_statements : Instance → Opening → Rosters → List ℕ → Option Turn → List Statement → List Statement
+reason_statements P o w R lone counted = begin_statement o w R ∷ (map (rule_statement P lone) R ++ counted)
 
 -- what is said of a log with no open line, as one about these rosters: the rules that it names, and each symbol whose
 -- blocks it counts rightly
 abbrev pub IsReason : Instance → Rosters → Log → List Statement → Type 0
 IsReason P w g statements =
     (lone : Option Turn) × IsLoneTurn P g.opening g.lines lone
-    × (statements ≡ reason_statements P w g.named lone (counted_statements P g.lines))
+    × (statements ≡ reason_statements P g.opening w g.named lone (counted_statements P g.lines))
 
 abbrev pub is_open : Line → Bool
 is_open Unfinished = true
@@ -109,9 +115,17 @@ rosters_by None = Every
 rosters_by (Some zero) = Every
 rosters_by (Some (suc n)) = Free (suc n)
 
--- what is said of a log that was judged and names these rules, and has this goal or none
-abbrev pub accepted_statements : Instance → Option ℕ → List ℕ → List Statement
-accepted_statements P goal R = Plain LOG_PASSES.now ∷ reason_statements P (rosters_by goal) R None []
+-- and one that gives cells is about those that hold them
+abbrev pub rosters_from : Opening → Option ℕ → Rosters
+rosters_from (Openings.Given given) goal = Given
+rosters_from o goal = rosters_by goal
+
+abbrev pub rosters_of : Log → Rosters
+rosters_of g = rosters_from g.opening g.goal
+
+-- what is said of a log that was judged, has this opening and this goal or none, and names these rules
+abbrev pub accepted_statements : Instance → Opening → Option ℕ → List ℕ → List Statement
+accepted_statements P o goal R = Plain LOG_PASSES.now ∷ reason_statements P o (rosters_by goal) R None []
 
 -- how a search without a roster ended, by the lines of its log
 abbrev pub end_statement : List Line → Statement
@@ -127,24 +141,6 @@ leaves_statements before after = if nat_lt after before then Leaves before after
 -- what is said of a log that is left of one which names so many rules
 abbrev pub IsSaidOfReduced : Instance → (before : ℕ) → Log → List Statement → Type 0
 IsSaidOfReduced P before g = Then (Are (leaves_statements before (length g.named))) (IsSaidOfLog P Every g)
-
--- Given cells.
-
-abbrev pub named_statements : Instance → List ℕ → List Statement
-named_statements P R = map (rule_statement P None) R
-
-abbrev pub fill_statements_by : (left : ℕ) → Instance → FillLog → List Statement
-fill_statements_by zero P f =
-    Cells f.given f.log.named ∷ (named_statements P f.log.named ++ counted_statements P f.log.lines)
-fill_statements_by (suc n) P f = spent_statement Given f.log.lines ∷ []
-
--- what is said of a fill log: its cells, its rules, and each symbol whose blocks it counts rightly; or how far it came
-abbrev pub fill_statements : Instance → FillLog → List Statement
-fill_statements P f = fill_statements_by (count_by is_open f.log.lines) P f
-
--- what is said of one that was judged
-abbrev pub fill_shown_statements : Instance → List GivenCell → List ℕ → List Statement
-fill_shown_statements P given R = Plain LOG_PASSES.now ∷ Cells given R ∷ named_statements P R
 
 -- Numbers of weeks.
 

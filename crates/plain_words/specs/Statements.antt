@@ -7,7 +7,7 @@ use Rattle.rwsp_terms.specs.declared.data.Symbol.{Symbol}
 use Rattle.rwsp_terms.specs.Instance.{Instance}
 use Rattle.rwsp_terms.specs.Rules.{rule_of}
 use Rattle.refutation_terms.specs.declared.lines.Turn.{Turn}
-use Rattle.refutation_log.specs.declared.cells.GivenCell.{GivenCell}
+use Rattle.refutation_terms.specs.declared.cells.GivenCell.{GivenCell}
 use Rattle.roster_checker.specs.declared.broken.Broken.{Broken}
 use Rattle.crew_size.specs.Sizes.{with_weeks}
 use Rattle.ways_out.specs.declared.change.Change.{Change}

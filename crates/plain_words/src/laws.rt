@@ -1,5 +1,5 @@
 // Laws of the definitions. Each function's contract is the law.
-ghost use Rattle.plain_words.specs.Laws.{RulesAreSaidOnce, CountedAreLeaves, NamedRulesAreSaid, FillRulesAreSaid, CountedAreLeavesOf, LogsSayOne, StaffsSayOne, BrokenDaysAreTold};
+ghost use Rattle.plain_words.specs.Laws.{RulesAreSaidOnce, CountedAreLeaves, NamedRulesAreSaid, CountedAreLeavesOf, LogsSayOne, StaffsSayOne, BrokenDaysAreTold};
 
 /// Each rule is said once, in the order of their numbers.
 pub fn rules_are_said_once()
@@ -14,11 +14,6 @@ pub fn counted_are_leaves()
 /// The rules in what is said of a refutation are those that it names, in order, once each.
 pub fn named_rules_are_said()
     ensures { NamedRulesAreSaid }
-{}
-
-/// So too in what is said of a fill log.
-pub fn fill_rules_are_said()
-    ensures { FillRulesAreSaid }
 {}
 
 /// What is said to be counted is a leaf of the log, and holds.

@@ -20,12 +20,11 @@ mod way_words;
 mod words;
 
 pub use laws::{
-    broken_days_are_told, counted_are_leaves, counted_are_leaves_of, fill_rules_are_said,
-    logs_say_one, named_rules_are_said, rules_are_said_once, staffs_say_one,
+    broken_days_are_told, counted_are_leaves, counted_are_leaves_of, logs_say_one,
+    named_rules_are_said, rules_are_said_once, staffs_say_one,
 };
 pub use log_told::{
-    put_accepted_told, put_end_told, put_fill_shown_told, put_fill_told, put_log_told,
-    put_reduced_told, put_staff_told, rosters_by,
+    put_accepted_told, put_end_told, put_log_told, put_reduced_told, put_staff_told, rosters_of,
 };
 pub use pieces::Done;
 pub use problem::{problem_words, put_slips_told};

@@ -1,4 +1,4 @@
-// What is told of logs: with a goal or without, behind given cells, and of numbers of weeks.
+// What is told of logs: with a goal, with given cells or with neither, and of numbers of weeks.
 ghost use Rattle.std.specs.Prelude.{◌≡◌, ◌↔◌, ◌++◌, ◌∷◌, ◌+◌, ◌-◌, ◌<◌, ◌≤◌, [], ℕ, length, map, take, slice_get, All, Bool, Option, Some, IfSome, IfOk, OnOk, IsTrue, MatchBool, count_by};
 ghost use Rattle.std.specs.List.{list_any, flat_map};
 ghost use Rattle.rwsp_terms.specs.declared.limits.TheConstants.{MOST_WEEKS};
@@ -6,12 +6,11 @@ ghost use Rattle.rwsp_terms.specs.declared.data.Rule.{Rule};
 ghost use Rattle.rwsp_terms.specs.Instance.{shift_count, symbol_numbered, IsDay, IsSymbol};
 ghost use Rattle.refutation_terms.specs.declared.lines.Line.{Line};
 ghost use Rattle.refutation_terms.specs.Log.{Log as LogValue, Cites, Fits, LineFits, OpeningFits};
-ghost use Rattle.refutation_log.specs.FillReading.{IsCellOf, FillFits};
 ghost use Rattle.crew_size.specs.Sizes.{with_weeks, IsSize};
 ghost use Rattle.crew_size.specs.Fitting.{EndFits, FitsSizes};
 ghost use Rattle.plain_words.specs.Statements as Told;
 ghost use Rattle.plain_words.specs.Statements.{told_line, told_lines, Tells};
-ghost use Rattle.plain_words.specs.LogTold.{SomeCites, IsLoneTurn, rule_statement, counts_blocks, is_counted, counted_if, counted_statements, IsReason, is_open, is_closed, spent_statement, IsSaidOfLog, rosters_by, accepted_statements, end_statement, leaves_statements, IsSaidOfReduced, named_statements, fill_statements, fill_shown_statements, size_statement, size_statements, IsSaidOfSize, AreSaidOfLogs, none_below, IsSaidOfEnd, AreSaidOfStaff};
+ghost use Rattle.plain_words.specs.LogTold.{SomeCites, IsLoneTurn, rule_statement, counts_blocks, is_counted, counted_if, counted_statements, IsReason, is_open, is_closed, spent_statement, IsSaidOfLog, begin_statement, rosters_by, rosters_of, accepted_statements, end_statement, leaves_statements, IsSaidOfReduced, size_statement, size_statements, IsSaidOfSize, AreSaidOfLogs, none_below, IsSaidOfEnd, AreSaidOfStaff};
 
 use crate::counted::is_misfit;
 use crate::pieces::{AT_ONCE, BY_A_COUNT, BY_CASES, BY_WEIGHTS, Done, LINES_OF_CASES, LOG_PASSES};
@@ -23,7 +22,7 @@ use crate::statement::{
     put_spent_line, put_turn_line,
 };
 use crew_size::{StaffEnd, StaffRun, with_weeks};
-use refutation_log::{FillLog, GivenCell, Log, put_cited};
+use refutation_log::{Log, put_cited};
 use refutation_terms::{Leaf, Line, Opening, Turn, WordClaim};
 use rwsp_model::Problem;
 use rwsp_terms::{Rule, RuleList, Symbol};
@@ -65,13 +64,13 @@ fn some_cites_day(
 fn lone_turn(
     alloc: Global,
     problem: &Problem,
-    opening: Opening,
+    opening: &Opening,
     lines: &[Line],
 ) -> Result<Option<Turn>, AllocError>
     requires fits { (goal : Option ℕ) × (counts : Bool)
         × ((k : ℕ) (line : Line) → slice_get lines.now k ≡ Some line → LineFits problem.now goal counts line) }
-    requires opening { OpeningFits problem.now opening }
-    ensures turn { IfOk result (IsLoneTurn problem.now opening lines.now) }
+    requires opening { OpeningFits problem.now opening.now }
+    ensures turn { IfOk result (IsLoneTurn problem.now opening.now lines.now) }
     ensures own { IfOk result (λ lone. IfSome lone (λ t. IsDay problem.now t.day × IsSymbol problem.now t.x)) }
 {
     let Opening::Turned(turn) = opening else {
@@ -80,7 +79,7 @@ fn lone_turn(
     if some_cites_day(alloc, problem, lines, turn.day)? {
         Ok(None)
     } else {
-        Ok(Some(turn))
+        Ok(Some(*turn))
     }
 }
 
@@ -152,15 +151,34 @@ fn put_counts_told(out: &mut Vec<u8>, problem: &Problem, lines: &[Line]) -> Done
     Ok(())
 }
 
+// The line before the rules: of the cells that are given, or of which rosters there is none.
+fn put_begin_line(
+    out: &mut Vec<u8>,
+    problem: &Problem,
+    opening: &Opening,
+    rosters: Rosters,
+    rules: &[u32],
+) -> Done
+    requires { OpeningFits problem.now opening.now }
+    ensures { OnOk result (out.new.items
+        ≡ out.old.items ++ told_line problem.now (begin_statement opening.now rosters rules.now)) }
+{
+    match opening {
+        Opening::Given(given) => put_cells_line(out, problem, given.cells(), rules),
+        Opening::Full | Opening::Turned(_) => put_first_line(out, problem, rosters, rules),
+    }
+}
+
 // Tells of a log with no open line.
 fn put_reason_told(out: &mut Vec<u8>, problem: &Problem, rosters: Rosters, log: &Log) -> Done
     requires { Fits problem.now log.now }
     ensures { OnOk result (Tells problem.now (IsReason problem.now rosters log.now) out.old.items out.new.items) }
 {
     let alloc = *out.allocator();
-    let lone = lone_turn(alloc, problem, log.opening(), log.lines())?;
+    let opening = log.opening();
+    let lone = lone_turn(alloc, problem, opening, log.lines())?;
     let rules = log.named().numbers();
-    put_first_line(out, problem, rosters, rules)?;
+    put_begin_line(out, problem, opening, rosters, rules)?;
     put_rules_told(out, problem, lone, rules)?;
     put_counts_told(out, problem, log.lines())?;
     Ok(())
@@ -210,8 +228,8 @@ pub fn put_log_told(out: &mut Vec<u8>, problem: &Problem, rosters: Rosters, log:
     }
 }
 
-/// The rosters that a log with this goal or none is about.
-pub fn rosters_by(goal: Option<u32>) -> Rosters
+// The rosters that a log with this goal or none is about.
+fn rosters_by(goal: Option<u32>) -> Rosters
     ensures { result ≡ rosters_by goal }
 {
     match goal {
@@ -220,18 +238,30 @@ pub fn rosters_by(goal: Option<u32>) -> Rosters
     }
 }
 
-/// Tells of a log that was judged, which names these rules, and has this goal or none.
+/// The rosters that a log is about: those with its given cells, if it gives any, or those of its goal.
+pub fn rosters_of(log: &Log) -> Rosters
+    ensures { result ≡ rosters_of log.now }
+{
+    match log.opening() {
+        Opening::Given(_) => Rosters::Given,
+        Opening::Full | Opening::Turned(_) => rosters_by(log.goal()),
+    }
+}
+
+/// Tells of a log that was judged, which has this opening and this goal or none, and names these rules.
 pub fn put_accepted_told(
     out: &mut Vec<u8>,
     problem: &Problem,
+    opening: &Opening,
     goal: Option<u32>,
     rules: &[u32],
 ) -> Done
+    requires { OpeningFits problem.now opening.now }
     ensures { OnOk result (out.new.items
-        ≡ out.old.items ++ told_lines problem.now (accepted_statements problem.now goal rules.now)) }
+        ≡ out.old.items ++ told_lines problem.now (accepted_statements problem.now opening.now goal rules.now)) }
 {
     put_plain_told(out, problem, LOG_PASSES)?;
-    put_first_line(out, problem, rosters_by(goal), rules)?;
+    put_begin_line(out, problem, opening, rosters_by(goal), rules)?;
     put_rules_told(out, problem, None, rules)
 }
 
@@ -276,41 +306,6 @@ pub fn put_reduced_told(out: &mut Vec<u8>, problem: &Problem, before: usize, log
     put_leaves_told(out, problem, before, log.named().numbers().len())?;
     put_log_told(out, problem, Rosters::Every, log)?;
     Ok(())
-}
-
-/// Tells of a fill log: its cells, its rules, and the symbols whose blocks it counts rightly, or how far it came.
-#[tactic(auto, using(crate::proofs::Lines::fill_told))]
-pub fn put_fill_told(out: &mut Vec<u8>, problem: &Problem, fill: &FillLog) -> Done
-    requires { FillFits problem.now fill.now }
-    ensures { OnOk result (out.new.items
-        ≡ out.old.items ++ told_lines problem.now (fill_statements problem.now fill.now)) }
-{
-    let lines = fill.log.lines();
-    if count_open(lines) == 0 {
-        let rules = fill.log.named().numbers();
-        put_cells_line(out, problem, fill.given.cells(), rules)?;
-        put_rules_told(out, problem, None, rules)?;
-        put_counts_told(out, problem, lines)?;
-        Ok(())
-    } else {
-        put_spent_by(out, problem, Rosters::Given, lines)
-    }
-}
-
-/// Tells of a fill log that was judged, with these cells and these rules.
-pub fn put_fill_shown_told(
-    out: &mut Vec<u8>,
-    problem: &Problem,
-    given: &[GivenCell],
-    rules: &[u32],
-) -> Done
-    requires { All (IsCellOf problem.now) given.now }
-    ensures { OnOk result (out.new.items
-        ≡ out.old.items ++ told_lines problem.now (fill_shown_statements problem.now given.now rules.now)) }
-{
-    put_plain_told(out, problem, LOG_PASSES)?;
-    put_cells_line(out, problem, given, rules)?;
-    put_rules_told(out, problem, None, rules)
 }
 
 // The line of a log for so many weeks.

@@ -2,7 +2,7 @@
 ghost use Rattle.std.specs.Prelude.{◌≡◌, ◌++◌, All, OnOk};
 ghost use Rattle.std.specs.List.{flat_map};
 ghost use Rattle.rwsp_terms.specs.Instance.{IsSymbol};
-ghost use Rattle.refutation_log.specs.FillReading.{IsCellOf};
+ghost use Rattle.refutation_log.specs.Printing.{IsCellOf};
 ghost use Rattle.plain_words.specs.ReasonWords.{weekends_words, rosters_words, unknown_words, first_words, next_number, by_numbers, works_words, held_words, given_words, and_rules_words, cells_words};
 
 use crate::pieces::{
@@ -11,7 +11,7 @@ use crate::pieces::{
     WHATEVER_RULES, WHOLE, WITH, WORKS, put,
 };
 use crate::words::{put_count, put_name_words, put_weeks};
-use refutation_log::GivenCell;
+use refutation_terms::GivenCell;
 use rwsp_model::Problem;
 use rwsp_terms::Symbol;
 use rwsp_text::put_number;

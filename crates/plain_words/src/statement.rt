@@ -1,7 +1,7 @@
 // The lines of statements about answers.
 ghost use Rattle.std.specs.Prelude.{◌≡◌, ◌++◌, ◌∷◌, [], ◌≤◌, ◌-◌, All, OnOk};
 ghost use Rattle.rwsp_terms.specs.Instance.{IsSymbol};
-ghost use Rattle.refutation_log.specs.FillReading.{IsCellOf};
+ghost use Rattle.refutation_log.specs.Printing.{IsCellOf};
 ghost use Rattle.plain_words.specs.Statements as Told;
 ghost use Rattle.plain_words.specs.Statements.{fewer_words, statement_words, told_line, told_lines};
 ghost use Rattle.plain_words.specs.LogTold.{first_statement};
@@ -17,8 +17,7 @@ use crate::reason::{
 };
 use crate::rule_words::put_numbered;
 use crate::words::{put_count, put_range, put_weeks};
-use refutation_log::GivenCell;
-use refutation_terms::Turn;
+use refutation_terms::{GivenCell, Turn};
 use rwsp_model::Problem;
 use rwsp_terms::{Bounds, Symbol};
 use rwsp_text::put_number;

@@ -5,13 +5,13 @@ use Rattle.std.proofs.lemmas.List.{append-nil, take_all}
 use Rattle.std.proofs.lemmas.List.Elements.{All-nil, All-cons, All-append}
 use Rattle.rwsp_terms.specs.Instance.{Instance}
 use Rattle.refutation_terms.specs.declared.lines.Line.{Line}
+use Rattle.refutation_terms.specs.declared.lines.Opening.{Opening}
 use Rattle.refutation_terms.specs.LogText.{lines_text}
 use Rattle.refutation_log.specs.Printing.{EachFits}
 use Rattle.domain_store.specs.States.{State, IsStateOf}
-use Rattle.refutation_checker.specs.Starts.{Head, Start, StandsBehind, IsBehindHead, LeavesOpen}
+use Rattle.refutation_checker.specs.Starts.{Start, StandsBehind}
 use Rattle.refutation_checker.specs.UnreadSplits.{UnreadSplit, EndInside}
 use Rattle.refutation_checker.specs.Chunks.{feeds, line_count, EndsLines, IsCutOff, AreChunks, IsJudgeable, IsFew}
-use Rattle.refutation_checker.proofs.OpenTrees.{leaves_open}
 use Rattle.refutation_checker.proofs.Feeds.{lines_of_both, some_line}
 use Rattle.refutation_log.proofs.LogLines.{some_bytes}
 
@@ -55,11 +55,11 @@ last_lines P goal counts (d ∷ chunks) c lines are =
     }
 
 -- the chunks so far, and the splits that are open behind them, where the rest begins
-pub record IsOpen (P : Instance) (goal : Option ℕ) (counts : Bool) (size : ℕ) (o : Head) (bytes : List ℕ) (before : List UnreadSplit) (chunks : List Start) (rest : Start) : Type 0 where
-  pub inside : (lines : List Line) → AreLinesOf P goal counts chunks lines → EndInside P goal counts before lines × StandsBehind P o lines rest
+pub record IsOpen (P : Instance) (goal : Option ℕ) (counts : Bool) (size : ℕ) (o : Opening) (bytes : List ℕ) (before : List UnreadSplit) (chunks : List Start) (rest : Start) : Type 0 where
+  pub inside : (lines : List Line) → AreLinesOf P goal counts chunks lines → EndInside P goal counts before lines × StandsBehind P goal counts o lines rest
   pub goes_on : (more : List Start) → ((lines : List Line) → AreLinesOf P goal counts chunks lines → AreChunks P goal counts o size lines rest.bytes more) → AreChunks P goal counts o size [] bytes (chunks ++ more)
 
-abbrev pub IsOpenOrDone : Instance → Option ℕ → Bool → ℕ → Head → List ℕ → List UnreadSplit → List Start → Option Start → Type 0
+abbrev pub IsOpenOrDone : Instance → Option ℕ → Bool → ℕ → Opening → List ℕ → List UnreadSplit → List Start → Option Start → Type 0
 IsOpenOrDone P goal counts size o bytes before chunks None = AreChunks P goal counts o size [] bytes chunks
 IsOpenOrDone P goal counts size o bytes before chunks (Some rest) = IsOpen P goal counts size o bytes before chunks rest
 
@@ -77,7 +77,7 @@ pub record CutSoFar (P : Instance) (goal : Option ℕ) (counts : Bool) (size : �
   pub short : length chunks + length (bytes_left rest) ≤ length all.bytes
   pub count : AreFewSoFar size all.bytes (length chunks) (bytes_left rest)
   pub each : All (IsJudgeable P) chunks
-  pub parts : (o : Head) → StandsBehind P o [] all → IsOpenOrDone P goal counts size o all.bytes before chunks rest
+  pub parts : (o : Opening) → StandsBehind P goal counts o [] all → IsOpenOrDone P goal counts size o all.bytes before chunks rest
 
 -- nothing was cut off
 pub cut_none : (P : Instance) (goal : Option ℕ) (counts : Bool) (size : ℕ) (all : Start) (before : List UnreadSplit) (chunks : List Start) → IsJudgeable P all → all.bytes ≢ [] → before ≡ [] → chunks ≡ [] → CutSoFar P goal counts size all before chunks (Some all)
@@ -90,42 +90,42 @@ cut_none P goal counts size all before chunks h some none empty =
       count = inr (omega arith);
       each = All-nil (IsJudgeable P);
       parts = λ o st. record {
-        inside = λ lines are. (are, subst (λ ls. StandsBehind P o ls all) (sym are) st);
+        inside = λ lines are. (are, subst (λ ls. StandsBehind P goal counts o ls all) (sym are) st);
         goes_on = λ more f. f [] refl;
       };
     }))
 
 -- a chunk begins where what it was cut off began
-same_place : (P : Instance) (o : Head) (earlier : List Line) (old chunk : Start) → chunk.walk ≡ old.walk → chunk.first ≡ old.first → chunk.missing ≡ old.missing → StandsBehind P o earlier old → StandsBehind P o earlier chunk
-same_place P o earlier old chunk e f m h = record { state = subst (IsBehindHead P o earlier) (sym e) h.state; counted = f ∙ h.counted; trees = subst (LeavesOpen earlier) (sym m) h.trees }
+same_place : (P : Instance) (goal : Option ℕ) (counts : Bool) (o : Opening) (earlier : List Line) (old chunk : Start) → chunk.walk ≡ old.walk → chunk.first ≡ old.first → StandsBehind P goal counts o earlier old → StandsBehind P goal counts o earlier chunk
+same_place P goal counts o earlier old chunk e f h = record { state = subst (IsStateOf P o earlier) (sym e) h.state; counted = f ∙ h.counted }
 
-cut_last : (P : Instance) (goal : Option ℕ) (counts : Bool) (size : ℕ) (o : Head) (bytes : List ℕ) (start : State) (before after : List UnreadSplit) (chunks : List Start) (old chunk : Start) → IsBehindHead P o [] start → IsOpen P goal counts size o bytes before chunks old → IsCutOff P goal counts size start before after old chunk None → AreChunks P goal counts o size [] bytes (chunks ++ chunk ∷ [])
+cut_last : (P : Instance) (goal : Option ℕ) (counts : Bool) (size : ℕ) (o : Opening) (bytes : List ℕ) (start : State) (before after : List UnreadSplit) (chunks : List Start) (old chunk : Start) → IsStateOf P o [] start → IsOpen P goal counts size o bytes before chunks old → IsCutOff P goal counts size start before after old chunk None → AreChunks P goal counts o size [] bytes (chunks ++ chunk ∷ [])
 cut_last P goal counts size o bytes start before after chunks old chunk st opened c =
     opened.goes_on (chunk ∷ []) (λ lines are.
     let i = opened.inside lines are in
     let same : chunk.bytes ≡ old.bytes = ap (λ (s : Start). s.bytes) c.0 in (
-      subst (StandsBehind P o lines) (sym c.0) i.1,
+      subst (StandsBehind P goal counts o lines) (sym c.0) i.1,
       record { end = c.1.0; lines = c.1.1; cut = inr (same, c.1.2 o lines st i.0) },
       [],
       sym same ∙ sym (append-nil chunk.bytes),
       inl (refl, refl),
     ))
 
-cut_on : (P : Instance) (goal : Option ℕ) (counts : Bool) (size : ℕ) (o : Head) (bytes : List ℕ) (start : State) (before after : List UnreadSplit) (chunks : List Start) (old chunk rest : Start) → IsBehindHead P o [] start → IsOpen P goal counts size o bytes before chunks old → IsCutOff P goal counts size start before after old chunk (Some rest) → IsOpen P goal counts size o bytes after (chunks ++ chunk ∷ []) rest
+cut_on : (P : Instance) (goal : Option ℕ) (counts : Bool) (size : ℕ) (o : Opening) (bytes : List ℕ) (start : State) (before after : List UnreadSplit) (chunks : List Start) (old chunk rest : Start) → IsStateOf P o [] start → IsOpen P goal counts size o bytes before chunks old → IsCutOff P goal counts size start before after old chunk (Some rest) → IsOpen P goal counts size o bytes after (chunks ++ chunk ∷ []) rest
 cut_on P goal counts size o bytes start before after chunks old chunk rest st opened c = record {
   inside = λ lines are.
       let last = last_lines P goal counts chunks chunk lines are in
       let i = opened.inside last.front last.are in
       let to = c.8.passed last.front last.more i.0 last.fit last.text in
       let size_now : length (last.front ++ last.more) ≡ length last.front + length last.more = length-append last.front last.more in
-      subst (λ ls. EndInside P goal counts after ls × StandsBehind P o ls rest) (sym last.both) (
+      subst (λ ls. EndInside P goal counts after ls × StandsBehind P goal counts o ls rest) (sym last.both) (
         to.1,
-        record { state = c.8.walk o (last.front ++ last.more) st to.1; counted = omega (arith, to.0, c.1, i.1.counted, size_now); trees = subst (LeavesOpen (last.front ++ last.more)) (sym c.8.missing) (leaves_open P goal counts after (last.front ++ last.more) to.1) },
+        record { state = c.8.walk o (last.front ++ last.more) st to.1; counted = omega (arith, to.0, c.1, i.1.counted, size_now) },
       );
   goes_on = λ more f.
       subst (AreChunks P goal counts o size [] bytes) (sym (append_assoc chunks (chunk ∷ []) more))
       (opened.goes_on (chunk ∷ more) (λ lines are. (
-        same_place P o lines old chunk c.0 c.1 c.9 (opened.inside lines are).1,
+        same_place P goal counts o lines old chunk c.0 c.1 (opened.inside lines are).1,
         record { end = c.6.0; lines = c.6.1; cut = inl c.6.2 },
         rest.bytes,
         c.2,
@@ -177,13 +177,13 @@ chunk_judgeable : (P : Instance) (goal : Option ℕ) (counts : Bool) (size : ℕ
 chunk_judgeable P goal counts size start before after old chunk None h c = subst (IsJudgeable P) (sym c.0) h
 chunk_judgeable P goal counts size start before after old chunk (Some rest) h c =
     let long : length old.bytes ≡ length chunk.bytes + length rest.bytes = ap length c.2 ∙ length-append chunk.bytes rest.bytes in
-    ((h.0.0, h.0.1, subst (IsStateOf P h.0.0 h.0.1) (sym c.0) h.0.2), omega (arith, h.1, long, c.1), omega (arith, h.2, long, c.9))
+    ((h.0.0, h.0.1, subst (IsStateOf P h.0.0 h.0.1) (sym c.0) h.0.2), omega (arith, h.1, long, c.1))
 
 next_on : (P : Instance) (goal : Option ℕ) (counts : Bool) (size : ℕ) (start : State) (before after : List UnreadSplit) (old chunk : Start) (rest : Option Start) → IsCutOff P goal counts size start before after old chunk rest → IfSome rest (λ r. IsJudgeable P r × (r.bytes ≢ []))
 next_on P goal counts size start before after old chunk None c = tt
 next_on P goal counts size start before after old chunk (Some rest) c = (c.7, c.4)
 
-part_on : (P : Instance) (goal : Option ℕ) (counts : Bool) (size : ℕ) (o : Head) (bytes : List ℕ) (start : State) (before after : List UnreadSplit) (chunks : List Start) (old chunk : Start) (rest : Option Start) → IsBehindHead P o [] start → IsOpen P goal counts size o bytes before chunks old → IsCutOff P goal counts size start before after old chunk rest → IsOpenOrDone P goal counts size o bytes after (chunks ++ chunk ∷ []) rest
+part_on : (P : Instance) (goal : Option ℕ) (counts : Bool) (size : ℕ) (o : Opening) (bytes : List ℕ) (start : State) (before after : List UnreadSplit) (chunks : List Start) (old chunk : Start) (rest : Option Start) → IsStateOf P o [] start → IsOpen P goal counts size o bytes before chunks old → IsCutOff P goal counts size start before after old chunk rest → IsOpenOrDone P goal counts size o bytes after (chunks ++ chunk ∷ []) rest
 part_on P goal counts size o bytes start before after chunks old chunk None st opened c = cut_last P goal counts size o bytes start before after chunks old chunk st opened c
 part_on P goal counts size o bytes start before after chunks old chunk (Some rest) st opened c = cut_on P goal counts size o bytes start before after chunks old chunk rest st opened c
 
@@ -200,7 +200,7 @@ cut_more P goal counts size all start before after chunks more old chunk rest be
           subst (λ n. AreFewSoFar size all.bytes n (bytes_left rest)) (sym count)
           (few_on P goal counts size (length chunks) all.bytes start before after old chunk rest so.count so.next.1 c);
       each = All-append (IsJudgeable P) chunks (chunk ∷ []) so.each (All-cons (IsJudgeable P) chunk [] this (All-nil (IsJudgeable P)));
-      parts = λ o st. part_on P goal counts size o all.bytes start before after chunks old chunk rest (subst (IsBehindHead P o []) (sym begun) st.state) (so.parts o st) c;
+      parts = λ o st. part_on P goal counts size o all.bytes start before after chunks old chunk rest (subst (IsStateOf P o []) (sym begun) st.state) (so.parts o st) c;
     })
 
 pub cut_smaller : (P : Instance) (goal : Option ℕ) (counts : Bool) (size : ℕ) (start : State) (before after : List UnreadSplit) (left : Option Start) (old chunk : Start) (rest : Option Start) → left ≡ Some old → old.bytes ≢ [] → IsCutOff P goal counts size start before after old chunk rest → length (bytes_left rest) < length (bytes_left left)

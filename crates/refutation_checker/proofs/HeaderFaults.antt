@@ -9,7 +9,7 @@ use Rattle.rwsp_model.proofs.Numbering.{one_number}
 use Rattle.refutation_terms.specs.declared.lines.LogKind.{LogKind}
 use Rattle.refutation_terms.specs.declared.lines.LogRefusal.{LogRefusal}
 use Rattle.refutation_terms.specs.declared.lines.LogRefusal.TheVariants as Refusals
-use Rattle.refutation_terms.specs.Verdict.{Front, Start, Versioned, BeforeTurn, BeforeGoal, Reading, HasNoCause, Cause, IsRefusedBehindFront, IsRefused, IsLeast, IsUnnamed}
+use Rattle.refutation_terms.specs.Verdict.{Front, Start, Versioned, BeforeTurn, BeforeGoal, BeforeCells, Reading, HasNoCause, Cause, IsRefusedBehindFront, IsRefused, IsLeast, IsUnnamed}
 
 -- no line is refused for that the text ends
 never_ends : (P : Instance) (kind : LogKind) (front : Front) (line : List ℕ) → Cause P kind front line Refusals.Ends → ⊥
@@ -17,6 +17,7 @@ never_ends P kind Start line h = h
 never_ends P kind (Versioned v) line h = h
 never_ends P kind (BeforeTurn counts R) line h = h
 never_ends P kind (BeforeGoal counts R) line h = h
+never_ends P kind (BeforeCells R) line h = h
 never_ends P kind (Reading g) line h = elim h [ inl extra ↦ extra.1 | inr other ↦ other.1 ]
 
 pub refused_at_line : (P : Instance) (kind : LogKind) (text : List ℕ) (why : LogRefusal) → IsRefusedBehindFront P (HasNoCause P kind) (Cause P kind) text why → IsRefused P kind text why

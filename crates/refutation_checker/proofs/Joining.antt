@@ -7,12 +7,14 @@ use Rattle.rwsp_model.specs.declared.fail.Fail.{Fail}
 use Rattle.rwsp_model.specs.declared.fail.Fail.TheVariants.{Refused, Memory}
 use Rattle.refutation_terms.specs.LogText.{lines_text}
 use Rattle.refutation_terms.specs.declared.lines.Line.{Line}
+use Rattle.refutation_terms.specs.declared.lines.Opening.{Opening}
 use Rattle.refutation_terms.specs.declared.lines.LogRefusal.{LogRefusal}
 use Rattle.refutation_terms.specs.Tree.{IsTree}
 use Rattle.rwsp_text.specs.Lines.{IsNextLine}
+use Rattle.refutation_terms.specs.Verdict.{CauseBehind}
 use Rattle.refutation_log.specs.Printing.{EachFits}
-use Rattle.refutation_checker.specs.LineTexts.{Judging, CauseNext}
-use Rattle.refutation_checker.specs.Starts.{Head, Start}
+use Rattle.refutation_checker.specs.LineTexts.{Judging, log_of}
+use Rattle.refutation_checker.specs.Starts.{Start}
 use Rattle.refutation_checker.specs.Chunks.{AreChunks, EndWithFeed}
 use Rattle.refutation_checker.proofs.LastFeed.{no_feed_at_end}
 use Rattle.refutation_checker.specs.ChunkVerdicts.{AreSoundBehind, AreAllSound, IsChunkRefused, IsJudged, IsAnswerTo, joined_from}
@@ -34,17 +36,17 @@ answers_to J (c ∷ chunks) [] s d e h = absurd (omega (arith, e))
 answers_to J (c ∷ chunks) (a ∷ answers) s d e h = (h 0 (omega arith), answers_to J chunks answers s d (omega (arith, e)) (λ i less. h (suc i) (omega (arith, less))))
 
 -- lines that are sound fit
-fit_from_sound : (J : Judging) (o : Head) (earlier lines : List Line) → AreSoundBehind J o earlier lines → EachFits J.problem J.goal J.counts lines
+fit_from_sound : (J : Judging) (o : Opening) (earlier lines : List Line) → AreSoundBehind J o earlier lines → EachFits J.problem J.goal J.counts lines
 fit_from_sound J o earlier [] h = tt
 fit_from_sound J o earlier (l ∷ lines) h = (h.0.fits, fit_from_sound J o (earlier ++ l ∷ []) lines h.1)
 
 -- what follows a chunk: nothing, or chunks behind its lines, whatever they are
-abbrev pub IsFollowed : Judging → Head → ℕ → List Line → Start → List ℕ → List Start → Type 0
+abbrev pub IsFollowed : Judging → Opening → ℕ → List Line → Start → List ℕ → List Start → Type 0
 IsFollowed J o size earlier c below chunks =
     ((below ≡ []) × (chunks ≡ [])) ⊎ (EndWithFeed c.bytes × ((lines : List Line) → EachFits J.problem J.goal J.counts lines → c.bytes ≡ lines_text J.problem J.goal lines → AreChunks J.problem J.goal J.counts o size (earlier ++ lines) below chunks))
 
 -- a line of a chunk is one of the whole text
-next_in_all : (J : Judging) (o : Head) (size : ℕ) (earlier : List Line) (c : Start) (below : List ℕ) (chunks : List Start) (front line rest : List ℕ) → IsFollowed J o size earlier c below chunks → c.bytes ≡ front ++ line ++ rest → IsNextLine line rest → IsNextLine line (rest ++ below)
+next_in_all : (J : Judging) (o : Opening) (size : ℕ) (earlier : List Line) (c : Start) (below : List ℕ) (chunks : List Start) (front line rest : List ℕ) → IsFollowed J o size earlier c below chunks → c.bytes ≡ front ++ line ++ rest → IsNextLine line rest → IsNextLine line (rest ++ below)
 next_in_all J o size earlier c below chunks front line rest followed e next =
     elim next [
       | inl fed ↦ inl fed
@@ -56,7 +58,7 @@ next_in_all J o size earlier c below chunks front line rest followed e next =
       ]
     ]
 
-refused_in_front : (J : Judging) (o : Head) (size : ℕ) (earlier : List Line) (c : Start) (below bytes : List ℕ) (chunks : List Start) (why : LogRefusal) → IsFollowed J o size earlier c below chunks → bytes ≡ c.bytes ++ below → IsChunkRefused J o earlier c.bytes why → IsChunkRefused J o earlier bytes why
+refused_in_front : (J : Judging) (o : Opening) (size : ℕ) (earlier : List Line) (c : Start) (below bytes : List ℕ) (chunks : List Start) (why : LogRefusal) → IsFollowed J o size earlier c below chunks → bytes ≡ c.bytes ++ below → IsChunkRefused J o earlier c.bytes why → IsChunkRefused J o earlier bytes why
 refused_in_front J o size earlier c below bytes chunks why followed e r = record {
   lines = r.lines;
   line = r.line;
@@ -72,7 +74,7 @@ text_through : (P : Instance) (goal : Option ℕ) (front more : List Line) (byte
 text_through P goal front more bytes here below left e f g =
     e ∙ ap (λ t. t ++ below) f ∙ ap (λ t. lines_text P goal front ++ t) g ∙ sym (append_assoc (lines_text P goal front) (lines_text P goal more) left) ∙ ap (λ t. t ++ left) (sym (lines_joined P goal front more))
 
-judged_through : (J : Judging) (o : Head) (earlier front : List Line) (bytes here below : List ℕ) (a : Answer) → AreSoundBehind J o earlier front → here ≡ lines_text J.problem J.goal front → bytes ≡ here ++ below → IsJudged J o (earlier ++ front) below a → IsJudged J o earlier bytes a
+judged_through : (J : Judging) (o : Opening) (earlier front : List Line) (bytes here below : List ℕ) (a : Answer) → AreSoundBehind J o earlier front → here ≡ lines_text J.problem J.goal front → bytes ≡ here ++ below → IsJudged J o (earlier ++ front) below a → IsJudged J o earlier bytes a
 judged_through J o earlier front bytes here below (Ok whole) sound f e k = record {
   lines = front ++ k.lines;
   sound = sound_joined J o earlier front k.lines sound k.sound;
@@ -89,22 +91,22 @@ judged_through J o earlier front bytes here below (Err (Refused why)) sound f e 
       text_through J.problem J.goal front k.lines bytes here below (k.line ++ k.rest) e f (k.text ∙ append_assoc (lines_text J.problem J.goal k.lines) k.line k.rest)
       ∙ sym (append_assoc (lines_text J.problem J.goal (front ++ k.lines)) k.line k.rest);
   is_line = k.is_line;
-  cause = subst (λ ls. CauseNext J o ls k.line why) (append_assoc earlier front k.lines) k.cause;
+  cause = subst (λ ls. CauseBehind J.problem (log_of J o ls) k.line why) (append_assoc earlier front k.lines) k.cause;
 }
 
-nothing_below : (J : Judging) (o : Head) (size : ℕ) (earlier : List Line) (c : Start) (below : List ℕ) (whole : Bool) → IsFollowed J o size earlier c below [] → AreAllSound J o earlier c.bytes whole → below ≡ []
+nothing_below : (J : Judging) (o : Opening) (size : ℕ) (earlier : List Line) (c : Start) (below : List ℕ) (whole : Bool) → IsFollowed J o size earlier c below [] → AreAllSound J o earlier c.bytes whole → below ≡ []
 nothing_below J o size earlier c below whole followed all =
     elim followed [ inl none ↦ none.0 | inr goes ↦ goes.1 all.lines (fit_from_sound J o earlier all.lines all.sound) all.text ]
 
 -- the next chunk begins behind the lines that were judged
-goes_below : (J : Judging) (o : Head) (size : ℕ) (earlier : List Line) (c d : Start) (below : List ℕ) (chunks : List Start) (whole : Bool) → IsFollowed J o size earlier c below (d ∷ chunks) → (all : AreAllSound J o earlier c.bytes whole) → AreChunks J.problem J.goal J.counts o size (earlier ++ all.lines) below (d ∷ chunks)
+goes_below : (J : Judging) (o : Opening) (size : ℕ) (earlier : List Line) (c d : Start) (below : List ℕ) (chunks : List Start) (whole : Bool) → IsFollowed J o size earlier c below (d ∷ chunks) → (all : AreAllSound J o earlier c.bytes whole) → AreChunks J.problem J.goal J.counts o size (earlier ++ all.lines) below (d ∷ chunks)
 goes_below J o size earlier c d below chunks whole followed all =
     elim followed [
       | inl none ↦ absurd (let no : d ∷ chunks ≡ [] = none.1 in cc)
       | inr goes ↦ goes.1 all.lines (fit_from_sound J o earlier all.lines all.sound) all.text
     ]
 
-joined_behind : (J : Judging) (o : Head) (size : ℕ) (c : Start) (cs : List Start) (answers : List Answer) (earlier : List Line) (bytes : List ℕ) (before : Bool) → AreAnswersTo J (c ∷ cs) answers → AreChunks J.problem J.goal J.counts o size earlier bytes (c ∷ cs) → IsJudged J o earlier bytes (joined_from before answers)
+joined_behind : (J : Judging) (o : Opening) (size : ℕ) (c : Start) (cs : List Start) (answers : List Answer) (earlier : List Line) (bytes : List ℕ) (before : Bool) → AreAnswersTo J (c ∷ cs) answers → AreChunks J.problem J.goal J.counts o size earlier bytes (c ∷ cs) → IsJudged J o earlier bytes (joined_from before answers)
 joined_behind J o size c cs [] earlier bytes before are chunks = absurd are
 joined_behind J o size c cs (Err Memory ∷ answers) earlier bytes before are chunks = tt
 joined_behind J o size c cs (Err (Refused why) ∷ answers) earlier bytes before are chunks =
@@ -120,6 +122,6 @@ joined_behind J o size c (d ∷ cs) (Ok whole ∷ answers) earlier bytes before 
     judged_through J o earlier all.lines bytes c.bytes chunks.2 (joined_from whole answers) all.sound all.text chunks.3
     (joined_behind J o size d cs answers (earlier ++ all.lines) chunks.2 whole are.1 below)
 
-pub joined : (J : Judging) (o : Head) (size : ℕ) (chunks : List Start) (answers : List Answer) (earlier : List Line) (bytes : List ℕ) (before : Bool) → AreAnswersTo J chunks answers → AreChunks J.problem J.goal J.counts o size earlier bytes chunks → bytes ≢ [] → IsJudged J o earlier bytes (joined_from before answers)
+pub joined : (J : Judging) (o : Opening) (size : ℕ) (chunks : List Start) (answers : List Answer) (earlier : List Line) (bytes : List ℕ) (before : Bool) → AreAnswersTo J chunks answers → AreChunks J.problem J.goal J.counts o size earlier bytes chunks → bytes ≢ [] → IsJudged J o earlier bytes (joined_from before answers)
 joined J o size [] answers earlier bytes before are chunks some = absurd (some chunks)
 joined J o size (c ∷ cs) answers earlier bytes before are chunks some = joined_behind J o size c cs answers earlier bytes before are chunks

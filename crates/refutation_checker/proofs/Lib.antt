@@ -4,10 +4,10 @@ pub mod LineJudging
 pub mod Passing
 pub mod HeaderFaults
 pub mod SoundLines
-pub mod OpenTrees
 pub mod ChunkJudging
 pub mod Joining
 pub mod Deciding
+pub mod KnownCells
 pub mod SomeVerdict
 pub mod LeafJudging
 pub mod ShortTails
@@ -16,8 +16,3 @@ pub mod Unread
 pub mod Starts
 pub mod Feeds
 pub mod Cutting
-pub mod FillBehind
-pub mod FillPassing
-pub mod FillBodies
-pub mod FillVerdicts
-pub mod SomeFillVerdict

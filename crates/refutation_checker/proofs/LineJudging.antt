@@ -1,5 +1,5 @@
 -- The causes of a line, by its kind and by its text.
-use Rattle.std.proofs.Common.{◌≡◌, ℕ, ◌+◌, ◌<◌, List, [], ◌∷◌, ◌++◌, length, refl, sym, ◌∙◌, subst, arith, Option, inr, Bool}
+use Rattle.std.proofs.Common.{◌≡◌, ℕ, ◌+◌, ◌<◌, List, [], ◌∷◌, ◌++◌, length, refl, sym, ◌∙◌, subst, arith, Option, inr, Bool, true, false}
 use Rattle.rwsp_terms.specs.Instance.{Instance, cells}
 use Rattle.refutation_terms.specs.declared.lines.Line.{Line}
 use Rattle.refutation_terms.specs.declared.lines.Line.TheVariants.{Split, Closing}
@@ -12,13 +12,15 @@ use Rattle.refutation_terms.specs.Word.{Domains, AreSame}
 use Rattle.refutation_terms.specs.Tree.{IsTree, domains_at}
 use Rattle.refutation_terms.specs.Log.{Holds, LineFits, GoalFits}
 use Rattle.refutation_terms.specs.Verdict.{Spells, TreeCause, SplitsIdly, CauseBehind, header_lines}
+use Rattle.refutation_terms.proofs.Causes.{long_not_short, escaped_not_holding}
+use Rattle.refutation_terms.proofs.Spent.{open_holds_not}
 use Rattle.refutation_terms.proofs.SameDomains.{turned_round, same_idle, same_holds, same_escapes}
 use Rattle.refutation_terms.proofs.LineTables.{spelled_lines_fit}
 use Rattle.domain_store.specs.Store.{Store, BelongsTo, has_domain, IsStore, HasDomains}
 use Rattle.domain_store.specs.States.{State, IsStateOf}
 use Rattle.domain_store.proofs.Idle.{idle_in_store}
 use Rattle.refutation_checker.specs.LineVerdicts.{StandsPlainly, IsPlainlySound, IsIdleSplit, PlainCause, HoldsByWords, IsSoundLine, LineCause}
-use Rattle.refutation_checker.specs.LineTexts.{Judging, log_of, IsSoundUnder, HasCause, CauseUnder, IsLineRead, MayStep}
+use Rattle.refutation_checker.specs.LineTexts.{Judging, log_of, IsSoundUnder, HasCause, IsLineRead, MayStep}
 
 pub plain_is_cause : (P : Instance) (goal : Option ℕ) (named : List ℕ) (D : Domains) (n : ℕ) (line : Line) (why : LogRefusal) → PlainCause P goal named D n line why → LineCause P goal named D n line why
 plain_is_cause P goal named D n line (Refusals.Escape i w) h = absurd h
@@ -31,6 +33,21 @@ holds_in_all P goal D line h k = h
 
 pub sound_in_all : (P : Instance) (goal : Option ℕ) (named : List ℕ) (D : Domains) (line : Line) → IsPlainlySound P goal named D line → HoldsByWords P goal D line → IsSoundLine P goal named D line
 sound_in_all P goal named D line h k = record { named_all = h.named_all; short = h.short; holds = holds_in_all P goal D line h.stands k }
+
+-- a line that has a cause isn't sound
+
+idle_not_sound : (P : Instance) (goal : Option ℕ) (D : Domains) (line : Line) → IsIdleSplit P D line → Holds P goal D line → ⊥
+idle_not_sound P goal D (Split p x) idle holds = let clash : true ≡ false = sym idle ∙ holds in cc
+idle_not_sound P goal D leaf idle holds = absurd idle
+
+pub cause_not_sound : (P : Instance) (goal : Option ℕ) (named : List ℕ) (D : Domains) (n : ℕ) (line : Line) (why : LogRefusal) → LineCause P goal named D n line why → IsSoundLine P goal named D line → ⊥
+cause_not_sound P goal named D n line (Refusals.Unnamed i k) h s = h.1.0.3 (s.named_all h.1.0.0 h.1.0.2)
+cause_not_sound P goal named D n line (Refusals.Idle i) h s = idle_not_sound P goal D line h.1 s.holds
+cause_not_sound P goal named D n line (Refusals.Long i k) h s = long_not_short P line k s.short h.2.0
+cause_not_sound P goal named D n line (Refusals.Fails i) h s = h.3 s.holds
+cause_not_sound P goal named D n line (Refusals.Escape i w) h s = escaped_not_holding P goal D line w h.3 s.holds
+cause_not_sound P goal named D n line (Refusals.Unfinished i) h s = open_holds_not P goal D (subst (Holds P goal D) h.1 s.holds)
+cause_not_sound P goal named D n line why h s = absurd h
 
 -- under the same domains
 
@@ -78,13 +95,6 @@ pub read_next : (J : Judging) (o : Opening) (lines : List Line) (bytes : List �
 read_next J o lines bytes line w spelled part h =
     let fit = spelled_lines_fit J.problem J.goal J.counts bytes line spelled in
     record { spelled = fit.1; sound = record { in_tree = part; fits = fit.0; sound = h.0 }; walked = h.1 }
-
--- whatever its number is
-pub refused_there : (J : Judging) (o : Opening) (lines : List Line) (bytes : List ℕ) (line : Line) (n : ℕ) (why : LogRefusal)
-    → Spells J.problem J.goal J.counts bytes line → (IsTree lines → ⊥) → HasCause J (domains_at J.problem o lines (length lines)) n line why
-    → CauseUnder J lines (domains_at J.problem o lines (length lines)) n bytes why
-refused_there J o lines bytes line n why spelled part h =
-    inr (part, cause_of_text J.problem J.goal J.counts J.named (domains_at J.problem o lines (length lines)) n bytes line why spelled h)
 
 pub refused_next : (J : Judging) (o : Opening) (lines : List Line) (bytes : List ℕ) (line : Line) (n : ℕ) (why : LogRefusal)
     → Spells J.problem J.goal J.counts bytes line → (IsTree lines → ⊥) → n ≡ header_lines o J.goal J.counts + length lines + 1

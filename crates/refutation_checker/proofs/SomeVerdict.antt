@@ -11,30 +11,32 @@ use Rattle.rwsp_terms.specs.Instance.{Instance, least, symbol_of, name_of}
 use Rattle.rwsp_terms.specs.Rules.{Names}
 use Rattle.refutation_terms.specs.declared.lines.Line.{Line}
 use Rattle.refutation_terms.specs.declared.lines.Opening.{Opening}
-use Rattle.refutation_terms.specs.declared.lines.Opening.TheVariants.{Full, Turned}
+use Rattle.refutation_terms.specs.declared.lines.Opening.TheVariants.{Full, Turned, Given}
 use Rattle.refutation_terms.specs.declared.lines.Turn.{Turn}
+use Rattle.refutation_terms.specs.declared.cells.GivenCell.{GivenCell}
 use Rattle.refutation_terms.specs.declared.lines.LogKind.{LogKind}
-use Rattle.refutation_terms.specs.declared.lines.LogKind.TheVariants.{WithoutGoal, WithGoal}
+use Rattle.refutation_terms.specs.declared.lines.LogKind.TheVariants.{WithoutGoal, WithGoal, WithCells}
 use Rattle.refutation_terms.specs.declared.lines.Version.{Version}
-use Rattle.refutation_terms.specs.declared.lines.Version.TheVariants.{Version1, Version2, Version3, Free1, Free2}
+use Rattle.refutation_terms.specs.declared.lines.Version.TheVariants.{Version1, Version2, Version3, Free1, Free2, Fill1}
 use Rattle.refutation_terms.specs.declared.lines.LogRefusal.{LogRefusal}
 use Rattle.refutation_terms.specs.declared.lines.LogRefusal.TheVariants as Refusals
 use Rattle.refutation_terms.specs.Tree.{IsTree, domains_at}
 use Rattle.refutation_terms.specs.Log.{Log}
 use Rattle.refutation_terms.specs.Ranges.{AreRules}
-use Rattle.refutation_terms.specs.LogText.{RawLine, IsWritten, line_of, raw, line_text, version_text, rules_text, turn_text, no_turn_text, goal_text, header_text, lines_text}
+use Rattle.refutation_terms.specs.LogText.{RawLine, IsWritten, line_of, raw, line_text, version_text, rules_text, turn_text, no_turn_text, goal_text, cells_text, header_text, lines_text}
 use Rattle.rwsp_text.specs.Lines.{IsNextLine}
-use Rattle.refutation_terms.specs.Verdict.{kind_of, Start, Versioned, BeforeTurn, BeforeGoal, turn_version, goal_version, header_lines, SpellsNoOpening, TurnCause, CauseBehind, Spells, SpellsTurn, IsUnnamed, IsVerdict}
+use Rattle.refutation_terms.specs.Verdict.{kind_of, Front, Start, Versioned, BeforeTurn, BeforeGoal, BeforeCells, turn_version, goal_version, front_text, header_lines, HasNoCause, IsWhole, Cause, SpellsNoOpening, TurnCause, CauseBehind, Spells, SpellsTurn, IsUnnamed, IsVerdict}
 use Rattle.refutation_terms.proofs.LineTables.{spelled_lines_fit, symbol_of-name}
 use Rattle.refutation_log.specs.Headers.{BeginsWithHeader}
 use Rattle.refutation_log.specs.ReadLog.{HasLogsOf}
 use Rattle.refutation_checker.specs.Turns.{IsSoundTurn}
 use Rattle.refutation_checker.specs.ChunkVerdicts.{AreSoundBehind}
-use Rattle.refutation_checker.specs.LineTexts.{Judging, log_of, head_of, IsSoundNext}
+use Rattle.refutation_checker.specs.LineTexts.{Judging, log_of, IsSoundNext}
 use Rattle.refutation_checker.specs.Laws.{TextsHaveAVerdict}
 use Rattle.refutation_checker.proofs.HeaderFaults.{refused_at_line}
 use Rattle.refutation_checker.proofs.LineJudging.{refused_next}
 use Rattle.refutation_checker.proofs.Passing.{turned_text}
+use Rattle.refutation_checker.proofs.KnownCells.{spelled_cells}
 use Rattle.refutation_checker.proofs.SoundLines.{lines_joined, sound_joined, HasHeader, header_judged, accepted, ends, refused}
 use Rattle.refutation_checker.proofs.Deciding.{least_number, cited_is_named, line_stands}
 
@@ -90,7 +92,7 @@ abbrev RefusesNone : Judging → Opening → List Line → List ℕ → Type 0
 RefusesNone J o lines line = (why : LogRefusal) → CauseBehind J.problem (log_of J o lines) line why → ⊥
 
 abbrev Takes : Judging → Opening → List Line → List ℕ → Line → Type 0
-Takes J o lines line l = (line ≡ line_text J.problem (raw J.problem J.goal l)) × IsSoundNext J (head_of J o) lines l
+Takes J o lines line l = (line ≡ line_text J.problem (raw J.problem J.goal l)) × IsSoundNext J o lines l
 
 -- a line that is refused for no cause is a sound next line
 spelled_stands : (J : Judging) (o : Opening) (lines : List Line) (line : List ℕ) (written : RawLine) → RefusesNone J o lines line → ((l : Line) → Takes J o lines line l → ⊥) → (IsTree lines → ⊥) → IsWritten J.problem J.goal J.counts line written → (found : Option Line) → line_of J.problem written ≡ found → ⊥
@@ -110,7 +112,7 @@ line_read J o lines line none goes =
     none (Refusals.Form n) (inr (part, (refl, λ written w. spelled_stands J o lines line written none goes part w (line_of J.problem written) refl)))
 
 -- the lines behind a header, some of which have been read
-lines_on : (J : Judging) (kind : LogKind) (text body : List ℕ) (o : Opening) → HasHeader J kind text o body → HasNoVerdict J.problem kind text → (n : ℕ) (lines : List Line) (left : List ℕ) → length left < n → AreSoundBehind J (head_of J o) [] lines → body ≡ lines_text J.problem J.goal lines ++ left → ⊥
+lines_on : (J : Judging) (kind : LogKind) (text body : List ℕ) (o : Opening) → HasHeader J kind text o body → HasNoVerdict J.problem kind text → (n : ℕ) (lines : List Line) (left : List ℕ) → length left < n → AreSoundBehind J o [] lines → body ≡ lines_text J.problem J.goal lines ++ left → ⊥
 lines_on J kind text body o h none zero lines left few sound e = omega (arith, few)
 lines_on J kind text body o h none (suc n) lines [] few sound e =
     let all : body ≡ lines_text J.problem J.goal lines = e ∙ append-nil (lines_text J.problem J.goal lines) in
@@ -130,13 +132,32 @@ lines_on J kind text body o h none (suc n) lines (b ∷ left) few sound e =
       cause = c;
     })))
     (λ l takes.
-    lines_on J kind text body o h none n (lines ++ l ∷ []) next.rest (let less = next.shorter in omega (arith, few, less)) (sound_joined J (head_of J o) [] lines (l ∷ []) sound (takes.1, tt))
+    lines_on J kind text body o h none n (lines ++ l ∷ []) next.rest (let less = next.shorter in omega (arith, few, less)) (sound_joined J o [] lines (l ∷ []) sound (takes.1, tt))
     (text_on J.problem J.goal body (b ∷ left) next.line next.rest lines l e next.whole takes.0))
 
 body_on : (J : Judging) (kind : LogKind) (text body : List ℕ) (o : Opening) → HasLogsOf J.problem kind → BeginsWithHeader J.problem kind text J.named o J.goal J.counts body → IsSoundTurn J.problem J.named o → HasNoVerdict J.problem kind text → ⊥
 body_on J kind text body o has begins sound none = lines_on J kind text body o (header_judged J kind text o body has (begins, sound)) none (length body + 1) [] body (omega arith) tt refl
 
 -- the header
+
+-- behind a front that has no cause and isn't a whole log there is a line, and if it has no cause either, so on
+line_on : (P : Instance) (kind : LogKind) (text : List ℕ) (front : Front) (left : List ℕ) → HasNoVerdict P kind text → HasNoCause P kind front → (IsWhole front → ⊥) → text ≡ front_text P front ++ left
+    → ((line rest : List ℕ) → text ≡ front_text P front ++ (line ++ rest) → ((why : LogRefusal) → Cause P kind front line why → ⊥) → ⊥) → ⊥
+line_on P kind text front [] none sound part whole goes =
+    none (Err Refusals.Ends) (record { front = front; no_cause = sound; whole = whole ∙ append-nil (front_text P front); not_whole = part })
+line_on P kind text front (b ∷ left) none sound part whole goes =
+    let next = first_line b left in
+    let cut : text ≡ front_text P front ++ (next.line ++ next.rest) = whole ∙ ap (λ t. front_text P front ++ t) next.whole in
+    goes next.line next.rest cut
+    (λ why cause. none (Err why) (refused_at_line P kind text why (record {
+      front = front;
+      line = next.line;
+      rest = next.rest;
+      no_cause = sound;
+      whole = cut ∙ sym (append_assoc (front_text P front) next.line next.rest);
+      is_line = next.is_line;
+      cause = cause;
+    })))
 
 demanded_or_not : (z : ℤ) → (pos 1 ≤ℤ z) ⊎ (z <ℤ pos 1)
 demanded_or_not (pos zero) = inr (omega (arith, ints))
@@ -159,6 +180,9 @@ two_lines v R = version_text v ++ rules_text R
 no_turn : (P : Instance) (R : List ℕ) → IsSoundTurn P R Full
 no_turn P R = record { named_day = λ r c. absurd c; allowed = tt }
 
+no_turn_given : (P : Instance) (R : List ℕ) (given : List GivenCell) → IsSoundTurn P R (Given given)
+no_turn_given P R given = record { named_day = λ r c. absurd c; allowed = tt }
+
 turn_on : (P : Instance) (kind : LogKind) (counts : Bool) (text R line rest name : List ℕ) (day : ℕ) → WithoutGoal ≡ kind → HasLogsOf P kind → HasNoVerdict P kind text → RefusesTurn P counts R line → AreRules P R → text ≡ two_lines (turn_version counts) R ++ (line ++ rest) → SpellsTurn P line name day → (found : Option Symbol) → symbol_of P name ≡ found → ⊥
 turn_on P kind counts text R line rest name day is has none refuses rules whole spells None e = refuses (Refusals.Name 3) (refl, (name, day, spells, e))
 turn_on P kind counts text R line rest name day is has none refuses rules whole spells (Some x) e =
@@ -177,6 +201,7 @@ turn_on P kind counts text R line rest name day is has none refuses rules whole 
             rules = rules;
             fits = (spells.1, symbol.0);
             in_range = tt;
+            may_count = tt;
             whole =
                 whole ∙ ap (λ t. front ++ (t ++ rest)) own ∙ sym (append_assoc front (turn_text (name_of P x) day) rest)
                 ∙ ap (λ h. h ++ rest) (sym (turned_text P R (turn_of day x) counts));
@@ -192,98 +217,81 @@ opening_on P kind true text R line rest is has none refuses rules whole = (
   λ own.
       let front = two_lines Version3 R in
       body_on (judging P R None true) kind text rest Full has
-      (record { of_kind = is; rules = rules; fits = tt; in_range = tt; whole = whole ∙ ap (λ t. front ++ (t ++ rest)) own ∙ sym (append_assoc front no_turn_text rest) })
+      (record { of_kind = is; rules = rules; fits = tt; in_range = tt; may_count = tt; whole = whole ∙ ap (λ t. front ++ (t ++ rest)) own ∙ sym (append_assoc front no_turn_text rest) })
       (no_turn P R) none,
 )
 
 before_turn : (P : Instance) (kind : LogKind) (counts : Bool) (text R rest : List ℕ) → WithoutGoal ≡ kind → HasLogsOf P kind → HasNoVerdict P kind text → AreRules P R → text ≡ two_lines (turn_version counts) R ++ rest → ⊥
-before_turn P kind counts text R [] is has none rules whole =
-    none (Err Refusals.Ends) (record { front = BeforeTurn counts R; no_cause = (is, rules); whole = whole ∙ append-nil (two_lines (turn_version counts) R); not_whole = λ t. t })
-before_turn P kind counts text R (b ∷ rest) is has none rules whole =
-    let front = two_lines (turn_version counts) R in
-    let next = first_line b rest in
-    let cut : text ≡ front ++ (next.line ++ next.rest) = whole ∙ ap (λ t. front ++ t) next.whole in
-    let refuses : RefusesTurn P counts R next.line = λ why c.
-    none (Err why)
-    (refused_at_line P kind text why
-    (record { front = BeforeTurn counts R; line = next.line; rest = next.rest; no_cause = (is, rules); whole = cut ∙ sym (append_assoc front next.line next.rest); is_line = next.is_line; cause = c })) in
-    refuses (Refusals.Form 3) (refl, opening_on P kind counts text R next.line next.rest is has none refuses rules cut)
+before_turn P kind counts text R rest is has none rules whole =
+    line_on P kind text (BeforeTurn counts R) rest none (is, rules) (λ t. t) whole
+    (λ line later cut refuses. refuses (Refusals.Form 3) (refl, opening_on P kind counts text R line later is has none refuses rules cut))
 
 goal_header : (P : Instance) (R : List ℕ) (goal : ℕ) (counts : Bool) → header_text P R Full (Some goal) counts ≡ two_lines (goal_version counts) R ++ goal_text goal
 goal_header P R goal false = refl
 goal_header P R goal true = refl
 
 before_goal : (P : Instance) (kind : LogKind) (counts : Bool) (text R rest : List ℕ) → WithGoal ≡ kind → HasLogsOf P kind → HasNoVerdict P kind text → AreRules P R → text ≡ two_lines (goal_version counts) R ++ rest → ⊥
-before_goal P kind counts text R [] is has none rules whole =
-    none (Err Refusals.Ends) (record { front = BeforeGoal counts R; no_cause = (is, rules); whole = whole ∙ append-nil (two_lines (goal_version counts) R); not_whole = λ t. t })
-before_goal P kind counts text R (b ∷ rest) is has none rules whole =
+before_goal P kind counts text R rest is has none rules whole =
     let front = two_lines (goal_version counts) R in
-    let next = first_line b rest in
-    let cut : text ≡ front ++ (next.line ++ next.rest) = whole ∙ ap (λ t. front ++ t) next.whole in
-    none (Err (Refusals.Form 3))
-    (record {
-      front = BeforeGoal counts R;
-      line = next.line;
-      rest = next.rest;
-      no_cause = (is, rules);
-      whole = cut ∙ sym (append_assoc front next.line next.rest);
-      is_line = next.is_line;
-      cause = (
-        refl,
-        λ goal few own.
-            body_on (judging P R (Some goal) counts) kind text next.rest Full has
-            (record {
-              of_kind = is;
-              rules = rules;
-              fits = tt;
-              in_range = (refl, few);
-              whole =
-                  cut ∙ ap (λ t. front ++ (t ++ next.rest)) own ∙ sym (append_assoc front (goal_text goal) next.rest)
-                  ∙ ap (λ h. h ++ next.rest) (sym (goal_header P R goal counts));
-            })
-            (no_turn P R) none,
-      );
-    })
+    line_on P kind text (BeforeGoal counts R) rest none (is, rules) (λ t. t) whole
+    (λ line later cut refuses. refuses (Refusals.Form 3) (
+      refl,
+      λ goal few own.
+          body_on (judging P R (Some goal) counts) kind text later Full has
+          (record {
+            of_kind = is;
+            rules = rules;
+            fits = tt;
+            in_range = (refl, few);
+            may_count = tt;
+            whole =
+                cut ∙ ap (λ t. front ++ (t ++ later)) own ∙ sym (append_assoc front (goal_text goal) later)
+                ∙ ap (λ h. h ++ later) (sym (goal_header P R goal counts));
+          })
+          (no_turn P R) none,
+    ))
+
+before_cells : (P : Instance) (kind : LogKind) (text R rest : List ℕ) → WithCells ≡ kind → HasLogsOf P kind → HasNoVerdict P kind text → AreRules P R → text ≡ two_lines Fill1 R ++ rest → ⊥
+before_cells P kind text R rest is has none rules whole =
+    let front = two_lines Fill1 R in
+    line_on P kind text (BeforeCells R) rest none (is, rules) (λ t. t) whole
+    (λ line later cut refuses. refuses (Refusals.Form 3) (
+      refl,
+      λ named spells.
+          elim (spelled_cells P line named spells) [
+            | inr unknown ↦ refuses (Refusals.Name 3) (refl, (named, spells, unknown))
+            | inl k ↦
+                body_on (judging P R None true) kind text later (Given k.0) has
+                (record {
+                  of_kind = is;
+                  rules = rules;
+                  fits = k.1;
+                  in_range = tt;
+                  may_count = refl;
+                  whole = cut ∙ ap (λ t. front ++ (t ++ later)) k.2 ∙ sym (append_assoc front (cells_text P k.0) later);
+                })
+                (no_turn_given P R k.0) none
+          ],
+    ))
 
 third_on : (P : Instance) (kind : LogKind) (text R rest : List ℕ) (v : Version) → kind_of v ≡ kind → HasLogsOf P kind → HasNoVerdict P kind text → AreRules P R → text ≡ two_lines v R ++ rest → ⊥
 third_on P kind text R rest Version1 is has none rules whole =
-    body_on (judging P R None false) kind text rest Full has (record { of_kind = is; rules = rules; fits = tt; in_range = tt; whole = whole }) (no_turn P R) none
+    body_on (judging P R None false) kind text rest Full has (record { of_kind = is; rules = rules; fits = tt; in_range = tt; may_count = tt; whole = whole ∙ ap (λ h. h ++ rest) (sym (append-nil (two_lines Version1 R))) }) (no_turn P R) none
 third_on P kind text R rest Version2 is has none rules whole = before_turn P kind false text R rest is has none rules whole
 third_on P kind text R rest Version3 is has none rules whole = before_turn P kind true text R rest is has none rules whole
 third_on P kind text R rest Free1 is has none rules whole = before_goal P kind false text R rest is has none rules whole
 third_on P kind text R rest Free2 is has none rules whole = before_goal P kind true text R rest is has none rules whole
+third_on P kind text R rest Fill1 is has none rules whole = before_cells P kind text R rest is has none rules whole
 
 version_on : (P : Instance) (kind : LogKind) (text rest : List ℕ) (v : Version) → kind_of v ≡ kind → HasLogsOf P kind → HasNoVerdict P kind text → text ≡ version_text v ++ rest → ⊥
-version_on P kind text [] v is has none whole =
-    none (Err Refusals.Ends) (record { front = Versioned v; no_cause = (is, tt); whole = whole ∙ append-nil (version_text v); not_whole = λ t. t })
-version_on P kind text (b ∷ rest) v is has none whole =
-    let next = first_line b rest in
-    let cut : text ≡ version_text v ++ (next.line ++ next.rest) = whole ∙ ap (λ t. version_text v ++ t) next.whole in
-    none (Err (Refusals.Form 2))
-    (record {
-      front = Versioned v;
-      line = next.line;
-      rest = next.rest;
-      no_cause = (is, tt);
-      whole = cut ∙ sym (append_assoc (version_text v) next.line next.rest);
-      is_line = next.is_line;
-      cause = (
-        refl,
-        λ R rules own. third_on P kind text R next.rest v is has none rules (cut ∙ ap (λ t. version_text v ++ (t ++ next.rest)) own ∙ sym (append_assoc (version_text v) (rules_text R) next.rest)),
-      );
-    })
+version_on P kind text rest v is has none whole =
+    line_on P kind text (Versioned v) rest none (is, tt) (λ t. t) whole
+    (λ line later cut refuses. refuses (Refusals.Form 2) (
+      refl,
+      λ R rules own. third_on P kind text R later v is has none rules (cut ∙ ap (λ t. version_text v ++ (t ++ later)) own ∙ sym (append_assoc (version_text v) (rules_text R) later)),
+    ))
 
 pub some_verdict : TextsHaveAVerdict
-some_verdict P kind [] has none = none (Err Refusals.Ends) (record { front = Start; no_cause = (tt, tt); whole = refl; not_whole = λ t. t })
-some_verdict P kind (b ∷ text) has none =
-    let next = first_line b text in
-    none (Err (Refusals.Form 1))
-    (record {
-      front = Start;
-      line = next.line;
-      rest = next.rest;
-      no_cause = (tt, tt);
-      whole = next.whole;
-      is_line = next.is_line;
-      cause = (refl, λ v is own. version_on P kind (b ∷ text) next.rest v is has none (next.whole ∙ ap (λ t. t ++ next.rest) own));
-    })
+some_verdict P kind text has none =
+    line_on P kind text Start text none (tt, tt) (λ t. t) refl
+    (λ line later cut refuses. refuses (Refusals.Form 1) (refl, λ v is own. version_on P kind text later v is has none (cut ∙ ap (λ t. t ++ later) own)))

@@ -16,13 +16,14 @@ use Rattle.refutation_terms.specs.Tree.{lines_in, IsTree, opening, lines_leave}
 use Rattle.refutation_terms.proofs.Trees.{tree_has_lines}
 use Rattle.refutation_terms.specs.Log.{Log, Holds, Passes, GoalFits}
 use Rattle.refutation_terms.specs.LogText.{raw, line_text, log_text, lines_text, header_text}
-use Rattle.refutation_terms.specs.Verdict.{Reading, IsSoundSoFar, IsAccepted, IsRefused}
+use Rattle.refutation_terms.specs.Verdict.{Reading, IsSoundSoFar, IsRefused}
 use Rattle.refutation_log.specs.Headers.{BeginsWithHeader}
 use Rattle.refutation_log.specs.ReadLog.{HasLogsOf}
 use Rattle.refutation_log.proofs.HeaderLines.{goal_fits}
-use Rattle.refutation_checker.specs.Starts.{Head, Start, StandsBehind}
+use Rattle.refutation_checker.specs.Accepted.{IsPassedText, shown_by}
+use Rattle.refutation_checker.specs.Starts.{Start, StandsBehind}
 use Rattle.refutation_checker.specs.Turns.{IsSoundTurn}
-use Rattle.refutation_checker.specs.LineTexts.{Judging, log_of, head_of, IsSoundNext}
+use Rattle.refutation_checker.specs.LineTexts.{Judging, log_of, IsSoundNext}
 use Rattle.refutation_checker.specs.ChunkVerdicts.{AreSoundBehind, AreAllSound, IsChunkRefused, IsJudged}
 use Rattle.refutation_checker.proofs.HeaderFaults.{refused_at_line}
 
@@ -31,12 +32,12 @@ lines_joined P goal [] b = refl
 lines_joined P goal (l ∷ a) b =
     ap (λ t. line_text P (raw P goal l) ++ t) (lines_joined P goal a b) ∙ sym (append_assoc (line_text P (raw P goal l)) (lines_text P goal a) (lines_text P goal b))
 
-pub sound_joined : (J : Judging) (o : Head) (earlier a b : List Line) → AreSoundBehind J o earlier a → AreSoundBehind J o (earlier ++ a) b → AreSoundBehind J o earlier (a ++ b)
+pub sound_joined : (J : Judging) (o : Opening) (earlier a b : List Line) → AreSoundBehind J o earlier a → AreSoundBehind J o (earlier ++ a) b → AreSoundBehind J o earlier (a ++ b)
 sound_joined J o earlier [] b h k = subst (λ ls. AreSoundBehind J o ls b) (append-nil earlier) k
 sound_joined J o earlier (l ∷ a) b h k =
     (h.0, sound_joined J o (earlier ++ l ∷ []) a b h.1 (subst (λ ls. AreSoundBehind J o ls b) (sym (append_assoc earlier (l ∷ []) a)) k))
 
-pub sound_at : (J : Judging) (o : Head) (earlier lines : List Line) → AreSoundBehind J o earlier lines → (k : ℕ) (line : Line) → slice_get lines k ≡ Some line → IsSoundNext J o (earlier ++ take k lines) line
+pub sound_at : (J : Judging) (o : Opening) (earlier lines : List Line) → AreSoundBehind J o earlier lines → (k : ℕ) (line : Line) → slice_get lines k ≡ Some line → IsSoundNext J o (earlier ++ take k lines) line
 sound_at J o earlier [] h k line e = absurd (cc)
 sound_at J o earlier (l ∷ lines) h zero line e =
     let s : l ≡ line = cc in subst (IsSoundNext J o (earlier ++ [])) s (subst (λ ls. IsSoundNext J o ls l) (sym (append-nil earlier)) h.0)
@@ -54,22 +55,22 @@ header_judged J kind text o body has h = record { begins = h.0; goal_fits = goal
 
 -- sound lines behind a header
 
-pub sound_so_far : (J : Judging) (kind : LogKind) (text body : List ℕ) (o : Opening) (lines : List Line) → HasHeader J kind text o body → AreSoundBehind J (head_of J o) [] lines → IsSoundSoFar J.problem (log_of J o lines)
+pub sound_so_far : (J : Judging) (kind : LogKind) (text body : List ℕ) (o : Opening) (lines : List Line) → HasHeader J kind text o body → AreSoundBehind J o [] lines → IsSoundSoFar J.problem (log_of J o lines)
 sound_so_far J kind text body o lines header sound = record {
   grounded = record {
-    fits = record { named = header.begins.rules; opening = header.begins.fits; goal = header.goal_fits; lines = λ k line e. (sound_at J (head_of J o) [] lines sound k line e).fits };
+    fits = record { named = header.begins.rules; opening = header.begins.fits; goal = header.goal_fits; counts = header.begins.may_count; lines = λ k line e. (sound_at J o [] lines sound k line e).fits };
     allowed = header.sound.allowed;
     turn_named = header.sound.named_day;
-    named = λ k line r e. (sound_at J (head_of J o) [] lines sound k line e).sound.named_all r;
-    short = λ k line e. (sound_at J (head_of J o) [] lines sound k line e).sound.short;
+    named = λ k line r e. (sound_at J o [] lines sound k line e).sound.named_all r;
+    short = λ k line e. (sound_at J o [] lines sound k line e).sound.short;
   };
   holds = λ k line e.
-      subst (λ ls. Holds J.problem J.goal (λ p z. opening J.problem o p z && lines_leave ls p z) line) (take_all (length (take k lines)) (take k lines) (omega arith)) (sound_at J (head_of J o) [] lines sound k line e).sound.holds;
+      subst (λ ls. Holds J.problem J.goal (λ p z. opening J.problem o p z && lines_leave ls p z) line) (take_all (length (take k lines)) (take k lines) (omega arith)) (sound_at J o [] lines sound k line e).sound.holds;
   in_tree = λ k less.
-      (sound_at J (head_of J o) [] lines sound k (get_or lines k Unfinished) (slice_get-get_or lines k Unfinished less)).in_tree;
+      (sound_at J o [] lines sound k (get_or lines k Unfinished) (slice_get-get_or lines k Unfinished less)).in_tree;
 }
 
-pub passes : (J : Judging) (kind : LogKind) (text body : List ℕ) (o : Opening) (lines : List Line) → HasHeader J kind text o body → AreSoundBehind J (head_of J o) [] lines → IsTree lines → Passes J.problem (log_of J o lines)
+pub passes : (J : Judging) (kind : LogKind) (text body : List ℕ) (o : Opening) (lines : List Line) → HasHeader J kind text o body → AreSoundBehind J o [] lines → IsTree lines → Passes J.problem (log_of J o lines)
 passes J kind text body o lines header sound tree =
     let so = sound_so_far J kind text body o lines header sound in record { grounded = so.grounded; tree = tree; holds = so.holds }
 
@@ -83,12 +84,12 @@ text_of_all : (J : Judging) (kind : LogKind) (text body : List ℕ) (o : Opening
 text_of_all J kind text body o lines h e = h.begins.whole ∙ ap (λ t. header_text J.problem J.named o J.goal J.counts ++ t) e
 
 -- the answer to all lines below a header
-pub judged_below : (J : Judging) (o : Head) (s : Start) (body : List ℕ) (answer : Result Bool (Fail LogRefusal)) → StandsBehind J.problem o [] s → s.bytes ≡ body → ((o : Head) → StandsBehind J.problem o [] s → IsJudged J o [] s.bytes answer) → IsJudged J o [] body answer
+pub judged_below : (J : Judging) (o : Opening) (s : Start) (body : List ℕ) (answer : Result Bool (Fail LogRefusal)) → StandsBehind J.problem J.goal J.counts o [] s → s.bytes ≡ body → ((o : Opening) → StandsBehind J.problem J.goal J.counts o [] s → IsJudged J o [] s.bytes answer) → IsJudged J o [] body answer
 judged_below J o s body answer st e judged = subst (λ b. IsJudged J o [] b answer) e (judged o st)
 
 -- the verdict on the text
 
-pub accepted : (J : Judging) (kind : LogKind) (text body : List ℕ) (o : Opening) → HasHeader J kind text o body → AreAllSound J (head_of J o) [] body true → (g : Log) × IsAccepted J.problem kind text g × (g.named ≡ J.named) × (g.goal ≡ J.goal)
+pub accepted : (J : Judging) (kind : LogKind) (text body : List ℕ) (o : Opening) → HasHeader J kind text o body → AreAllSound J o [] body true → IsPassedText J.problem kind text (shown_by (log_of J o []))
 accepted J kind text body o h all = (
   log_of J o all.lines,
   record {
@@ -97,10 +98,9 @@ accepted J kind text body o h all = (
     passes = passes J kind text body o all.lines h all.sound (all.tree.0 refl);
   },
   refl,
-  refl,
 )
 
-pub ends : (J : Judging) (kind : LogKind) (text body : List ℕ) (o : Opening) → HasHeader J kind text o body → AreAllSound J (head_of J o) [] body false → IsRefused J.problem kind text Ends
+pub ends : (J : Judging) (kind : LogKind) (text body : List ℕ) (o : Opening) → HasHeader J kind text o body → AreAllSound J o [] body false → IsRefused J.problem kind text Ends
 ends J kind text body o h all = record {
   front = Reading (log_of J o all.lines);
   no_cause = (h.begins.of_kind, sound_so_far J kind text body o all.lines h all.sound);
@@ -108,7 +108,7 @@ ends J kind text body o h all = record {
   not_whole = λ tree. (let t : IsTrue false = all.tree.1 tree in cc);
 }
 
-pub refused : (J : Judging) (kind : LogKind) (text body : List ℕ) (o : Opening) (why : LogRefusal) → HasHeader J kind text o body → IsChunkRefused J (head_of J o) [] body why → IsRefused J.problem kind text why
+pub refused : (J : Judging) (kind : LogKind) (text body : List ℕ) (o : Opening) (why : LogRefusal) → HasHeader J kind text o body → IsChunkRefused J o [] body why → IsRefused J.problem kind text why
 refused J kind text body o why h r =
     let g : Log = log_of J o r.lines in
     refused_at_line J.problem kind text why
@@ -127,7 +127,7 @@ refused J kind text body o why h r =
 no_tree : (lines : List Line) → lines ≡ [] → IsTree lines → ⊥
 no_tree lines e tree = let some = tree_has_lines tree.0 in let none : length (lines_in tree.0) ≡ 0 = ap length (tree.1 ∙ e) in omega (arith, some, none)
 
-pub nothing_below : (J : Judging) (o : Head) (body other : List ℕ) → true ≡ (length other == 0) → other ≡ body → AreAllSound J o [] body false
+pub nothing_below : (J : Judging) (o : Opening) (body other : List ℕ) → true ≡ (length other == 0) → other ≡ body → AreAllSound J o [] body false
 nothing_below J o body other t e = record {
   lines = [];
   sound = tt;

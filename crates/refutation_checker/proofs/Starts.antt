@@ -23,10 +23,9 @@ use Rattle.refutation_terms.proofs.LineTables.{fitting_lines_are_spelled, spelle
 use Rattle.domain_store.specs.Splits.{IsFirstSide}
 use Rattle.domain_store.specs.States.{State, IsStateOf}
 use Rattle.domain_store.proofs.Moves.{leaf_is_tree}
-use Rattle.refutation_checker.specs.Starts.{Head, Start, IsBehindHead}
-use Rattle.refutation_log.specs.FillLog.{given_splits}
+use Rattle.refutation_checker.specs.Starts.{Start}
 use Rattle.refutation_checker.specs.Chunks.{EndsLines, IsCutOff}
-use Rattle.refutation_checker.specs.UnreadSplits.{UnreadSplit, first_sides, IsLineText, EndInside, HasIdleSplit, IsEntered, IsInto, ArePassed}
+use Rattle.refutation_checker.specs.UnreadSplits.{UnreadSplit, IsLineText, EndInside, HasIdleSplit, IsEntered, IsInto, ArePassed}
 use Rattle.refutation_checker.proofs.Unread.{PassedSoFar, tree_passed}
 
 -- lines that are spelled
@@ -98,17 +97,17 @@ still_part false n before is some = refl
 
 -- the first splits were entered
 
-pub record IntoUpTo (P : Instance) (goal : Option ℕ) (counts : Bool) (o : Head) (lines : List Line) (left : List UnreadSplit) (w : State) : Type 0 where
+pub record IntoUpTo (P : Instance) (goal : Option ℕ) (counts : Bool) (o : Opening) (lines : List Line) (left : List UnreadSplit) (w : State) : Type 0 where
   pub front : List Line
   pub rest : List Line
   pub both : lines ≡ front ++ rest
   pub inside : EndInside P goal counts left rest
-  pub state : IsBehindHead P o front w
+  pub state : IsStateOf P o front w
 
 pub record IntoSoFar (P : Instance) (goal : Option ℕ) (counts : Bool) (start : State) (before : List UnreadSplit) (i : ℕ) (w : State) : Type 0 where
   pub state : (o : Opening) × (lines : List Line) × IsStateOf P o lines w
   pub part : w.whole ≡ false
-  pub leads : (o : Head) (lines : List Line) → IsBehindHead P o [] start → EndInside P goal counts before lines → IntoUpTo P goal counts o lines (drop i before) w
+  pub leads : (o : Opening) (lines : List Line) → IsStateOf P o [] start → EndInside P goal counts before lines → IntoUpTo P goal counts o lines (drop i before) w
 
 pub into_none : (P : Instance) (goal : Option ℕ) (counts : Bool) (start w : State) (before : List UnreadSplit) → w ≡ start → (o : Opening) × (lines : List Line) × IsStateOf P o lines start → start.whole ≡ false → IntoSoFar P goal counts start before 0 w
 into_none P goal counts start w before is state part =
@@ -137,8 +136,7 @@ into_more P goal counts start w w' before i u less is so state part enters = rec
         rest = inside.3;
         both = up.both ∙ ap (λ ls. up.front ++ ls) inside.4 ∙ sym (append_assoc up.front (Split inside.0 inside.1 ∷ inside.2) inside.3);
         inside = inside.7;
-        state = subst (λ ls. IsStateOf P o.opening ls w') (append_assoc (given_splits o.given) up.front (Split inside.0 inside.1 ∷ inside.2))
-            (enters o.opening (given_splits o.given ++ up.front) inside.2 inside.0 inside.1 up.state inside.5 inside.6);
+        state = enters o up.front inside.2 inside.0 inside.1 up.state inside.5 inside.6;
       };
 }
 
@@ -152,7 +150,7 @@ into_idle P goal counts start w w' before i u less is so enters o lines st h =
       x = inside.1;
       rest = inside.2 ++ inside.3;
       here = up.both ∙ ap (λ ls. up.front ++ ls) inside.4;
-      idle = enters o.opening (given_splits o.given ++ up.front) inside.2 inside.0 inside.1 up.state inside.5 inside.6;
+      idle = enters o up.front inside.2 inside.0 inside.1 up.state inside.5 inside.6;
     }
 
 pub into_all : (P : Instance) (goal : Option ℕ) (counts : Bool) (start w : State) (before : List UnreadSplit) (i : ℕ) → length before ≤ i → IntoSoFar P goal counts start before i w → IsInto P goal counts start before (Some w)
@@ -160,12 +158,12 @@ into_all P goal counts start w before i all so o lines st h =
     let up = so.leads o lines st h in
     let none : up.rest ≡ [] = subst (λ o. EndInside P goal counts o up.rest) (drop_all i before all) up.inside in
     let whole : up.front ≡ lines = sym (up.both ∙ ap (λ ls. up.front ++ ls) none ∙ append-nil up.front) in
-    subst (λ ls. IsBehindHead P o ls w) whole up.state
+    subst (λ ls. IsStateOf P o ls w) whole up.state
 
 -- passing lines
 
 -- an idle split is one of all lines
-idle_in_all : (P : Instance) (o : Head) (a b : List Line) → HasIdleSplit P o a → HasIdleSplit P o (a ++ b)
+idle_in_all : (P : Instance) (o : Opening) (a b : List Line) → HasIdleSplit P o a → HasIdleSplit P o (a ++ b)
 idle_in_all P o a b h = record {
   front = h.front;
   p = h.p;
@@ -192,14 +190,14 @@ behind_idle P goal counts start before after bytes count passed idle o done line
     inr (idle o (done ++ lines) st (passed done lines h fit text).1)
 
 -- a chunk was cut off at an end of lines
-pub cut_here : (P : Instance) (goal : Option ℕ) (counts : Bool) (size : ℕ) (start : State) (before after : List UnreadSplit) (all : Start) (w walk : State) (bytes front back : List ℕ) (first missing more end count : ℕ) → record { walk = w; bytes = bytes; first = first; missing = missing } ≡ all
-    → front ≡ take end bytes → back ≡ drop end bytes → end ≢ length bytes → end ≤ length bytes → (0 < length bytes → 0 < end) → EndsLines bytes size end → all.bytes ≢ [] → all.first + length all.bytes < 2 ^ 31 → more ≡ first_sides after + 1 → more ≤ 2 ^ 63 → count ≤ length (take end bytes)
+pub cut_here : (P : Instance) (goal : Option ℕ) (counts : Bool) (size : ℕ) (start : State) (before after : List UnreadSplit) (all : Start) (w walk : State) (bytes front back : List ℕ) (first end count : ℕ) → record { walk = w; bytes = bytes; first = first } ≡ all
+    → front ≡ take end bytes → back ≡ drop end bytes → end ≢ length bytes → end ≤ length bytes → (0 < length bytes → 0 < end) → EndsLines bytes size end → all.bytes ≢ [] → all.first + length all.bytes < 2 ^ 31 → count ≤ length (take end bytes)
     → (o : Opening) × (lines : List Line) × IsStateOf P o lines walk → ArePassed P goal counts start before after (take end bytes) (Some count) → IsInto P goal counts start after (Some walk)
-    → IsCutOff P goal counts size start before after all (record { walk = w; bytes = front; first = first; missing = missing }) (Some (record { walk = walk; bytes = back; first = first + count; missing = more }))
-cut_here P goal counts size start before after all w walk bytes front back first missing more end count view is_front is_back other within some ends full few sides bounded counted state passed into =
+    → IsCutOff P goal counts size start before after all (record { walk = w; bytes = front; first = first }) (Some (record { walk = walk; bytes = back; first = first + count }))
+cut_here P goal counts size start before after all w walk bytes front back first end count view is_front is_back other within some ends more few counted state passed into =
     let same : bytes ≡ all.bytes = ap (λ (s : Start). s.bytes) view in
     let begin : first ≡ all.first = ap (λ (s : Start). s.first) view in
-    let one = some_bytes bytes (λ none. full (sym same ∙ none)) in
+    let one = some_bytes bytes (λ none. more (sym same ∙ none)) in
     let least = some one in
     let front_long : length front ≡ end = ap length is_front ∙ length-take-le end bytes within in
     let count_long : length (take end bytes) ≡ end = length-take-le end bytes within in
@@ -218,11 +216,9 @@ cut_here P goal counts size start before after all w walk bytes front back first
         | inr last ↦ absurd (other last.0)
       ],
       (end, subst (λ b. EndsLines b size end) same ends, is_front ∙ ap (take end) same),
-      (state, omega (arith, few, counted, count_long, back_long, all_long, within, begin), omega (arith, bounded, back_long, all_long, few)),
+      (state, omega (arith, few, counted, count_long, back_long, all_long, within, begin)),
       record {
         passed = λ done lines h fit text. (let p = passed done lines h fit (sym is_front ∙ text) in (ap (λ n. first + n) p.0, p.1));
         walk = into;
-        missing = sides;
       },
-      ap (λ (s : Start). s.missing) view,
     )

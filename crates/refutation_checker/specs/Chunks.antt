@@ -6,8 +6,8 @@ use Rattle.refutation_terms.specs.declared.lines.Opening.{Opening}
 use Rattle.refutation_terms.specs.LogText.{lines_text}
 use Rattle.refutation_log.specs.Printing.{EachFits}
 use Rattle.domain_store.specs.States.{State, IsStateOf}
-use Rattle.refutation_checker.specs.Starts.{Head, Start, IsBehindHead, StandsBehind}
-use Rattle.refutation_checker.specs.UnreadSplits.{UnreadSplit, EndInside, IsEndedOrIdle, IsInto, first_sides}
+use Rattle.refutation_checker.specs.Starts.{Start, StandsBehind}
+use Rattle.refutation_checker.specs.UnreadSplits.{UnreadSplit, EndInside, IsEndedOrIdle, IsInto}
 
 -- how many LF the bytes hold
 abbrev pub feeds : List ℕ → ℕ
@@ -24,38 +24,35 @@ EndsLines bytes size n = ((feeds (take n bytes) ≡ size) × (slice_index bytes 
 
 -- no chunk is needed behind the first n bytes: they are all bytes, or whatever lines they are the text of, a line
 -- behind these isn't the first that is refused
-abbrev pub IsLastChunkEnd : Instance → Option ℕ → Bool → Head → List Line → List ℕ → ℕ → Type 0
-IsLastChunkEnd P goal counts head earlier bytes n =
+abbrev pub IsLastChunkEnd : Instance → Option ℕ → Bool → Opening → List Line → List ℕ → ℕ → Type 0
+IsLastChunkEnd P goal counts o earlier bytes n =
     (n ≡ length bytes) ⊎ ((lines : List Line) → EachFits P goal counts lines → take n bytes ≡ lines_text P goal lines
-    → IsEndedOrIdle P head (earlier ++ lines))
+    → IsEndedOrIdle P o (earlier ++ lines))
 
 -- the chunk has the first `size` lines of the bytes, or all bytes where no further chunk is needed
-pub record HasFirstLines (P : Instance) (goal : Option ℕ) (counts : Bool) (head : Head) (earlier : List Line) (size : ℕ)
+pub record HasFirstLines (P : Instance) (goal : Option ℕ) (counts : Bool) (o : Opening) (earlier : List Line) (size : ℕ)
     (bytes : List ℕ) (chunk : Start) : Type 0 where
   pub end : ℕ
   pub lines : EndsLines bytes size end
-  pub cut : (chunk.bytes ≡ take end bytes)
-      ⊎ ((chunk.bytes ≡ bytes) × IsLastChunkEnd P goal counts head earlier bytes end)
+  pub cut : (chunk.bytes ≡ take end bytes) ⊎ ((chunk.bytes ≡ bytes) × IsLastChunkEnd P goal counts o earlier bytes end)
 
 -- the bytes end with LF
 abbrev pub EndWithFeed : List ℕ → Type 0
 EndWithFeed bytes = (body : List ℕ) × (bytes ≡ body ++ 10 ∷ [])
 
--- some lines lead to the walk of the chunk, and it is short enough for its lines to be numbered, and for the missing
--- trees to be counted
+-- some lines lead to the walk of the chunk, and it is short enough for its lines to be numbered
 abbrev pub IsJudgeable : Instance → Start → Type 0
 IsJudgeable P s = ((o : Opening) × (earlier : List Line) × IsStateOf P o earlier s.walk)
-    × (s.first + length s.bytes < 2 ^ 31) × (s.missing + length s.bytes < 2 ^ 64)
+    × (s.first + length s.bytes < 2 ^ 31)
 
 -- behind the lines of the chunk, whatever they are, as many lines more were counted and other splits are open, and the
--- walk of the rest is the one there. For each split in its first side, and for the whole, a tree is missing
+-- walk of the rest is the one there
 pub record LeadsTo (P : Instance) (goal : Option ℕ) (counts : Bool) (start : State) (before after : List UnreadSplit)
     (chunk rest : Start) : Type 0 where
   pub passed : (done lines : List Line) → EndInside P goal counts before done → EachFits P goal counts lines
       → chunk.bytes ≡ lines_text P goal lines
       → (rest.first ≡ chunk.first + length lines) × EndInside P goal counts after (done ++ lines)
   pub walk : IsInto P goal counts start after (Some rest.walk)
-  pub missing : rest.missing ≡ first_sides after + 1
 
 -- the chunk is cut off the front of the bytes: it has `size` lines, and the rest has what is left; or it has all
 -- bytes, and no further chunk is needed
@@ -63,30 +60,30 @@ abbrev pub IsCutOff : Instance → Option ℕ → Bool → ℕ → State → Lis
     → Option Start → Type 0
 IsCutOff P goal counts size start before after all chunk None =
     (chunk ≡ all)
-    × ((end : ℕ) × EndsLines all.bytes size end × ((head : Head) (done : List Line) → IsBehindHead P head [] start
-    → EndInside P goal counts before done → IsLastChunkEnd P goal counts head done all.bytes end))
+    × ((end : ℕ) × EndsLines all.bytes size end × ((o : Opening) (done : List Line) → IsStateOf P o [] start
+    → EndInside P goal counts before done → IsLastChunkEnd P goal counts o done all.bytes end))
 IsCutOff P goal counts size start before after all chunk (Some rest) =
     (chunk.walk ≡ all.walk) × (chunk.first ≡ all.first) × (all.bytes ≡ chunk.bytes ++ rest.bytes) × (chunk.bytes ≢ [])
     × (rest.bytes ≢ []) × EndWithFeed chunk.bytes
     × ((end : ℕ) × EndsLines all.bytes size end × (chunk.bytes ≡ take end all.bytes)) × IsJudgeable P rest
-    × LeadsTo P goal counts start before after chunk rest × (chunk.missing ≡ all.missing)
+    × LeadsTo P goal counts start before after chunk rest
 
 -- the chunks, of `size` lines each, hold the bytes behind the earlier lines, one after another. Each begins behind the
 -- lines of those before it, whatever these are: where they are none, nothing is said of it
-abbrev pub AreChunks : Instance → Option ℕ → Bool → Head → ℕ → List Line → List ℕ → List Start → Type 0
-AreChunks P goal counts head size earlier bytes [] = bytes ≡ []
-AreChunks P goal counts head size earlier bytes (chunk ∷ chunks) =
-    StandsBehind P head earlier chunk
-    × HasFirstLines P goal counts head earlier size bytes chunk
+abbrev pub AreChunks : Instance → Option ℕ → Bool → Opening → ℕ → List Line → List ℕ → List Start → Type 0
+AreChunks P goal counts o size earlier bytes [] = bytes ≡ []
+AreChunks P goal counts o size earlier bytes (chunk ∷ chunks) =
+    StandsBehind P goal counts o earlier chunk
+    × HasFirstLines P goal counts o earlier size bytes chunk
     × (below : List ℕ) × (bytes ≡ chunk.bytes ++ below)
     × (((below ≡ []) × (chunks ≡ [])) ⊎ (EndWithFeed chunk.bytes
     × ((lines : List Line) → EachFits P goal counts lines → chunk.bytes ≡ lines_text P goal lines
-    → AreChunks P goal counts head size (earlier ++ lines) below chunks)))
+    → AreChunks P goal counts o size (earlier ++ lines) below chunks)))
 
 -- that is so of all lines of a text, which have this start
 abbrev pub AreAllChunks : Instance → Option ℕ → Bool → ℕ → Start → List Start → Type 0
 AreAllChunks P goal counts size all chunks =
-    (head : Head) → StandsBehind P head [] all → AreChunks P goal counts head size [] all.bytes chunks
+    (o : Opening) → StandsBehind P goal counts o [] all → AreChunks P goal counts o size [] all.bytes chunks
 
 -- no more chunks than the bytes need at `size` lines each, where the last chunk may have fewer
 abbrev pub IsFew : ℕ → ℕ → List ℕ → Type 0

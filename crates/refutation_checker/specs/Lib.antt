@@ -10,6 +10,3 @@ pub mod Laws
 pub mod UnreadSplits
 pub mod Starts
 pub mod Chunks
-pub mod FillVerdicts
-pub mod FillLaws
-pub mod PassedFill

@@ -1,5 +1,5 @@
 -- The lines of a log, judged one after the other.
-use Rattle.std.specs.Prelude.{◌≡◌, ◌↔◌, ◌⊎◌, Bool, IsTrue, ℕ, ◌+◌, ◌<◌, false, List, [], ◌∷◌, ◌++◌, length, Option}
+use Rattle.std.specs.Prelude.{◌≡◌, ◌↔◌, Bool, IsTrue, ℕ, ◌+◌, ◌<◌, false, List, [], ◌∷◌, ◌++◌, length, Option}
 use Rattle.rwsp_terms.specs.declared.data.Symbol.{Symbol}
 use Rattle.rwsp_terms.specs.Instance.{Instance}
 use Rattle.refutation_terms.specs.declared.lines.Line.{Line}
@@ -7,7 +7,7 @@ use Rattle.refutation_terms.specs.declared.lines.Opening.{Opening}
 use Rattle.refutation_terms.specs.Tree.{IsTree, domains_at}
 use Rattle.refutation_terms.specs.Word.{Domains}
 use Rattle.refutation_terms.specs.Log.{Log, LineFits, Holds}
-use Rattle.refutation_terms.specs.Verdict.{TreeCause, ExtraCause, Escapes}
+use Rattle.refutation_terms.specs.Verdict.{CauseBehind, Escapes, header_lines}
 use Rattle.refutation_terms.specs.LogText.{raw, line_text}
 use Rattle.refutation_terms.specs.declared.lines.Line.TheVariants.{Split}
 use Rattle.refutation_terms.specs.declared.lines.LogRefusal.{LogRefusal}
@@ -17,7 +17,6 @@ use Rattle.refutation_log.specs.declared.refusal.LineRefusal.TheVariants as Line
 use Rattle.domain_store.specs.Store.{Store}
 use Rattle.domain_store.specs.Splits.{is_idle_in}
 use Rattle.domain_store.specs.States.{State, IsStateOf, OfLinesRead}
-use Rattle.refutation_checker.specs.Starts.{Head, log_head, domains_behind}
 use Rattle.refutation_checker.specs.LineVerdicts.{HoldsByWords, IsSoundLine, LineCause}
 
 -- the problem of a judge, the rules that the header names, the goal of the log if it has one, and whether it may count
@@ -30,10 +29,6 @@ pub record Judging : Type 0 where
 -- the log with such a header, this opening and these lines
 abbrev pub log_of : Judging → Opening → List Line → Log
 log_of J o lines = record { named = J.named; opening = o; goal = J.goal; counts = J.counts; lines = lines }
-
--- the head of such a log, which is given no cell
-abbrev pub head_of : Judging → Opening → Head
-head_of J o = log_head o J.goal J.counts
 
 -- the line has no cause under these domains
 abbrev pub IsSoundUnder : Judging → Domains → Line → Type 0
@@ -64,28 +59,17 @@ IsHoldingNext P w line =
     × ((o : Opening) × (lines : List Line) × IsStateOf P o lines w
     × Holds P goal (domains_at P o lines (length lines)) line)
 
--- the line behind these lines of a text with this head is refused for no cause
-pub record IsSoundNext (J : Judging) (head : Head) (lines : List Line) (line : Line) : Type 0 where
+-- the line behind these is refused for no cause
+pub record IsSoundNext (J : Judging) (o : Opening) (lines : List Line) (line : Line) : Type 0 where
   pub in_tree : IsTree lines → ⊥
   pub fits : LineFits J.problem J.goal J.counts line
-  pub sound : IsSoundUnder J (domains_behind J.problem head lines) line
-
--- why a line behind these is refused, under these domains and as text line n
-abbrev pub CauseUnder : Judging → List Line → Domains → ℕ → List ℕ → LogRefusal → Type 0
-CauseUnder J lines D n bytes why =
-    (IsTree lines × ExtraCause n why)
-    ⊎ ((IsTree lines → ⊥) × TreeCause J.problem J.goal J.counts J.named D n bytes why)
-
--- why the line behind these lines of a text with this head is refused
-abbrev pub CauseNext : Judging → Head → List Line → List ℕ → LogRefusal → Type 0
-CauseNext J head lines bytes why =
-    CauseUnder J lines (domains_behind J.problem head lines) (head.header + length lines + 1) bytes why
+  pub sound : IsSoundUnder J (domains_at J.problem o lines (length lines)) line
 
 -- the bytes are the text of such a line, which is this one, and the walk has read it
 pub record IsLineRead (J : Judging) (o : Opening) (lines : List Line) (bytes : List ℕ) (w : State)
     (line : Line) : Type 0 where
   pub spelled : bytes ≡ line_text J.problem (raw J.problem J.goal line)
-  pub sound : IsSoundNext J (head_of J o) lines line
+  pub sound : IsSoundNext J o lines line
   pub walked : IsStateOf J.problem o (lines ++ line ∷ []) w
 
 -- whatever lines the walk had read, the bytes are the text of this line, which is refused for no cause there, and the
@@ -98,7 +82,7 @@ ReadsNext J old bytes new line =
 abbrev pub RefusesNext : Judging → State → List ℕ → ℕ → LogRefusal → Type 0
 RefusesNext J old bytes n why =
     OfLinesRead J.problem old (λ o lines.
-    CauseUnder J lines (domains_at J.problem o lines (length lines)) n bytes why)
+    n ≡ header_lines o J.goal J.counts + length lines + 1 → CauseBehind J.problem (log_of J o lines) bytes why)
 
 -- whatever lines it had read, this line has no cause there, and the walk has read it too
 abbrev pub PassesNext : Judging → State → Line → State → Type 0

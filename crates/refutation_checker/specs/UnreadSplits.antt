@@ -1,5 +1,5 @@
 -- Splits whose lines were passed without being read, and the lines that lead into them.
-use Rattle.std.specs.Prelude.{◌≡◌, ◌⊎◌, ℕ, List, [], ◌∷◌, ◌++◌, length, Bool, true, MatchBool, Option, Some, None, count_by, not}
+use Rattle.std.specs.Prelude.{◌≡◌, ◌⊎◌, ℕ, List, [], ◌∷◌, ◌++◌, length, Bool, true, MatchBool, Option, Some, None}
 use Rattle.rwsp_terms.specs.declared.data.Symbol.{Symbol}
 use Rattle.rwsp_terms.specs.Instance.{Instance}
 use Rattle.rwsp_model.specs.Validity.{KeepsLimits}
@@ -12,7 +12,6 @@ use Rattle.refutation_terms.specs.LogText.{raw, line_text, lines_text}
 use Rattle.refutation_log.specs.Printing.{EachFits}
 use Rattle.domain_store.specs.Splits.{IsFirstSide, NoLines}
 use Rattle.domain_store.specs.States.{State, IsStateOf}
-use Rattle.refutation_checker.specs.Starts.{Head, IsBehindHead, domains_behind}
 
 -- the text line of a split, and whether its first side was passed too
 pub record UnreadSplit : Type 0 where
@@ -43,42 +42,38 @@ IsLinePassed before after bytes more =
     → EndInside P goal counts before earlier → IsLineText P goal counts bytes line
     → MatchBool more (EndInside P goal counts after (earlier ++ line ∷ [])) (IsTree (earlier ++ line ∷ []))
 
--- how many of the splits are in their first side, so that their second is still to come
-abbrev pub first_sides : List UnreadSplit → ℕ
-first_sides splits = count_by (λ (u : UnreadSplit). not u.in_second) splits
-
 -- a front of the lines is a whole tree
 abbrev pub HasTree : List Line → Type 0
 HasTree lines = (front : List Line) × (rest : List Line) × (lines ≡ front ++ rest) × IsTree front
 
 -- one of the lines is an idle split
-pub record HasIdleSplit (P : Instance) (head : Head) (lines : List Line) : Type 0 where
+pub record HasIdleSplit (P : Instance) (o : Opening) (lines : List Line) : Type 0 where
   pub front : List Line
   pub p : ℕ
   pub x : Symbol
   pub rest : List Line
   pub here : lines ≡ front ++ Split p x ∷ rest
-  pub idle : is_idle P (domains_behind P head front) p x.number ≡ true
+  pub idle : is_idle P (domains_at P o front (length front)) p x.number ≡ true
 
 -- a line that follows these lines is none that is refused first
-abbrev pub IsEndedOrIdle : Instance → Head → List Line → Type 0
-IsEndedOrIdle P head lines = HasTree lines ⊎ HasIdleSplit P head lines
+abbrev pub IsEndedOrIdle : Instance → Opening → List Line → Type 0
+IsEndedOrIdle P o lines = HasTree lines ⊎ HasIdleSplit P o lines
 
 -- some lines end inside these splits, and a walk started in front of the first of them: then either one is an idle
 -- split, or this walk is behind them
 abbrev pub IsInto : Instance → Option ℕ → Bool → State → List UnreadSplit → Option State → Type 0
-IsInto P goal counts start splits None = (head : Head) (lines : List Line) → IsBehindHead P head [] start
-    → EndInside P goal counts splits lines → HasIdleSplit P head lines
-IsInto P goal counts start splits (Some w) = (head : Head) (lines : List Line) → IsBehindHead P head [] start
-    → EndInside P goal counts splits lines → IsBehindHead P head lines w
+IsInto P goal counts start splits None = (o : Opening) (lines : List Line) → IsStateOf P o [] start
+    → EndInside P goal counts splits lines → HasIdleSplit P o lines
+IsInto P goal counts start splits (Some w) = (o : Opening) (lines : List Line) → IsStateOf P o [] start
+    → EndInside P goal counts splits lines → IsStateOf P o lines w
 
 -- the bytes were passed behind lines that end inside splits. If they are the text of lines that fit, then either no
 -- line behind them is the first that is refused, or they are `count` lines, and end inside other splits
 abbrev pub ArePassed : Instance → Option ℕ → Bool → State → List UnreadSplit → List UnreadSplit → List ℕ
     → Option ℕ → Type 0
 ArePassed P goal counts start before after bytes None =
-    (head : Head) (done lines : List Line) → IsBehindHead P head [] start → EndInside P goal counts before done
-    → EachFits P goal counts lines → bytes ≡ lines_text P goal lines → IsEndedOrIdle P head (done ++ lines)
+    (o : Opening) (done lines : List Line) → IsStateOf P o [] start → EndInside P goal counts before done
+    → EachFits P goal counts lines → bytes ≡ lines_text P goal lines → IsEndedOrIdle P o (done ++ lines)
 ArePassed P goal counts start before after bytes (Some count) =
     (done lines : List Line) → EndInside P goal counts before done → EachFits P goal counts lines
     → bytes ≡ lines_text P goal lines → (count ≡ length lines) × EndInside P goal counts after (done ++ lines)

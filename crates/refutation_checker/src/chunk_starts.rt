@@ -3,7 +3,7 @@
 // The lines in front of a chunk are passed without being read: it only counts which of them are splits, and so which
 // splits are open at its start. These alone are read then. A line that isn't spelled is refused by its own chunk, and
 // so the answers to later chunks, whose walks may be wrong, count for nothing.
-ghost use Rattle.std.specs.Prelude.{◌≡◌, ◌≢◌, ◌+◌, ◌^◌, ◌<◌, ◌≤◌, ℕ, List, [], length, Option, None, Some, All, IfOk, IfSome, MatchOption, true, false};
+ghost use Rattle.std.specs.Prelude.{◌≡◌, ◌≢◌, ◌+◌, ◌^◌, ◌<◌, ◌≤◌, ℕ, [], length, Option, None, Some, All, IfOk, IfSome, MatchOption, true, false};
 ghost use Rattle.std.specs.Int.{div_ceil};
 ghost use Rattle.rwsp_terms.specs.declared.data.Symbol.{Symbol as TheSymbol};
 ghost use Rattle.refutation_terms.specs.declared.lines.Line.TheVariants.{Split};
@@ -14,7 +14,7 @@ ghost use Rattle.refutation_checker.specs.UnreadSplits.{AreEntered, IsEntered, I
 
 use crate::line_ends::{count_lines, lines_end};
 use crate::text_chunk::Chunk;
-use crate::unread_splits::{UnreadSplit, missing_inside, pass_line};
+use crate::unread_splits::{UnreadSplit, pass_line};
 use domain_store::Walk;
 use refutation_log::{LineReader, read_line};
 use refutation_terms::{Line, Terms};
@@ -224,14 +224,12 @@ fn cut_off<'a>(
                 walk,
                 bytes: below,
                 first: all.first + count,
-                missing: missing_inside(splits),
             };
             let chunk = Chunk {
                 number: all.number,
                 walk: all.walk,
                 bytes: lines,
                 first: all.first,
-                missing: all.missing,
             };
             Ok((chunk, Some(rest)))
         }
@@ -247,7 +245,6 @@ fn numbered(chunk: Chunk, number: u32) -> Chunk
         walk: chunk.walk,
         bytes: chunk.bytes,
         first: chunk.first,
-        missing: chunk.missing,
     }
 }
 

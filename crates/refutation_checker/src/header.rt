@@ -1,8 +1,7 @@
 // The header of a log's text, judged.
 ghost use Rattle.rwsp_model.specs.Refusals.{MatchAnswer};
 ghost use Rattle.refutation_terms.specs.Verdict.{IsRefused};
-ghost use Rattle.refutation_log.specs.Headers.{BeginsWithHeader};
-ghost use Rattle.refutation_checker.specs.Turns.{IsSoundTurn};
+ghost use Rattle.refutation_checker.specs.Turns.{HasSoundHeader};
 
 use crate::turn::turn_refusal;
 use refutation_log::{Header, read_header};
@@ -17,17 +16,14 @@ pub fn judge_header<'a>(
     kind: LogKind,
     bytes: &'a [u8],
 ) -> Result<Header<'a>, Fail<LogRefusal>>
-    ensures { MatchAnswer result
-        (λ h. BeginsWithHeader problem.now kind bytes.now h.named h.opening h.goal h.counts h.body.now
-        × IsSoundTurn problem.now h.named h.opening)
-        (IsRefused problem.now kind bytes.now) }
+    ensures { MatchAnswer result (HasSoundHeader problem.now kind bytes.now) (IsRefused problem.now kind bytes.now) }
 {
     problem.prove_limits();
     let header = match read_header(alloc, problem, kind, bytes) {
         Ok(header) => header,
         Err(fail) => return Err(fail),
     };
-    match turn_refusal(problem, &header.named, header.opening) {
+    match turn_refusal(problem, &header.named, &header.opening) {
         None => Ok(header),
         Some(why) => Err(Fail::Refused(why)),
     }

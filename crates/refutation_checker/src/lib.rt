@@ -1,12 +1,9 @@
 //! The verdict on a refutation's log: that it passes, or its first line that is refused, with the cause. A long log is
-//! cut into chunks for several workers. The same for fill logs.
+//! cut into chunks for several workers.
 #![tactic(auto)]
 
 mod chunk;
 mod chunk_starts;
-mod fill_check;
-mod fill_laws;
-mod fill_verdict;
 mod header;
 mod judge;
 mod kept;
@@ -29,12 +26,9 @@ mod workers;
 
 pub use chunk_starts::chunks_for;
 pub use clean_words::{Gate, NoGate};
-pub use fill_check::{FillParts, fill_judge, fill_passes, passes_behind};
-pub use fill_laws::fill_texts_have_a_verdict;
-pub use fill_verdict::{PassedFill, check_fill, check_fill_with};
 pub use judge::{Judge, Judging};
 pub use laws::texts_have_a_verdict;
 pub use leaf_judge::{LeafJudge, go_past};
-pub use log_check::check_log;
+pub use log_check::{OpenedLog, check_log, judge_of, passes_by};
 pub use text_chunk::Chunk;
 pub use verdict::{PassedLog, UncheckedLog, check, check_with};

@@ -12,8 +12,6 @@ pub struct Chunk<'a> {
     pub bytes: &'a [u8],
     /// The number of its first line among all lines of the text, from 1 on.
     pub first: u32,
-    /// How many whole trees must follow in front of its lines, so that the lines of the text become those of one.
-    pub missing: usize,
 }
 
 impl<'a> Model for Chunk<'a> {
@@ -21,5 +19,5 @@ impl<'a> Model for Chunk<'a> {
 
     ghost Value = { Start };
 
-    ghost view = { λ c. record { walk = c.walk; bytes = c.bytes.now; first = c.first; missing = c.missing } };
+    ghost view = { λ c. record { walk = c.walk; bytes = c.bytes.now; first = c.first } };
 }

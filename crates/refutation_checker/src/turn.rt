@@ -25,13 +25,13 @@ fn turn_fault(problem: &Problem, named: &RuleList, turn: Turn) -> Option<LogRefu
 }
 
 /// The cause of a turn, whose line is the third; None where there is none, and for no turn.
-pub fn turn_refusal(problem: &Problem, named: &RuleList, opening: Opening) -> Option<LogRefusal>
-    requires { OpeningFits problem.now opening }
-    ensures { MatchOption result (IsSoundTurn problem.now named.now opening)
-        (IsTurnFault problem.now named.now opening) }
+pub fn turn_refusal(problem: &Problem, named: &RuleList, opening: &Opening) -> Option<LogRefusal>
+    requires { OpeningFits problem.now opening.now }
+    ensures { MatchOption result (IsSoundTurn problem.now named.now opening.now)
+        (IsTurnFault problem.now named.now opening.now) }
 {
     match opening {
-        Opening::Full => None,
-        Opening::Turned(turn) => turn_fault(problem, named, turn),
+        Opening::Turned(turn) => turn_fault(problem, named, *turn),
+        Opening::Full | Opening::Given(_) => None,
     }
 }

@@ -1,6 +1,6 @@
 // Splits whose lines are passed without being read, to find which of them are open at a place.
-ghost use Rattle.std.specs.Prelude.{◌≡◌, ◌<◌, ◌≤◌, ◌+◌, ◌^◌, ◌++◌, ◌∷◌, [], length, vec_len, vec_capacity, slice_index, ◌==◌, IfOk};
-ghost use Rattle.refutation_checker.specs.UnreadSplits.{IsLeafPassed, IsLinePassed, first_sides};
+ghost use Rattle.std.specs.Prelude.{◌≡◌, ◌<◌, ◌++◌, ◌∷◌, [], length, vec_len, vec_capacity, slice_index, ◌==◌, IfOk};
+ghost use Rattle.refutation_checker.specs.UnreadSplits.{IsLeafPassed, IsLinePassed};
 
 use refutation_log::LineReader;
 use std::alloc::AllocError;
@@ -70,13 +70,4 @@ pub fn pass_line<'a>(splits: &mut Vec<UnreadSplit<'a>>, line: &'a [u8]) -> Resul
         in_second: false,
     })?;
     Ok(true)
-}
-
-/// How many whole trees must follow inside these splits: the second side of each that is in its first, and one for the
-/// rest of what is open.
-pub fn missing_inside(splits: &[UnreadSplit]) -> usize
-    ensures value { result ≡ first_sides splits.now + 1 }
-    ensures few { result ≤ 2 ^ 63 }
-{
-    splits.iter().filter(|split| !split.in_second).count() + 1
 }

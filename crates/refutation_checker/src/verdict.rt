@@ -1,12 +1,16 @@
-// The verdict on the text of a log, with a goal or without.
-ghost use Rattle.std.specs.Prelude.{◌≡◌, ◌≤◌, length, [], IfOk, false};
+// The verdict on the text of a log.
+ghost use Rattle.std.specs.Prelude.{◌≡◌, ℕ, ◌≤◌, List, length, [], IfOk, false};
+ghost use Rattle.rwsp_terms.specs.Instance.{Instance};
 ghost use Rattle.rwsp_terms.specs.declared.limits.TheConstants.{LONGEST_LOG, MOST_WORKERS};
 ghost use Rattle.rwsp_model.specs.Refusals.{MatchAnswer};
+ghost use Rattle.refutation_terms.specs.declared.lines.LogKind.{LogKind as TheKind};
 ghost use Rattle.refutation_terms.specs.Log.{OpeningFits};
 ghost use Rattle.refutation_terms.specs.Verdict.{IsRefused};
 ghost use Rattle.refutation_log.specs.ReadLog.{HasLogsOf};
 ghost use Rattle.refutation_checker.specs.Accepted.{IsPassedText};
-ghost use Rattle.refutation_checker.specs.Starts.{StandsBehind, log_head};
+ghost use Rattle.refutation_checker.specs.ChunkVerdicts.{IsJudged};
+ghost use Rattle.refutation_checker.specs.Starts.{StandsBehind};
+ghost use Rattle.refutation_checker.specs.Turns.{HasSoundHeader, judging_under};
 
 use crate::Chunk;
 use crate::chunk::judge_chunk;
@@ -29,11 +33,12 @@ pub struct UncheckedLog<'a> {
     pub bytes: &'a [u8],
 }
 
-/// What a log that passes shows: no roster meets these rules, or where it has a goal none that does has as many free
-/// weekends.
+/// What a log that passes shows: no roster meets these rules; or where it gives cells none that does holds them, and
+/// where it has a goal none that does has as many free weekends.
 #[derive(Drop)]
 pub struct PassedLog {
     pub named: RuleList,
+    pub opening: Opening,
     pub goal: Option<u32>,
 }
 
@@ -72,14 +77,7 @@ pub fn check_with<R: Threads + Sync, G: Gate>(
     };
     let judged = judge_by_workers(rt, alloc, &judging, lines, workers, gate);
     drop(judging);
-    match judged {
-        Ok(true) => Ok(PassedLog {
-            named: header.named,
-            goal: header.goal,
-        }),
-        Ok(false) => Err(Fail::Refused(LogRefusal::Ends)),
-        Err(fail) => Err(fail),
-    }
+    verdict_of(header, judged)
 }
 
 /// The verdict on a log, worked out on one thread.
@@ -109,9 +107,23 @@ pub fn check(
     };
     let judged = judge_chunk(alloc, &judging, lines);
     drop(judging);
+    verdict_of(header, judged)
+}
+
+// The verdict on a text that begins with the header, by what was found in the lines below it.
+fn verdict_of(
+    header: Header,
+    judged: Result<bool, Fail<LogRefusal>>,
+) -> Result<PassedLog, Fail<LogRefusal>>
+    ensures { (P : Instance) (kind : TheKind) (text : List ℕ) → HasLogsOf P kind
+        → HasSoundHeader P kind text header.entry
+        → IsJudged (judging_under P header.entry) header.entry.opening [] header.entry.body.now judged
+        → MatchAnswer result (IsPassedText P kind text) (IsRefused P kind text) }
+{
     match judged {
         Ok(true) => Ok(PassedLog {
             named: header.named,
+            opening: header.opening,
             goal: header.goal,
         }),
         Ok(false) => Err(Fail::Refused(LogRefusal::Ends)),
@@ -126,19 +138,17 @@ fn lines_below<'a>(
     header: &Header<'a>,
 ) -> Result<Chunk<'a>, AllocError>
     requires fits { OpeningFits problem.now header.now.opening }
-    ensures start { IfOk result (λ lines. StandsBehind problem.now
-        (log_head header.now.opening header.now.goal header.now.counts) [] lines) }
+    ensures start { IfOk result (λ lines. StandsBehind problem.now header.now.goal header.now.counts
+        header.now.opening [] lines) }
     ensures part { IfOk result (λ lines. lines.walk.whole ≡ false) }
     ensures bytes { IfOk result (λ lines. lines.bytes ≡ header.now.body.now) }
     ensures first { IfOk result (λ lines. lines.first ≤ 4) }
-    ensures missing { IfOk result (λ lines. lines.missing ≡ 1) }
 {
-    let walk = Walk::new(alloc, problem, header.opening)?;
+    let walk = Walk::new(alloc, problem, &header.opening)?;
     Ok(Chunk {
         number: 1,
         walk,
         bytes: header.body,
-        first: lines_of_header(header.opening, header.terms()) + 1,
-        missing: 1,
+        first: lines_of_header(&header.opening, header.terms()) + 1,
     })
 }

@@ -1,7 +1,8 @@
 // The lines of a log, judged by several workers.
-ghost use Rattle.std.specs.Prelude.{◌≡◌, ◌≤◌, [], Option, false};
+ghost use Rattle.std.specs.Prelude.{◌≡◌, ◌≤◌, [], false};
 ghost use Rattle.rwsp_terms.specs.declared.limits.TheConstants.{MOST_WORKERS};
-ghost use Rattle.refutation_checker.specs.Starts.{Head, StandsBehind};
+ghost use Rattle.refutation_terms.specs.declared.lines.Opening.{Opening};
+ghost use Rattle.refutation_checker.specs.Starts.{StandsBehind};
 ghost use Rattle.refutation_checker.specs.Chunks.{IsJudgeable};
 ghost use Rattle.refutation_checker.specs.ChunkVerdicts.{IsAnswerTo, IsJudged, joined_from};
 
@@ -29,8 +30,8 @@ pub fn judge_by_workers<R: Threads + Sync, G: Gate>(
     requires start { IsJudgeable judging.now.problem all }
     requires part { all.walk.whole ≡ false }
     requires workers { (1 ≤ workers) × (workers ≤ MOST_WORKERS) }
-    ensures { (head : Head) → StandsBehind judging.now.problem head [] all.entry →
-        IsJudged judging.now head [] all.entry.bytes result }
+    ensures { (o : Opening) → StandsBehind judging.now.problem judging.now.goal judging.now.counts o [] all.entry →
+        IsJudged judging.now o [] all.entry.bytes result }
 {
     if all.bytes.is_empty() {
         return Ok(false);

@@ -12,11 +12,11 @@ use Rattle.roster_print.specs.Said.{open_word, said_of}
 use Rattle.roster_print.specs.RosterText.{weeks_of, SpellsWeeks}
 use Rattle.roster_print.specs.declared.refusal.RosterRefusal.{RosterRefusal}
 use Rattle.roster_print.proofs.Spelling as Spelling
-use Rattle.refutation_log.specs.declared.cells.GivenCell.{GivenCell}
-use Rattle.refutation_log.specs.GivenCells.{AreGivenIn}
+use Rattle.refutation_terms.specs.declared.cells.GivenCell.{GivenCell}
+use Rattle.refutation_terms.specs.GivenCells.{AreGivenIn}
 use Rattle.refutation_log.specs.CellsText.{given_from, SpellsGiven, refusal_of_cells}
-use Rattle.refutation_log.specs.FillLaws.{TextGivesOneList, RefusalsDecideCells, SpelledAreGiven}
-use Rattle.refutation_log.proofs.Rising.{RisesFrom, increasing}
+use Rattle.refutation_log.specs.CellsLaws.{TextGivesOneList, RefusalsDecideCells, SpelledAreGiven}
+use Rattle.rwsp_text.proofs.Rising.{RisesFrom, increasing}
 
 pub one_list : TextGivesOneList
 one_list P bytes given other (said, a, from) (same, b, by) = from ∙ ap (given_from 0) (Spelling.one_list P (said_of P true) bytes said same a b) ∙ sym by

@@ -21,7 +21,7 @@ use Rattle.refutation_terms.specs.declared.lines.Line.TheVariants.{Closing}
 use Rattle.refutation_terms.specs.declared.lines.WordClaim.{WordClaim}
 use Rattle.refutation_terms.specs.declared.lines.WordClaim.TheVariants.{Dead, Light}
 use Rattle.refutation_terms.specs.declared.lines.Opening.{Opening}
-use Rattle.refutation_terms.specs.declared.lines.Opening.TheVariants.{Full, Turned}
+use Rattle.refutation_terms.specs.declared.lines.Opening.TheVariants.{Full, Turned, Given}
 use Rattle.refutation_terms.specs.Ranges.{AreRules, HasWeight}
 use Rattle.refutation_terms.specs.WindowLeaf.{WindowFits, WindowCites}
 use Rattle.refutation_terms.specs.WordsLeaf.{WordsFit}
@@ -249,3 +249,4 @@ line_numbered P goal counts line fits r c = absurd c
 pub opening_numbered : (P : Instance) (o : Opening) → OpeningFits P o → (r : Rule) → OpeningCites o r → (k : ℕ) × (rule_of P k ≡ Some r)
 opening_numbered P Full fits r c = absurd c
 opening_numbered P (Turned t) fits r c = rule_numbered P r (subst (IsRule P) (sym c) fits.0)
+opening_numbered P (Given given) fits r c = absurd c

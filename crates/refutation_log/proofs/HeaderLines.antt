@@ -3,19 +3,19 @@ use Rattle.std.proofs.Common.{◌≡◌, ℕ, List, ◌++◌, refl, ap, sym, ◌
 use Rattle.rwsp_text.specs.Lines.{IsNextLine}
 use Rattle.rwsp_terms.specs.Instance.{Instance, name_of}
 use Rattle.refutation_terms.specs.declared.lines.Version.{Version}
-use Rattle.refutation_terms.specs.declared.lines.Version.TheVariants.{Version1, Version2, Version3, Free1, Free2}
+use Rattle.refutation_terms.specs.declared.lines.Version.TheVariants.{Version1, Version2, Version3, Free1, Free2, Fill1}
 use Rattle.refutation_terms.specs.declared.lines.LogKind.{LogKind}
-use Rattle.refutation_terms.specs.declared.lines.LogKind.TheVariants.{WithoutGoal, WithGoal}
 use Rattle.refutation_terms.specs.declared.lines.Opening.{Opening}
-use Rattle.refutation_terms.specs.declared.lines.Opening.TheVariants.{Full, Turned}
+use Rattle.refutation_terms.specs.declared.lines.Opening.TheVariants.{Full, Turned, Given}
 use Rattle.refutation_terms.specs.declared.lines.Turn.{Turn}
 use Rattle.refutation_terms.specs.declared.lines.LogRefusal.{LogRefusal}
 use Rattle.refutation_terms.specs.declared.lines.LogRefusal.TheVariants as Refusals
 use Rattle.refutation_terms.specs.Ranges.{AreRules}
-use Rattle.refutation_terms.specs.Log.{OpeningFits, GoalFits}
-use Rattle.refutation_terms.specs.LogText.{version_text, rules_text, goal_text, turn_text, no_turn_text}
-use Rattle.refutation_terms.specs.Verdict.{kind_of, kind_by, Front, Start, Versioned, BeforeTurn, BeforeGoal, turn_version, goal_version, front_text, HasNoCause, IsWhole, VersionCause, RulesCause, GoalCause, TurnsTo}
+use Rattle.refutation_terms.specs.Log.{OpeningFits, GoalFits, CountsFit}
+use Rattle.refutation_terms.specs.LogText.{version_of, version_text, rules_text, turn_text, third_text}
+use Rattle.refutation_terms.specs.Verdict.{kind_of, kind_by, Front, Start, Versioned, BeforeTurn, BeforeGoal, BeforeCells, front_text, HasNoCause, IsWhole, VersionCause, RulesCause, GoalCause, CellsCause, TurnsTo}
 use Rattle.refutation_terms.proofs.LineTables.{symbol_of-name}
+use Rattle.refutation_terms.proofs.Fronts.{of_its_kind}
 use Rattle.refutation_log.specs.Refusals.{SpellsVersion, SpellsOpening}
 use Rattle.refutation_log.specs.ReadLog.{IsRead, ReadCause, HasLogsOf}
 use Rattle.refutation_log.specs.Headers.{GoalIsInRange, BeginsWithHeader, IsHeaderRefused, StopsFor, version_counts, OpeningReadCause, StopsAtThird, HasOpening, IsThird}
@@ -69,26 +69,28 @@ goal_read : (P : Instance) (kind : LogKind) (counts : Bool) (R line : List ℕ) 
 goal_read P kind counts R line (Refusals.Form i) c = (c, tt)
 goal_read P kind counts R line why c = absurd c
 
+cells_read : (P : Instance) (kind : LogKind) (R line : List ℕ) (why : LogRefusal) → CellsCause P line why → ReadCause P kind (BeforeCells R) line why
+cells_read P kind R line (Refusals.Form i) c = (c, tt)
+cells_read P kind R line (Refusals.Name i) c = (c, tt)
+cells_read P kind R line why c = absurd c
+
 -- the text in front of line 3
 two_lines : (first R text one two : List ℕ) → text ≡ first ++ one → one ≡ rules_text R ++ two → text ≡ (first ++ rules_text R) ++ two
 two_lines first R text one two e f = e ∙ ap (λ t. first ++ t) f ∙ sym (append_assoc first (rules_text R) two)
 
-opening_stops : (P : Instance) (kind : LogKind) (counts : Bool) (R text one two : List ℕ) (why : LogRefusal) → WithoutGoal ≡ kind → text ≡ version_text (turn_version counts) ++ one → AreRules P R → one ≡ rules_text R ++ two → StopsFor (OpeningReadCause P counts) two why → IsHeaderRefused P kind text why
-opening_stops P kind counts R text one two why of e are f s =
-    stops P kind (BeforeTurn counts R) text two why (of, are) (of, are) (λ h. h) (two_lines (version_text (turn_version counts)) R text one two e f)
-    (stops_along (OpeningReadCause P counts) (ReadCause P kind (BeforeTurn counts R)) (opening_read P kind counts R) two why s)
-
-goal_stops : (P : Instance) (kind : LogKind) (counts : Bool) (R text one two : List ℕ) (why : LogRefusal) → WithGoal ≡ kind → text ≡ version_text (goal_version counts) ++ one → AreRules P R → one ≡ rules_text R ++ two → StopsFor (GoalCause P) two why → IsHeaderRefused P kind text why
-goal_stops P kind counts R text one two why of e are f s =
-    stops P kind (BeforeGoal counts R) text two why (of, are) (of, are) (λ h. h) (two_lines (version_text (goal_version counts)) R text one two e f)
-    (stops_along (GoalCause P) (ReadCause P kind (BeforeGoal counts R)) (goal_read P kind counts R) two why s)
-
 pub third_stops : (P : Instance) (kind : LogKind) (v : Version) (R text one two : List ℕ) (why : LogRefusal) → kind_of v ≡ kind → text ≡ version_text v ++ one → AreRules P R → one ≡ rules_text R ++ two → StopsAtThird P v two why → IsHeaderRefused P kind text why
-third_stops P kind Version1 R text one two why of e are f s = absurd s
-third_stops P kind Version2 R text one two why of e are f s = opening_stops P kind false R text one two why of e are f s
-third_stops P kind Version3 R text one two why of e are f s = opening_stops P kind true R text one two why of e are f s
-third_stops P kind Free1 R text one two why of e are f s = goal_stops P kind false R text one two why of e are f s
-third_stops P kind Free2 R text one two why of e are f s = goal_stops P kind true R text one two why of e are f s
+third_stops P kind v R text one two why of e are f s = at v of (two_lines (version_text v) R text one two e f) s
+  where
+    behind : (F : Front) (C : List ℕ → LogRefusal → Type 0) → IsRead P kind F → HasNoCause P kind F → (IsWhole F → ⊥) → ((line : List ℕ) (why : LogRefusal) → C line why → ReadCause P kind F line why) → text ≡ front_text P F ++ two → StopsFor C two why → IsHeaderRefused P kind text why
+    behind F C read none part along e s = stops P kind F text two why read none part e (stops_along C (ReadCause P kind F) along two why s)
+
+    at : (v : Version) → kind_of v ≡ kind → text ≡ (version_text v ++ rules_text R) ++ two → StopsAtThird P v two why → IsHeaderRefused P kind text why
+    at Version1 of e s = absurd s
+    at Version2 of e s = behind (BeforeTurn false R) (OpeningReadCause P false) (of, are) (of, are) (λ h. h) (opening_read P kind false R) e s
+    at Version3 of e s = behind (BeforeTurn true R) (OpeningReadCause P true) (of, are) (of, are) (λ h. h) (opening_read P kind true R) e s
+    at Free1 of e s = behind (BeforeGoal false R) (GoalCause P) (of, are) (of, are) (λ h. h) (goal_read P kind false R) e s
+    at Free2 of e s = behind (BeforeGoal true R) (GoalCause P) (of, are) (of, are) (λ h. h) (goal_read P kind true R) e s
+    at Fill1 of e s = behind (BeforeCells R) (CellsCause P) (of, are) (of, are) (λ h. h) (cells_read P kind R) e s
 
 turn_spelled : (P : Instance) (bytes old rest : List ℕ) (t : Turn) → old ≡ bytes ++ rest → TurnsTo P bytes t.day t.x → OpeningFits P (Turned t) × (old ≡ turn_text (name_of P t.x) t.day ++ rest)
 turn_spelled P bytes old rest t e h =
@@ -96,35 +98,42 @@ turn_spelled P bytes old rest t e h =
     ((h.1.1, n.0), e ∙ ap (λ b. b ++ rest) (h.1.2 ∙ ap (λ name. turn_text name t.day) (sym n.1)))
 
 pub opening_spelled : (P : Instance) (counts : Bool) (bytes old rest : List ℕ) (o : Opening) → old ≡ bytes ++ rest → SpellsOpening P counts bytes o → HasOpening P counts o old rest
+opening_spelled P true bytes old rest Full e h = record { of_version = refl; fits = tt; whole = e ∙ ap (λ b. b ++ rest) h }
 opening_spelled P false bytes old rest Full e h = absurd h
-opening_spelled P true bytes old rest Full e h = (tt, e ∙ ap (λ b. b ++ rest) h)
-opening_spelled P false bytes old rest (Turned t) e h = turn_spelled P bytes old rest t e h
-opening_spelled P true bytes old rest (Turned t) e h = turn_spelled P bytes old rest t e h
+opening_spelled P false bytes old rest (Turned t) e h =
+    let s = turn_spelled P bytes old rest t e h in record { of_version = refl; fits = s.0; whole = s.1 }
+opening_spelled P true bytes old rest (Turned t) e h =
+    let s = turn_spelled P bytes old rest t e h in record { of_version = refl; fits = s.0; whole = s.1 }
+opening_spelled P false bytes old rest (Given given) e h = absurd h
+opening_spelled P true bytes old rest (Given given) e h = absurd h
 
 -- the whole header
 
-third_behind : (first R third text one two three rest : List ℕ) → text ≡ first ++ one → one ≡ rules_text R ++ two → two ≡ third ++ three → rest ≡ three → text ≡ (first ++ rules_text R ++ third) ++ rest
-third_behind first R third text one two three rest e f g h =
-    let front = first ++ rules_text R in
-    two_lines first R text one two e f ∙ ap (λ z. front ++ z) (g ∙ ap (λ z. third ++ z) (sym h)) ∙ sym (append_assoc front third rest)
+-- its version tells that it may count where it gives cells
+counts_fit : (v : Version) (o : Opening) (goal : Option ℕ) → version_of o goal (version_counts v) ≡ v → CountsFit o (version_counts v)
+counts_fit v Full goal e = tt
+counts_fit v (Turned t) goal e = tt
+counts_fit v (Given given) goal e = sym (ap version_counts e)
 
 pub header_read : (P : Instance) (kind : LogKind) (v : Version) (R : List ℕ) (o : Opening) (goal : Option ℕ) (text one two three rest : List ℕ) → kind_of v ≡ kind → text ≡ version_text v ++ one → AreRules P R → one ≡ rules_text R ++ two → IsThird P v o goal two three → rest ≡ three → BeginsWithHeader P kind text R o goal (version_counts v) rest
-header_read P kind Version1 R Full None text one two three rest of e are f third h =
-    record { of_kind = of; rules = are; fits = tt; in_range = tt; whole = two_lines (version_text Version1) R text one rest e (f ∙ ap (λ t. rules_text R ++ t) (third ∙ sym h)) }
-header_read P kind Version2 R Full None text one two three rest of e are f third h = absurd third
-header_read P kind Version2 R (Turned t) None text one two three rest of e are f third h =
-    record { of_kind = of; rules = are; fits = third.0; in_range = tt; whole = third_behind (version_text Version2) R (turn_text (name_of P t.x) t.day) text one two three rest e f third.1 h }
-header_read P kind Version3 R Full None text one two three rest of e are f third h =
-    record { of_kind = of; rules = are; fits = tt; in_range = tt; whole = third_behind (version_text Version3) R no_turn_text text one two three rest e f third.1 h }
-header_read P kind Version3 R (Turned t) None text one two three rest of e are f third h =
-    record { of_kind = of; rules = are; fits = third.0; in_range = tt; whole = third_behind (version_text Version3) R (turn_text (name_of P t.x) t.day) text one two three rest e f third.1 h }
-header_read P kind Free1 R Full (Some goal) text one two three rest of e are f third h =
-    record { of_kind = of; rules = are; fits = tt; in_range = (refl, third.0); whole = third_behind (version_text Free1) R (goal_text goal) text one two three rest e f third.1 h }
-header_read P kind Free2 R Full (Some goal) text one two three rest of e are f third h =
-    record { of_kind = of; rules = are; fits = tt; in_range = (refl, third.0); whole = third_behind (version_text Free2) R (goal_text goal) text one two three rest e f third.1 h }
-header_read P kind v R o goal text one two three rest of e are f third h = absurd third
+header_read P kind v R o goal text one two three rest of e are f third h =
+    let counts = version_counts v in
+    let third_line = third_text P o goal counts in
+    let front = version_text v ++ rules_text R in
+    record {
+      of_kind = sym (of_its_kind o goal counts) ∙ ap kind_of third.of_version ∙ of;
+      rules = are;
+      fits = third.fits;
+      in_range = third.in_range;
+      may_count = counts_fit v o goal third.of_version;
+      whole =
+          two_lines (version_text v) R text one two e f ∙ ap (λ z. front ++ z) (third.whole ∙ ap (λ z. third_line ++ z) (sym h))
+          ∙ sym (append_assoc front third_line rest) ∙ ap (λ w. (version_text w ++ rules_text R ++ third_line) ++ rest) (sym third.of_version);
+    }
 
 -- where the problem has logs of the kind, the goal of a header fits
-pub goal_fits : (P : Instance) (kind : LogKind) (o : Opening) (goal : Option ℕ) → HasLogsOf P kind → kind_by goal ≡ kind → GoalIsInRange P o goal → GoalFits P o goal
+pub goal_fits : (P : Instance) (kind : LogKind) (o : Opening) (goal : Option ℕ) → HasLogsOf P kind → kind_by o goal ≡ kind → GoalIsInRange P o goal → GoalFits P o goal
 goal_fits P kind o None has of h = tt
-goal_fits P kind o (Some goal) has of h = (h.0, subst (HasLogsOf P) (sym of) has, h.1)
+goal_fits P kind o (Some goal) has of h =
+    let plain : kind_by Full (Some goal) ≡ kind = subst (λ q. kind_by q (Some goal) ≡ kind) h.0 of in
+    (h.0, subst (HasLogsOf P) (sym plain) has, h.1)

@@ -1,21 +1,30 @@
 -- The lines of a header are read where they spell one, and as what they spell.
-use Rattle.std.proofs.Common.{◌≡◌, ◌≢◌, ℕ, ◌+◌, ◌≤◌, List, [], ◌∷◌, ◌++◌, ap, sym, ◌∙◌, subst, inl, inr, Option, Some, None}
-use Rattle.std.specs.Prelude.{codes}
+use Rattle.std.proofs.Common.{◌≡◌, ◌≢◌, ℕ, ◌+◌, ◌≤◌, List, [], ◌∷◌, ◌++◌, map, refl, ap, sym, ◌∙◌, subst, inl, inr, Option, Some, None}
+use Rattle.std.specs.Prelude.{codes, Result, Ok, Err}
+use Rattle.std.specs.List.Sorted.{IsStrictlyIncreasing}
 use Rattle.std.specs.List.{join_with_byte}
 use Rattle.std.specs.Fmt.{decimal}
-use Rattle.rwsp_text.specs.Fields.{Words, IsName, text_of}
+use Rattle.rwsp_text.specs.Fields.{Words, NamedCell, ◌>>=◌, IsName, word_at, cells_at, text_of}
 use Rattle.rwsp_text.specs.Kinds.{Kind, AreBlankless, IsLine, IsReadable, read_line}
 use Rattle.rwsp_text.specs.Lines.{words_of}
 use Rattle.rwsp_text.proofs.KindLaws.{line_found, line_only, lines_are_words, one_kind, no_words}
 use Rattle.rwsp_text.proofs.LineLaws.{text_words, words_text}
 use Rattle.rwsp_terms.specs.Instance.{Instance, IsDay}
 use Rattle.rwsp_model.specs.Validity.{KeepsLimits}
-use Rattle.refutation_terms.specs.LogText.{rules_kind, rules_kinds, turn_kind, turn_kinds, goal_kind, goal_kinds}
-use Rattle.refutation_terms.specs.Verdict.{SpellsTurn}
+use Rattle.refutation_terms.specs.LogText.{rules_kind, rules_kinds, turn_kind, turn_kinds, goal_kind, goal_kinds, cells_kind, cells_kinds, named_cell}
+use Rattle.refutation_terms.specs.Verdict.{SpellsTurn, SpellsCells}
 use Rattle.refutation_terms.specs.TextLaws.{IsWritable}
 use Rattle.refutation_terms.proofs.LineTables.{rules_fields, turn_fields, rules_line, turn_line, rules_found, turn_found as turn_line_found, rules_readable, turn_readable, turn_words, goal_fields, goal_line, goal_readable}
-use Rattle.refutation_log.specs.Refusals.{SpellsRules, SpellsGoal}
-use Rattle.refutation_log.specs.Reading.{named_at, goal_at, turn_at}
+use Rattle.refutation_terms.specs.declared.cells.GivenCell.{GivenCell}
+use Rattle.refutation_terms.proofs.GivenLine.{cells_fields, cells_readable, cells_line, cells_line_found, same_places}
+use Rattle.rwsp_model.specs.Refusals.{MatchAnswer}
+use Rattle.rwsp_model.specs.declared.fail.Fail.{Fail}
+use Rattle.rwsp_model.specs.declared.fail.Fail.TheVariants.{Refused, Memory}
+use Rattle.refutation_log.specs.declared.refusal.LineRefusal.{LineRefusal}
+use Rattle.refutation_log.specs.declared.refusal.LineRefusal.TheVariants.{Form, Name}
+use Rattle.refutation_log.specs.Refusals.{SpellsRules, SpellsGoal, SpellsGivenCells, AreCellsRefused}
+use Rattle.refutation_log.specs.Reading.{named_at, goal_at, turn_at, cells_line_at, AreNamesOf, AnswersCells}
+use Rattle.refutation_log.proofs.CellsRead.{same_bound}
 use Rattle.refutation_log.proofs.LineTexts.{is_writable}
 
 pub turn_visible : (P : Instance) (name : List ℕ) (day : ℕ) → IsWritable P → IsName name → IsDay P day → AreBlankless (turn_fields name day)
@@ -77,3 +86,39 @@ turn_missed P bytes body k e h name day spells =
 
 pub turn_no_feed : (P : Instance) (bytes : List ℕ) → ((body : List ℕ) → bytes ≢ body ++ 10 ∷ []) → (name : List ℕ) (day : ℕ) → SpellsTurn P bytes name day → ⊥
 turn_no_feed P bytes none name day spells = none (join_with_byte 32 (codes "turn" ∷ name ∷ decimal day ∷ [])) spells.2
+
+-- given cells
+
+cells_is : (P : Instance) (ws : Words) → cells_line_at P ws ≡ read_line (cells_kinds P) ws
+unfolding cells_line_at
+cells_is P ws = under (word_at (codes "cells") ws) ∙ sym (one_kind (cells_kind P) ws)
+  where
+    under : (o : Option Words) → (o >>= (λ rest. cells_at P.weeks P.days rest)) ≡ (o >>= (λ rest. cells_at P.weeks P.days rest >>= (λ c. Some c)))
+    under None = refl
+    under (Some rest) = sym (same_bound (cells_at P.weeks P.days rest))
+
+-- the words of a line that says cells
+cells_said : (P : Instance) (bytes body : List ℕ) (named : List NamedCell) → bytes ≡ body ++ 10 ∷ [] → cells_line_at P (words_of body) ≡ Some named → SpellsCells P bytes named
+cells_said P bytes body named e h =
+    let f = cells_line_found P (words_of body) named (line_found (cells_kinds P) (words_of body) named (sym (cells_is P (words_of body)) ∙ h)) in
+    (f.1, words_text bytes body (cells_fields P named) e f.0)
+
+-- where the names are those of symbols, it spells given cells
+given_spelled : (P : Instance) (bytes : List ℕ) (named : List NamedCell) (given : List GivenCell) → SpellsCells P bytes named → AreNamesOf P named given → SpellsGivenCells P bytes given
+given_spelled P bytes named given s a =
+    let t : SpellsCells P bytes (map (named_cell P) given) = subst (SpellsCells P bytes) a.0 s in
+    ((subst IsStrictlyIncreasing (same_places P given) t.0.0, a.1), t.1)
+
+-- the answer to the words of a line is the answer to the line
+pub cells_answered : (P : Instance) (bytes body : List ℕ) (o : Option (List NamedCell)) (r : Result (List GivenCell) (Fail LineRefusal)) → KeepsLimits P → bytes ≡ body ++ 10 ∷ [] → cells_line_at P (words_of body) ≡ o → AnswersCells P o r → MatchAnswer r (SpellsGivenCells P bytes) (AreCellsRefused P bytes)
+cells_answered P bytes body None (Ok given) k e h a = absurd a
+cells_answered P bytes body None (Err (Refused Form)) k e h a = λ named s.
+    let w = cells_is P (words_of body) ∙ line_spelled (cells_kinds P) (cells_fields P named) named bytes body (cells_readable P (is_writable P k)) (cells_line P named s.0) e s.1 in absurd (cc)
+cells_answered P bytes body None (Err (Refused Name)) k e h a = absurd a
+cells_answered P bytes body (Some named) (Ok given) k e h a = given_spelled P bytes named given (cells_said P bytes body named e h) a
+cells_answered P bytes body (Some named) (Err (Refused Form)) k e h a = absurd a
+cells_answered P bytes body (Some named) (Err (Refused Name)) k e h a = (named, cells_said P bytes body named e h, a)
+cells_answered P bytes body o (Err Memory) k e h a = tt
+
+pub cells_no_feed : (P : Instance) (bytes : List ℕ) → ((body : List ℕ) → bytes ≢ body ++ 10 ∷ []) → AreCellsRefused P bytes Form
+cells_no_feed P bytes none named s = none (join_with_byte 32 (cells_fields P named)) s.1

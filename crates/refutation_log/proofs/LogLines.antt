@@ -1,6 +1,6 @@
 -- Reading the lines of a log one after another, and why a text is refused by reading.
 use Rattle.std.proofs.Common.{◌≡◌, ◌≢◌, ℕ, zero, suc, ◌+◌, ◌-◌, ◌<◌, ◌≤◌, List, [], ◌∷◌, ◌++◌, length, take, refl, ap, sym, ◌∙◌, subst, arith, Bool, Option, Some, None, inl, inr, ⊎_elim, append_assoc, length-append}
-use Rattle.std.specs.Prelude.{slice_get, Err}
+use Rattle.std.specs.Prelude.{slice_get, Result, Ok, Err}
 use Rattle.std.proofs.lemmas.List.{append-nil, take-append-le, take_all}
 use Rattle.std.proofs.lemmas.List.Concat.{flat_map-append}
 use Rattle.std.proofs.lemmas.Bool.{cases_lt}
@@ -15,15 +15,16 @@ use Rattle.refutation_terms.specs.declared.lines.Opening.{Opening}
 use Rattle.refutation_terms.specs.declared.lines.LogRefusal.{LogRefusal}
 use Rattle.refutation_terms.specs.declared.lines.LogRefusal.TheVariants as Refusals
 use Rattle.refutation_terms.specs.Tree.{IsTree, after_trees}
-use Rattle.refutation_terms.specs.Log.{Log, LineFits, OpeningFits, GoalFits}
+use Rattle.refutation_terms.specs.Log.{Log, LineFits, OpeningFits, GoalFits, CountsFit}
 use Rattle.refutation_terms.specs.Ranges.{AreRules}
 use Rattle.refutation_terms.specs.LogText.{raw, line_text, lines_text, log_text, header_text}
 use Rattle.rwsp_text.specs.Lines.{IsNextLine}
-use Rattle.refutation_terms.specs.Verdict.{kind_by, Spells, Reading, header_lines, IsRefusedBehindFront}
+use Rattle.refutation_terms.specs.Verdict.{kind_by, kind_of_log, Spells, Reading, header_lines, IsRefusedBehindFront}
 use Rattle.refutation_terms.proofs.Trees.{tree_is_whole, whole_is_tree}
 use Rattle.refutation_terms.proofs.LineTables.{spelled_lines_fit}
+use Rattle.refutation_log.specs.declared.header.Header.{Header}
 use Rattle.refutation_log.specs.Printing.{EachFits}
-use Rattle.refutation_log.specs.ReadLog.{IsReadSoFar, IsRead, ReadCause, IsUnread, IsReadAs, AreReadLines, IsTreeLineRefused, open_after, log_with}
+use Rattle.refutation_log.specs.ReadLog.{IsReadSoFar, IsRead, ReadCause, IsUnread, IsReadAs, AreReadLines, AreLinesUnder, IsLogUnder, IsUnreadUnder, IsTreeLineRefused, open_after, log_with, log_under, text_of_header}
 use Rattle.refutation_log.proofs.PrintedTexts.{line_piece, joined_lines}
 
 lines_text_push : (P : Instance) (goal : Option ℕ) (lines : List Line) (line : Line) → lines_text P goal (lines ++ line ∷ []) ≡ lines_text P goal lines ++ line_text P (raw P goal line)
@@ -110,14 +111,15 @@ lines_more P goal counts old left bytes rest lines more line count next so some 
     }))
 
 -- a header that fits the problem
-pub record HeaderFits (P : Instance) (named : List ℕ) (o : Opening) (goal : Option ℕ) : Type 0 where
+pub record HeaderFits (P : Instance) (named : List ℕ) (o : Opening) (goal : Option ℕ) (counts : Bool) : Type 0 where
   pub rules : AreRules P named
   pub opening : OpeningFits P o
   pub goal_fits : GoalFits P o goal
+  pub may_count : CountsFit o counts
 
-pub is_read : (P : Instance) (named : List ℕ) (o : Opening) (goal : Option ℕ) (counts : Bool) (old left : List ℕ) (lines : List Line) (count : ℕ) → HeaderFits P named o goal → LinesSoFar P goal counts old left lines count → IsReadSoFar P (log_with named o goal counts lines)
+pub is_read : (P : Instance) (named : List ℕ) (o : Opening) (goal : Option ℕ) (counts : Bool) (old left : List ℕ) (lines : List Line) (count : ℕ) → HeaderFits P named o goal counts → LinesSoFar P goal counts old left lines count → IsReadSoFar P (log_with named o goal counts lines)
 is_read P named o goal counts old left lines count h so = record {
-  fits = record { named = h.rules; opening = h.opening; goal = h.goal_fits; lines = fits_at P goal counts lines so.fits };
+  fits = record { named = h.rules; opening = h.opening; goal = h.goal_fits; counts = h.may_count; lines = fits_at P goal counts lines so.fits };
   in_tree = so.parts;
 }
 
@@ -129,7 +131,7 @@ tree_read lines count walk e =
 headed : (h t left old : List ℕ) → old ≡ t ++ left → h ++ old ≡ (h ++ t) ++ left
 headed h t left old e = ap (λ z. h ++ z) e ∙ sym (append_assoc h t left)
 
-pub lines_end : (P : Instance) (named : List ℕ) (o : Opening) (goal : Option ℕ) (counts : Bool) (old left : List ℕ) (lines : List Line) (count : ℕ) → HeaderFits P named o goal → LinesSoFar P goal counts old left lines count → 0 < count → left ≡ [] → IsUnread P (kind_by goal) (header_text P named o goal counts ++ old) Refusals.Ends
+pub lines_end : (P : Instance) (named : List ℕ) (o : Opening) (goal : Option ℕ) (counts : Bool) (old left : List ℕ) (lines : List Line) (count : ℕ) → HeaderFits P named o goal counts → LinesSoFar P goal counts old left lines count → 0 < count → left ≡ [] → IsUnread P (kind_by o goal) (header_text P named o goal counts ++ old) Refusals.Ends
 lines_end P named o goal counts old left lines count h so some e = record {
   front = Reading (log_with named o goal counts lines);
   no_cause = (refl, is_read P named o goal counts old left lines count h so);
@@ -148,7 +150,7 @@ behind : (P : Instance) (g : Log) (text old left : List ℕ) → Continues P g t
 behind P g text old left e =
     e.0 ∙ headed (header_text P g.named g.opening g.goal g.counts) (lines_text P g.goal g.lines) left old e.1
 
-line_cut : (P : Instance) (kind : LogKind) (g : Log) (text old left bytes rest : List ℕ) (why : LogRefusal) → kind_by g.goal ≡ kind → Continues P g text old left → IsReadSoFar P g → left ≡ bytes ++ rest → IsNextLine bytes rest → ReadCause P kind (Reading g) bytes why → IsRefusedBehindFront P (IsRead P kind) (ReadCause P kind) text why
+line_cut : (P : Instance) (kind : LogKind) (g : Log) (text old left bytes rest : List ℕ) (why : LogRefusal) → kind_of_log g ≡ kind → Continues P g text old left → IsReadSoFar P g → left ≡ bytes ++ rest → IsNextLine bytes rest → ReadCause P kind (Reading g) bytes why → IsRefusedBehindFront P (IsRead P kind) (ReadCause P kind) text why
 line_cut P kind g text old left bytes rest why of e read f next cause = record {
   front = Reading g;
   line = bytes;
@@ -159,26 +161,43 @@ line_cut P kind g text old left bytes rest why of e read f next cause = record {
   cause = cause;
 }
 
-pub line_unread : (P : Instance) (named : List ℕ) (o : Opening) (goal : Option ℕ) (counts : Bool) (old left bytes rest : List ℕ) (lines : List Line) (count n : ℕ) (why : LogRefusal) → HeaderFits P named o goal → LinesSoFar P goal counts old left lines count → 0 < count → left ≡ bytes ++ rest → IsNextLine bytes rest → n ≡ header_lines o goal counts + length lines + 1 → IsTreeLineRefused P goal counts bytes n why → IsUnread P (kind_by goal) (header_text P named o goal counts ++ old) why
+pub line_unread : (P : Instance) (named : List ℕ) (o : Opening) (goal : Option ℕ) (counts : Bool) (old left bytes rest : List ℕ) (lines : List Line) (count n : ℕ) (why : LogRefusal) → HeaderFits P named o goal counts → LinesSoFar P goal counts old left lines count → 0 < count → left ≡ bytes ++ rest → IsNextLine bytes rest → n ≡ header_lines o goal counts + length lines + 1 → IsTreeLineRefused P goal counts bytes n why → IsUnread P (kind_by o goal) (header_text P named o goal counts ++ old) why
 line_unread P named o goal counts old left bytes rest lines count n (Refusals.Form i) h so some e next num c =
-    line_cut P (kind_by goal) (log_with named o goal counts lines) (header_text P named o goal counts ++ old) old left bytes rest (Refusals.Form i) refl (refl, so.text) (is_read P named o goal counts old left lines count h so) e next (inr (not_whole lines count so.walk some, (c.0 ∙ num, c.1)), tt)
+    line_cut P (kind_by o goal) (log_with named o goal counts lines) (header_text P named o goal counts ++ old) old left bytes rest (Refusals.Form i) refl (refl, so.text) (is_read P named o goal counts old left lines count h so) e next (inr (not_whole lines count so.walk some, (c.0 ∙ num, c.1)), tt)
 line_unread P named o goal counts old left bytes rest lines count n (Refusals.Name i) h so some e next num c =
-    line_cut P (kind_by goal) (log_with named o goal counts lines) (header_text P named o goal counts ++ old) old left bytes rest (Refusals.Name i) refl (refl, so.text) (is_read P named o goal counts old left lines count h so) e next (inr (not_whole lines count so.walk some, (c.0 ∙ num, c.1)), tt)
+    line_cut P (kind_by o goal) (log_with named o goal counts lines) (header_text P named o goal counts ++ old) old left bytes rest (Refusals.Name i) refl (refl, so.text) (is_read P named o goal counts old left lines count h so) e next (inr (not_whole lines count so.walk some, (c.0 ∙ num, c.1)), tt)
 line_unread P named o goal counts old left bytes rest lines count n why h so some e next num c = absurd c
 
-pub line_extra : (P : Instance) (kind : LogKind) (g : Log) (text old left bytes rest : List ℕ) (n : ℕ) → kind_by g.goal ≡ kind → text ≡ header_text P g.named g.opening g.goal g.counts ++ old → AreReadLines P g old left → left ≡ bytes ++ rest → IsNextLine bytes rest → n ≡ header_lines g.opening g.goal g.counts + length g.lines + 1 → IsUnread P kind text (Refusals.Extra n)
+pub line_extra : (P : Instance) (kind : LogKind) (g : Log) (text old left bytes rest : List ℕ) (n : ℕ) → kind_of_log g ≡ kind → text ≡ header_text P g.named g.opening g.goal g.counts ++ old → AreReadLines P g old left → left ≡ bytes ++ rest → IsNextLine bytes rest → n ≡ header_lines g.opening g.goal g.counts + length g.lines + 1 → IsUnread P kind text (Refusals.Extra n)
 line_extra P kind g text old left bytes rest n of t read f next num =
     line_cut P kind g text old left bytes rest (Refusals.Extra n) of (t, read.whole) read.read f next (inl (read.tree, num), tt)
 
--- a whole log, from its parts
-pub read_whole : (P : Instance) (kind : LogKind) (g h : Log) (text old left : List ℕ) → kind_by g.goal ≡ kind → text ≡ header_text P g.named g.opening g.goal g.counts ++ old → AreReadLines P g old left → left ≡ [] → h.named ≡ g.named → h.opening ≡ g.opening → h.goal ≡ g.goal → h.counts ≡ g.counts → h.lines ≡ g.lines → IsReadAs P kind text h
-read_whole P kind g h text old left of t read e by_name by_opening by_goal by_counts by_lines =
-    let is : h ≡ g =
-    ap (λ n. log_with n h.opening h.goal h.counts h.lines) by_name ∙ ap (λ o. log_with g.named o h.goal h.counts h.lines) by_opening
-    ∙ ap (λ o. log_with g.named g.opening o h.counts h.lines) by_goal ∙ ap (λ c. log_with g.named g.opening g.goal c h.lines) by_counts
-    ∙ ap (log_with g.named g.opening g.goal g.counts) by_lines in
-    subst (IsReadAs P kind text) (sym is)
-    (record { of_kind = of; is_text = behind P g text old left (t, read.whole) ∙ ap (λ z. log_text P g ++ z) e ∙ append-nil (log_text P g); fits = read.read.fits; tree = read.tree })
+-- a log with the header and the lines that were read
+pub log_under_read : (P : Instance) (h : Header) (g : Log) (old left : List ℕ) (lines : List Line) → AreLinesUnder P h old left lines → left ≡ [] → g.named ≡ h.named → g.opening ≡ h.opening → g.goal ≡ h.goal → g.counts ≡ h.counts → g.lines ≡ lines → IsLogUnder P h old g
+log_under_read P h g old left lines read e by_name by_opening by_goal by_counts by_lines =
+    let is : g ≡ log_under h lines =
+    ap (λ n. log_with n g.opening g.goal g.counts g.lines) by_name ∙ ap (λ o. log_with h.named o g.goal g.counts g.lines) by_opening
+    ∙ ap (λ o. log_with h.named h.opening o g.counts g.lines) by_goal ∙ ap (λ c. log_with h.named h.opening h.goal c g.lines) by_counts
+    ∙ ap (log_with h.named h.opening h.goal h.counts) by_lines in
+    (subst (λ (l : Log). AreReadLines P l old []) (sym is) (subst (λ r. AreReadLines P (log_under h lines) old r) e read), is ∙ ap (log_under h) (sym by_lines))
+
+log_read : (P : Instance) (kind : LogKind) (h : Header) (text body : List ℕ) (g : Log) → kind_by h.opening h.goal ≡ kind → text ≡ text_of_header P h ++ body → IsLogUnder P h body g → IsReadAs P kind text g
+log_read P kind h text body g of whole is =
+    let r : AreReadLines P (log_under h g.lines) body [] = subst (λ (l : Log). AreReadLines P l body []) is.1 is.0 in
+    subst (λ (l : Log). IsReadAs P kind text l) (sym is.1)
+    (record {
+      of_kind = of;
+      is_text = whole ∙ ap (λ t. text_of_header P h ++ t) (r.whole ∙ append-nil (lines_text P h.goal g.lines));
+      fits = r.read.fits;
+      tree = r.tree;
+    })
+
+-- the answer to what is behind a header is the answer to the text
+pub answer_behind : (P : Instance) (kind : LogKind) (h : Header) (text body : List ℕ) (r : Result Log (Fail LogRefusal)) → kind_by h.opening h.goal ≡ kind → text ≡ text_of_header P h ++ body → MatchAnswer r (IsLogUnder P h body) (IsUnreadUnder P h body) → MatchAnswer r (IsReadAs P kind text) (IsUnread P kind text)
+answer_behind P kind h text body (Ok g) of whole is = log_read P kind h text body g of whole is
+answer_behind P kind h text body (Err Memory) of whole is = tt
+answer_behind P kind h text body (Err (Refused why)) of whole is =
+    subst (λ k. IsUnread P k text why) of (subst (λ t. IsUnread P (kind_by h.opening h.goal) t why) (sym whole) is)
 
 -- a failure for one reason is one for another that follows
 pub fail_along : {T S R : Type 0} (fail : Fail R) (A : T → Type 0) (B : S → Type 0) (Q Q' : R → Type 0) → ((why : R) → Q why → Q' why) → MatchAnswer (Err fail) A Q → MatchAnswer (Err fail) B Q'

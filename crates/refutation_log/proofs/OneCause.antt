@@ -1,5 +1,5 @@
 -- A text that is refused by reading has one cause, and the text of a whole log has none.
-use Rattle.std.proofs.Common.{◌≡◌, ℕ, ◌+◌, ◌<◌, List, [], ◌∷◌, ◌++◌, length, take, refl, ap, sym, ◌∙◌, subst, arith, inl, inr, Bool, true, false, Option, Some, None, length-append}
+use Rattle.std.proofs.Common.{◌≡◌, ℕ, ◌+◌, ◌<◌, List, [], ◌∷◌, ◌++◌, length, take, refl, ap, sym, ◌∙◌, subst, arith, inl, inr, Bool, Option, Some, None, length-append}
 use Rattle.std.proofs.Math.Seq.{take-append_seam}
 use Rattle.rwsp_text.specs.Lines.{AreFronts}
 use Rattle.rwsp_terms.specs.Instance.{Instance, name_of, symbol_of}
@@ -7,21 +7,22 @@ use Rattle.rwsp_model.specs.Validity.{KeepsLimits}
 use Rattle.refutation_terms.specs.declared.lines.LogKind.{LogKind}
 use Rattle.refutation_terms.specs.declared.lines.Line.{Line}
 use Rattle.refutation_terms.specs.declared.lines.Turn.{Turn}
-use Rattle.refutation_terms.specs.declared.lines.Opening.{Opening}
-use Rattle.refutation_terms.specs.declared.lines.Opening.TheVariants.{Full, Turned}
+use Rattle.refutation_terms.specs.declared.lines.LogKind.TheVariants.{WithoutGoal, WithGoal, WithCells}
+use Rattle.refutation_terms.specs.declared.lines.Opening.TheVariants.{Turned}
 use Rattle.refutation_terms.specs.declared.lines.LogRefusal.{LogRefusal}
 use Rattle.refutation_terms.specs.declared.lines.LogRefusal.TheVariants as Refusals
 use Rattle.refutation_terms.specs.Word.{Domains}
+use Rattle.refutation_terms.specs.Ranges.{AreRules}
 use Rattle.refutation_terms.specs.Tree.{IsTree, after_trees, lines_in, domains_at}
-use Rattle.refutation_terms.specs.Log.{Log, Fits, LineFits, OpeningFits, GoalFits}
-use Rattle.refutation_terms.specs.LogText.{raw, line_text, log_text, turn_text, no_turn_text, opening_text}
-use Rattle.refutation_terms.specs.Verdict.{kind_by, Reading, header_lines}
+use Rattle.refutation_terms.specs.Log.{Log, Fits, LineFits, OpeningFits}
+use Rattle.refutation_terms.specs.LogText.{raw, line_text, log_text, turn_text}
+use Rattle.refutation_terms.specs.Verdict.{kind_of_log, Reading, header_lines}
 use Rattle.refutation_terms.proofs.LineTables.{fitting_lines_are_spelled}
 use Rattle.refutation_terms.proofs.Trees.{tree_is_whole, part_is_not_whole}
-use Rattle.refutation_terms.proofs.Fronts.{front_fields, fronts, HasTurnLine}
-use Rattle.refutation_terms.proofs.Causes.{not_unknown, Reason, OfName, OfIdle, OfLong, OfFail, OfEscape, OfOpen, Level, Nothing, Unknown, Known, level_of, turns_same, no_turn_spelled, no_turn_no_name, TurnReason, NoTurn, NoName, NoDay, NoDemand, turn_reason}
+use Rattle.refutation_terms.proofs.Fronts.{front_fields, fronts, before_by}
+use Rattle.refutation_terms.proofs.Causes.{not_unknown, Reason, OfName, OfIdle, OfLong, OfFail, OfEscape, OfOpen, Level, Nothing, Unknown, Known, level_of, turns_same, no_turn_spelled, TurnReason, NoTurn, NoName, NoDay, NoDemand}
 use Rattle.refutation_terms.proofs.OneRefusal.{IsAtEndOrLine, refusals_same, whole_has_none}
-use Rattle.refutation_terms.proofs.Unique.{got_seam, version_refutes, rules_refutes, goal_refutes, cause_same}
+use Rattle.refutation_terms.proofs.Unique.{got_seam, version_refutes, rules_refutes, third_is_fine, cause_same}
 use Rattle.refutation_log.specs.ReadLog.{IsReadCause, IsReadSoFar, IsRead, ReadCause, IsUnread}
 use Rattle.refutation_log.specs.Laws.{UnreadTextsHaveOneCause, TextsOfLogsAreRead}
 use Rattle.refutation_log.proofs.OneText.{is_writable, has_names}
@@ -35,18 +36,6 @@ turn_fine P counts R t why limits fits (NoName name day a s e) r =
     let clash : None ≡ Some t.x = sym s ∙ ap (symbol_of P) same.0 ∙ n.1 in cc
 turn_fine P counts R t why limits fits (NoDay name day x k a s l e) r = subst IsReadCause e r
 turn_fine P counts R t why limits fits (NoDemand name day x a s d l e) r = subst IsReadCause e r
-
--- nor has the line without a turn of a log that may count
-no_turn_fine : (P : Instance) (R : List ℕ) (why : LogRefusal) → KeepsLimits P → TurnReason P true R no_turn_text why → ⊥
-no_turn_fine P R why limits (NoTurn a e) = a.1 refl
-no_turn_fine P R why limits (NoName name day a s e) = no_turn_no_name P name day (is_writable P limits) a
-no_turn_fine P R why limits (NoDay name day x k a s l e) = no_turn_no_name P name day (is_writable P limits) a
-no_turn_fine P R why limits (NoDemand name day x a s d l e) = no_turn_no_name P name day (is_writable P limits) a
-
-opening_fine : (P : Instance) (counts : Bool) (R : List ℕ) (o : Opening) (why : LogRefusal) → KeepsLimits P → OpeningFits P o → HasTurnLine o counts → TurnReason P counts R (opening_text P o) why → IsReadCause why → ⊥
-opening_fine P counts R (Turned t) why limits fits has_line q r = turn_fine P counts R t why limits fits q r
-opening_fine P false R Full why limits fits has_line q r = has_line
-opening_fine P true R Full why limits fits has_line q r = no_turn_fine P R why limits q
 
 -- a line that is spelled has none
 no_reason : (P : Instance) (goal : Option ℕ) (R : List ℕ) (D : Domains) (n : ℕ) (line : Line) (why : LogRefusal) → Reason P goal R D n line why → IsReadCause why → ⊥
@@ -75,13 +64,19 @@ read_fronts : (P : Instance) (kind : LogKind) → KeepsLimits P → AreFronts (f
 read_fronts P kind limits =
     let w = is_writable P limits in
     let n = has_names P limits in
-    fronts P w n kind (IsRead P kind) (λ F h. h.0) (λ c R h. h.1) (λ c R h. h.1) (λ g h. h.1.fits) (ReadCause P kind)
+    fronts P w n kind (IsRead P kind) (λ F h. h.0) are_rules (λ g h. h.1.fits) (ReadCause P kind)
     (λ v why of c. version_refutes kind v why of c.0)
     (λ v R why are c. rules_refutes P R why are c.0)
-    (λ g why h has_line c. opening_fine P g.counts g.named g.opening why limits h.1.fits.opening has_line (turn_reason P g.counts g.named (opening_text P g.opening) why c.0) c.1)
-    (λ g goal why h is_goal c. let fits : GoalFits P g.opening (Some goal) = subst (GoalFits P g.opening) is_goal h.1.fits.goal in goal_refutes P goal why fits.2 c.0)
+    (λ g why h has c.
+    third_is_fine P kind g.named g.opening g.goal g.counts why w n h.1.fits.opening h.1.fits.goal has
+    (λ t is q. turn_fine P g.counts g.named t why limits (subst (OpeningFits P) is h.1.fits.opening) q c.1) c.0)
     (λ f line more why h c. line_fine P kind f line more why limits h.1 c)
     (λ F line why other a b. cause_same P kind F line why other w n a.0 b.0)
+  where
+    are_rules : (k : LogKind) (c : Bool) (R : List ℕ) → IsRead P kind (before_by k c R) → AreRules P R
+    are_rules WithoutGoal c R h = h.1
+    are_rules WithGoal c R h = h.1
+    are_rules WithCells c R h = h.1
 
 -- a refusal is at the end or at a line
 end_or_line : (P : Instance) (kind : LogKind) (text : List ℕ) (why : LogRefusal) → IsUnread P kind text why → IsAtEndOrLine P (IsRead P kind) (ReadCause P kind) text why
@@ -105,5 +100,5 @@ whole_read P g fits tree = record {
 
 pub texts_read : TextsOfLogsAreRead
 texts_read P g why limits fits tree u =
-    let kind = kind_by g.goal in
+    let kind = kind_of_log g in
     whole_has_none P (IsRead P kind) (ReadCause P kind) (read_fronts P kind limits) (log_text P g) (Reading g) why (refl, whole_read P g fits tree) tree refl (end_or_line P kind (log_text P g) why u)

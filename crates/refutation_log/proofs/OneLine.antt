@@ -14,7 +14,7 @@ use Rattle.refutation_terms.specs.declared.lines.Opening.{Opening}
 use Rattle.refutation_terms.specs.Ranges.{AreRules}
 use Rattle.refutation_terms.specs.Leaves.{LeafFits, LeafCites, LeafHolds}
 use Rattle.refutation_terms.specs.Tree.{Leaf as LeafTree, IsTree, opening}
-use Rattle.refutation_terms.specs.Log.{Log, LineFits, Cites, ListsShortOnly, HoldsAt, OpeningFits, OpeningCites, NamesOnlyCited, Passes}
+use Rattle.refutation_terms.specs.Log.{Log, LineFits, Cites, ListsShortOnly, HoldsAt, OpeningFits, CountsFit, OpeningCites, NamesOnlyCited, Passes}
 use Rattle.refutation_terms.proofs.TreeDomains.{behind_none}
 use Rattle.refutation_log.specs.ReadLog.{log_with}
 use Rattle.refutation_log.specs.OneLeaf.{ClosesAll}
@@ -40,12 +40,12 @@ only_cited P g o leaf both by_opening by_lines r n =
     ((both r).0 n)
 
 -- it passes where the leaf closes all cases
-one_passes : (P : Instance) (R : List ℕ) (o : Opening) (goal : Option ℕ) (counts : Bool) (leaf : Leaf) → AreRules P R → NamesBoth P R o leaf → OpeningFits P o → LeafFits P goal counts leaf → ClosesAll P o goal leaf → Passes P (log_with R o goal counts (Closing leaf ∷ []))
-one_passes P R o goal counts leaf are both opening_fits fits closes =
+one_passes : (P : Instance) (R : List ℕ) (o : Opening) (goal : Option ℕ) (counts : Bool) (leaf : Leaf) → AreRules P R → NamesBoth P R o leaf → OpeningFits P o → CountsFit o counts → LeafFits P goal counts leaf → ClosesAll P o goal leaf → Passes P (log_with R o goal counts (Closing leaf ∷ []))
+one_passes P R o goal counts leaf are both opening_fits may fits closes =
     let g = log_with R o goal counts (Closing leaf ∷ []) in
     record {
       grounded = record {
-        fits = record { named = are; opening = opening_fits; goal = closes.goal_fits; lines = at_only (λ k line. LineFits P goal counts line) (Closing leaf) fits };
+        fits = record { named = are; opening = opening_fits; goal = closes.goal_fits; counts = may; lines = at_only (λ k line. LineFits P goal counts line) (Closing leaf) fits };
         allowed = closes.allowed;
         turn_named = λ r c. (both r).1 (inl c);
         named = λ k line r at c. at_only (λ i l. Cites P l r → Names P R r) (Closing leaf) (λ cites. (both r).1 (inr cites)) k line at c;
@@ -55,12 +55,12 @@ one_passes P R o goal counts leaf are both opening_fits fits closes =
       holds = at_only (HoldsAt P g) (Closing leaf) (subst (λ D. LeafHolds P goal D leaf) (sym (behind_none (opening P o))) closes.holds);
     }
 
-pub log_passes : (P : Instance) (R : List ℕ) (o : Opening) (goal : Option ℕ) (counts : Bool) (leaf : Leaf) (g : Log) → AreRules P R → NamesBoth P R o leaf → OpeningFits P o → LeafFits P goal counts leaf → g.named ≡ R → g.opening ≡ o → g.goal ≡ goal → g.counts ≡ counts → g.lines ≡ Closing leaf ∷ [] → ClosesAll P o goal leaf → Passes P g
-log_passes P R o goal counts leaf g are both opening_fits fits by_name by_opening by_goal by_counts by_lines closes =
+pub log_passes : (P : Instance) (R : List ℕ) (o : Opening) (goal : Option ℕ) (counts : Bool) (leaf : Leaf) (g : Log) → AreRules P R → NamesBoth P R o leaf → OpeningFits P o → CountsFit o counts → LeafFits P goal counts leaf → g.named ≡ R → g.opening ≡ o → g.goal ≡ goal → g.counts ≡ counts → g.lines ≡ Closing leaf ∷ [] → ClosesAll P o goal leaf → Passes P g
+log_passes P R o goal counts leaf g are both opening_fits may fits by_name by_opening by_goal by_counts by_lines closes =
     let is : g ≡ log_with R o goal counts (Closing leaf ∷ []) =
     ap (λ n. log_with n g.opening g.goal g.counts g.lines) by_name ∙ ap (λ q. log_with R q g.goal g.counts g.lines) by_opening
     ∙ ap (λ q. log_with R o q g.counts g.lines) by_goal ∙ ap (λ c. log_with R o goal c g.lines) by_counts ∙ ap (log_with R o goal counts) by_lines in
-    subst (Passes P) (sym is) (one_passes P R o goal counts leaf are both opening_fits fits closes)
+    subst (Passes P) (sym is) (one_passes P R o goal counts leaf are both opening_fits may fits closes)
 
 -- rules that were put into the empty list
 pub both_named : (P : Instance) (none mid new : List ℕ) (A B : Rule → Type 0) → none ≡ [] → ((r : Rule) → Names P mid r ↔ (Names P none r ⊎ A r)) → ((r : Rule) → Names P new r ↔ (Names P mid r ⊎ B r)) → (r : Rule) → Names P new r ↔ (A r ⊎ B r)

@@ -1,15 +1,16 @@
 -- The texts of lines, piece by piece.
-use Rattle.std.proofs.Common.{◌≡◌, ℕ, ◌+◌, ◌<◌, ◌≤◌, List, [], ◌∷◌, ◌++◌, length, take, get_or, Bool, refl, Option, Some, None, ap, sym, ◌∙◌, append_assoc}
+use Rattle.std.proofs.Common.{◌≡◌, ℕ, ◌+◌, ◌<◌, ◌≤◌, List, [], ◌∷◌, ◌++◌, length, take, get_or, map, Bool, refl, Option, Some, None, ap, sym, ◌∙◌, append_assoc}
 use Rattle.std.specs.Prelude.{codes}
 use Rattle.std.specs.List.{join_with_byte, flat_map}
 use Rattle.std.specs.Fmt.{decimal}
 use Rattle.std.proofs.lemmas.List.{append-nil, take_more, take_all, flat_map_more}
 use Rattle.std.proofs.lemmas.List.Concat.{flat_map-append}
 use Rattle.rwsp_terms.specs.declared.data.Weight.{Weight}
-use Rattle.rwsp_terms.specs.Instance.{Instance}
+use Rattle.rwsp_terms.specs.Instance.{Instance, name_of}
+use Rattle.refutation_terms.specs.declared.cells.GivenCell.{GivenCell}
 use Rattle.refutation_terms.specs.declared.lines.Line.{Line}
-use Rattle.refutation_terms.specs.LogText.{RawSplit, RawWindow, RawDay, RawDead, RawBlocks, raw, raw_light, raw_fields, line_text, lines_text, place_words, way, named_weight, rules_text, goal_text, turn_text}
-use Rattle.rwsp_text.specs.Fields.{numbers, weight_fields}
+use Rattle.refutation_terms.specs.LogText.{RawSplit, RawWindow, RawDay, RawDead, RawBlocks, raw, raw_light, raw_fields, line_text, lines_text, place_words, way, named_weight, named_cell, rules_text, goal_text, turn_text, cells_text}
+use Rattle.rwsp_text.specs.Fields.{numbers, weight_fields, cell_fields}
 use Rattle.rwsp_text.proofs.JoinedWords.{join_spaced}
 use Rattle.refutation_log.specs.Printing.{spaced, weight_words, light_head, weighed_words}
 
@@ -142,6 +143,24 @@ pub goal_line : (goal : ℕ) (a b c d : List ℕ) → b ≡ a ++ codes "goal" �
 goal_line goal a b c d q r s =
     let w = codes "goal" in
     close a (join_with_byte 32 (w ∷ decimal goal ∷ [])) c d (finish a w (decimal goal ∷ []) c (word a w [] (decimal goal) b c (begin a w b q) r)) s
+
+abbrev pub cell_piece : Instance → GivenCell → List ℕ
+cell_piece P c = spaced (cell_fields P.days (named_cell P c))
+
+pub spaced_cells : (P : Instance) (given : List GivenCell) → flat_map (cell_piece P) given ≡ spaced (flat_map (cell_fields P.days) (map (named_cell P) given))
+spaced_cells P [] = refl
+spaced_cells P (c ∷ given) =
+    ap (λ t. cell_piece P c ++ t) (spaced_cells P given)
+    ∙ sym (spaced-append (cell_fields P.days (named_cell P c)) (flat_map (cell_fields P.days) (map (named_cell P) given)))
+
+pub cell_text : (P : Instance) (c : GivenCell) (a b d : List ℕ) → b ≡ a ++ spaced (place_words P c.p) → d ≡ b ++ 32 ∷ name_of P c.x → d ≡ a ++ cell_piece P c
+cell_text P c a b d e f = word a [] (place_words P c.p) (name_of P c.x) b d e f
+
+pub cells_line : (P : Instance) (given : List GivenCell) (a b c d : List ℕ) → b ≡ a ++ codes "cells" → c ≡ b ++ spaced (flat_map (cell_fields P.days) (map (named_cell P) given)) → d ≡ c ++ 10 ∷ [] → d ≡ a ++ cells_text P given
+cells_line P given a b c d q r s =
+    let w = codes "cells" in
+    let ws = flat_map (cell_fields P.days) (map (named_cell P) given) in
+    close a (join_with_byte 32 (w ∷ ws)) c d (finish a w ws c (more a w [] ws b c (begin a w b q) r)) s
 
 -- all pieces
 pub pieces_all : {X : Type 0} (f : X → List ℕ) (out all : List ℕ) (xs : List X) (i : ℕ) → length xs ≤ i → out ≡ all ++ flat_map f (take i xs) → out ≡ all ++ flat_map f xs

@@ -2,7 +2,7 @@
 use Rattle.std.proofs.Common.{◌≡◌, ℕ, suc, ◌+◌, ◌<◌, ◌≤◌, List, [], ◌∷◌, ◌++◌, length, get_or, drop, ap, sym, ◌∙◌, arith, append_assoc, append-nil, Option, Some, None}
 use Rattle.std.proofs.lemmas.List.{drop_all, drop_more}
 use Rattle.rwsp_terms.specs.declared.data.Symbol.{Symbol}
-use Rattle.refutation_log.specs.declared.cells.GivenCell.{GivenCell}
+use Rattle.refutation_terms.specs.declared.cells.GivenCell.{GivenCell}
 use Rattle.refutation_log.specs.CellsText.{given_from}
 
 -- the cells that were taken from the front, and those that are left, make what the whole makes

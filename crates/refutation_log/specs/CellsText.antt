@@ -6,7 +6,7 @@ use Rattle.roster_print.specs.Said.{said_of}
 use Rattle.roster_print.specs.RosterText.{SpellsWeeks}
 use Rattle.roster_print.specs.Refusal.{refusal_of_weeks}
 use Rattle.roster_print.specs.declared.refusal.RosterRefusal.{RosterRefusal}
-use Rattle.refutation_log.specs.declared.cells.GivenCell.{GivenCell}
+use Rattle.refutation_terms.specs.declared.cells.GivenCell.{GivenCell}
 
 -- the cells that have a symbol, from this position on
 abbrev pub given_from : ℕ → List (Option Symbol) → List GivenCell

@@ -13,11 +13,6 @@ pub mod Bests
 pub mod FreeSharp
 pub mod Needs
 pub mod OneLeaf
-pub mod GivenCells
 pub mod CellsText
-pub mod FillLog
-pub mod FillText
-pub mod FillReading
-pub mod FillLaws
+pub mod CellsLaws
 pub mod Filled
-pub mod GivenLaws

@@ -1,5 +1,5 @@
 -- What is said of a plan.
-use Rattle.std.specs.Prelude.{◌≡◌, ◌⊎◌, ◌↔◌, ℕ, ◌+◌, ◌*◌, ◌^◌, ◌<◌, ◌≤◌, [], ◌∷◌, Bool, true, false, IsTrue, None}
+use Rattle.std.specs.Prelude.{◌≡◌, ◌⊎◌, ◌↔◌, ℕ, ◌+◌, ◌*◌, ◌^◌, ◌<◌, ◌≤◌, [], ◌∷◌, Bool, true, false, IsTrue}
 use Rattle.rwsp_terms.specs.declared.data.Symbol.{Symbol}
 use Rattle.rwsp_terms.specs.Instance.{Instance, cells, shift_count}
 use Rattle.rwsp_terms.specs.Roster.{MeetsAll}
@@ -11,12 +11,14 @@ use Rattle.refutation_terms.specs.Word.{Domains}
 use Rattle.refutation_terms.specs.Tree.{opening}
 use Rattle.refutation_terms.specs.Log.{Log, Passes, IsSpent, NamesOnlyCited, size}
 use Rattle.refutation_terms.specs.Sharp.{SomeWindowHolds, SomeDayHolds, IsSharp}
+use Rattle.refutation_terms.specs.declared.lines.LogKind.TheVariants.{WithoutGoal}
+use Rattle.refutation_terms.specs.Verdict.{kind_of_log}
 use Rattle.refutation_log.specs.declared.found.Found.{Found}
 use Rattle.refutation_log.specs.declared.found.Found.TheVariants.{Roster, NoRoster, Undecided}
 
--- a sharp log without a goal that names what it cites and no more
+-- a sharp log, without a goal or given cells, that names what it cites and no more
 pub record IsPlannedLog (P : Instance) (g : Log) : Type 0 where
-  pub no_goal : g.goal ≡ None
+  pub of_kind : kind_of_log g ≡ WithoutGoal
   pub cited : NamesOnlyCited P g
   pub sharp : IsSharp P g
 

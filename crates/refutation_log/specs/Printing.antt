@@ -1,9 +1,10 @@
 -- Parts of the text of a log.
-use Rattle.std.specs.Prelude.{ℕ, List, [], ◌∷◌, ◌++◌, map, Bool, Option, Some, None, codes}
+use Rattle.std.specs.Prelude.{ℕ, ◌<◌, List, [], ◌∷◌, ◌++◌, map, Bool, Option, Some, None, codes}
 use Rattle.std.specs.List.{AllByRecursion, flat_map}
 use Rattle.std.specs.Fmt.{decimal}
 use Rattle.rwsp_terms.specs.declared.data.Weight.{Weight}
-use Rattle.rwsp_terms.specs.Instance.{Instance}
+use Rattle.rwsp_terms.specs.Instance.{Instance, cells, IsSymbol}
+use Rattle.refutation_terms.specs.declared.cells.GivenCell.{GivenCell}
 use Rattle.refutation_terms.specs.declared.lines.Line.{Line}
 use Rattle.refutation_terms.specs.Log.{LineFits}
 use Rattle.refutation_terms.specs.LogText.{place_words, named_weight}
@@ -12,6 +13,10 @@ use Rattle.rwsp_text.specs.Fields.{numbers, weight_fields}
 -- a blank in front of each word
 abbrev pub spaced : List (List ℕ) → List ℕ
 spaced words = flat_map (λ word. 32 ∷ word) words
+
+-- a given cell is one of the problem's
+abbrev pub IsCellOf : Instance → GivenCell → Type 0
+IsCellOf P c = (c.p < cells P) × IsSymbol P c.x
 
 -- each line of a log with this goal or none, which may count or not, fits the problem
 abbrev pub EachFits : Instance → Option ℕ → Bool → List Line → Type 0

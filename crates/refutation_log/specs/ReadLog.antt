@@ -4,7 +4,7 @@ use Rattle.std.specs.Prelude.{◌≡◌, ℕ, ◌+◌, ◌-◌, ◌<◌, ◌≤�
 use Rattle.rwsp_terms.specs.declared.limits.TheConstants.{LONGEST_LOG, DAYS_OF_WEEK}
 use Rattle.rwsp_terms.specs.Instance.{Instance}
 use Rattle.refutation_terms.specs.declared.lines.LogKind.{LogKind}
-use Rattle.refutation_terms.specs.declared.lines.LogKind.TheVariants.{WithoutGoal, WithGoal}
+use Rattle.refutation_terms.specs.declared.lines.LogKind.TheVariants.{WithoutGoal, WithGoal, WithCells}
 use Rattle.refutation_terms.specs.declared.lines.Line.{Line}
 use Rattle.refutation_terms.specs.declared.lines.Line.TheVariants.{Split}
 use Rattle.refutation_terms.specs.declared.lines.Opening.{Opening}
@@ -14,7 +14,7 @@ use Rattle.refutation_terms.specs.Ranges.{AreRules}
 use Rattle.refutation_terms.specs.Tree.{IsTree}
 use Rattle.refutation_terms.specs.Log.{Log, Fits}
 use Rattle.refutation_terms.specs.LogText.{header_text, lines_text, log_text}
-use Rattle.refutation_terms.specs.Verdict.{kind_by, Front, BeforeTurn, BeforeGoal, Reading, IsFrontOf, Cause, IsRefusedBehindFront, EndsWithFront}
+use Rattle.refutation_terms.specs.Verdict.{kind_by, kind_of_log, Front, BeforeTurn, BeforeGoal, BeforeCells, Reading, IsFrontOf, Cause, IsRefusedBehindFront, EndsWithFront}
 use Rattle.refutation_log.specs.declared.header.Header.{Header}
 use Rattle.refutation_log.specs.declared.refusal.LineRefusal.TheVariants as Lines
 use Rattle.refutation_log.specs.Refusals.{IsLineRefused}
@@ -35,6 +35,7 @@ pub record IsReadSoFar (P : Instance) (g : Log) : Type 0 where
 abbrev pub IsReadFront : Instance → Front → Type 0
 IsReadFront P (BeforeTurn counts named) = AreRules P named
 IsReadFront P (BeforeGoal counts named) = AreRules P named
+IsReadFront P (BeforeCells named) = AreRules P named
 IsReadFront P (Reading g) = IsReadSoFar P g
 IsReadFront P front = Unit {0}
 
@@ -53,7 +54,7 @@ IsUnread P kind text why = IsRefusedBehindFront P (IsRead P kind) (ReadCause P k
 
 -- the text is that of a log of this kind that fits the problem and is one whole tree
 pub record IsReadAs (P : Instance) (kind : LogKind) (text : List ℕ) (g : Log) : Type 0 where
-  pub of_kind : kind_by g.goal ≡ kind
+  pub of_kind : kind_of_log g ≡ kind
   pub is_text : text ≡ log_text P g
   pub fits : Fits P g
   pub tree : IsTree g.lines
@@ -62,6 +63,7 @@ pub record IsReadAs (P : Instance) (kind : LogKind) (text : List ℕ) (g : Log) 
 abbrev pub HasLogsOf : Instance → LogKind → Type 0
 HasLogsOf P WithoutGoal = Unit {0}
 HasLogsOf P WithGoal = P.days ≡ DAYS_OF_WEEK
+HasLogsOf P WithCells = Unit {0}
 
 -- the log of these rules, this opening, this goal or none, and these lines, which may count or not
 abbrev pub log_with : List ℕ → Opening → Option ℕ → Bool → List Line → Log
@@ -99,7 +101,7 @@ AreLinesUnder P h left rest lines = AreReadLines P (log_under h lines) left rest
 
 -- a text that begins with the header is refused by reading, for this cause, in what is left behind it
 abbrev pub IsUnreadUnder : Instance → Header → List ℕ → LogRefusal → Type 0
-IsUnreadUnder P h left why = IsUnread P (kind_by h.goal) (text_of_header P h ++ left) why
+IsUnreadUnder P h left why = IsUnread P (kind_by h.opening h.goal) (text_of_header P h ++ left) why
 
 -- the log has this header, and its lines are what is left behind it
 abbrev pub IsLogUnder : Instance → Header → List ℕ → Log → Type 0

@@ -1,7 +1,7 @@
 -- Reading a line of a log from its words, and the answer to it.
-use Rattle.std.specs.Prelude.{◌≡◌, ℕ, ◌+◌, List, [], ◌∷◌, length, cond, Bool, true, false, Option, Some, None, AllPairs, codes, Result, Ok, Err}
+use Rattle.std.specs.Prelude.{◌≡◌, ℕ, ◌+◌, List, [], ◌∷◌, length, cond, nat_le, if◌then◌else◌, map, All, Bool, true, false, Option, Some, None, AllPairs, codes, Result, Ok, Err}
 use Rattle.std.specs.Str.{bytes_eq}
-use Rattle.rwsp_text.specs.Fields.{Words, NamedWeight, ◌>>=◌, number_at, name_at, word_at, place_at, rules_at, weight_in, weights_at, done_at, read}
+use Rattle.rwsp_text.specs.Fields.{Words, NamedWeight, NamedCell, ◌>>=◌, number_at, name_at, word_at, place_at, rules_at, weight_in, weights_at, cells_at, done_at, read}
 use Rattle.rwsp_terms.specs.declared.limits.TheConstants.{GREATEST_WEIGHT, GREATEST_REWARD, LONGEST_WORD}
 use Rattle.rwsp_terms.specs.declared.data.Weight.{Weight}
 use Rattle.rwsp_terms.specs.Weights.{ComesBefore}
@@ -13,7 +13,10 @@ use Rattle.refutation_terms.specs.declared.lines.Line.{Line}
 use Rattle.refutation_terms.specs.declared.lines.Line.TheVariants.{Closing}
 use Rattle.refutation_terms.specs.declared.lines.Leaf.TheVariants.{Words as WordsLeaf}
 use Rattle.refutation_terms.specs.declared.lines.WordClaim.TheVariants.{Light}
-use Rattle.refutation_terms.specs.LogText.{RawLine, RawDead, RawBound, RawFew, RawFree, RawUnfinished, weights_of, line_of, WeightsAscend, most_turns, split_kind, window_kind, day_kind, blocks_kind}
+use Rattle.refutation_terms.specs.LogText.{RawLine, RawDead, RawBound, RawFew, RawFree, RawUnfinished, weights_of, line_of, WeightsAscend, most_turns, split_kind, window_kind, day_kind, blocks_kind, named_cell}
+use Rattle.refutation_terms.specs.declared.cells.GivenCell.{GivenCell}
+use Rattle.refutation_terms.specs.Verdict.{HasUnknown}
+use Rattle.refutation_log.specs.Printing.{IsCellOf}
 use Rattle.refutation_log.specs.declared.refusal.LineRefusal.{LineRefusal}
 use Rattle.refutation_log.specs.declared.refusal.LineRefusal.TheVariants.{Form, Name}
 
@@ -93,6 +96,17 @@ unfoldable pub turn_at : Instance → Words → Option (List ℕ × ℕ)
 turn_at P ws = word_at (codes "turn") ws >>= (λ rest. name_at rest >>=
     (λ name. number_at 1 P.days name.1 >>= (λ day. done_at {X = List ℕ × ℕ} (name.0, day.0) day.1)))
 
+-- a cell, from this position on, and the words behind it
+unfoldable pub cell_at : Instance → ℕ → Words → Option (NamedCell × Words)
+cell_at P first ws =
+    place_at P.weeks P.days ws >>= (λ place.
+    name_at place.1 >>= (λ name.
+    if nat_le first place.0 then Some (record { p = place.0; name = name.0 }, name.1) else None))
+
+-- the given cells of a fill log
+unfoldable pub cells_line_at : Instance → Words → Option (List NamedCell)
+cells_line_at P ws = word_at (codes "cells") ws >>= (λ rest. cells_at P.weeks P.days rest)
+
 -- a line by its first word, of a kind that only a log has that may count, or an unfinished one
 unfoldable pub last_at : Bool → List ℕ → Words → Option RawLine
 last_at false w ws = cond (bytes_eq w (codes "open")) (done_at RawUnfinished ws) None
@@ -162,3 +176,22 @@ abbrev pub Answers : Instance → Option RawLine → Result Line (Fail LineRefus
 Answers P read (Ok line) = IsLineAnswer P read (Ok line)
 Answers P read (Err Memory) = Unit {0}
 Answers P read (Err (Refused why)) = IsLineAnswer P read (Err why)
+
+-- the cells are these, by the names of their symbols
+abbrev pub AreNamesOf : Instance → List NamedCell → List GivenCell → Type 0
+AreNamesOf P named given = (named ≡ map (named_cell P) given) × All (IsCellOf P) given
+
+-- the answer to cells that were read in this way: they are of known symbols, or why they are refused
+abbrev pub IsCellsAnswer : Instance → Option (List NamedCell) → Result (List GivenCell) LineRefusal → Type 0
+IsCellsAnswer P None (Ok given) = ⊥
+IsCellsAnswer P None (Err Form) = Unit {0}
+IsCellsAnswer P None (Err Name) = ⊥
+IsCellsAnswer P (Some named) (Ok given) = AreNamesOf P named given
+IsCellsAnswer P (Some named) (Err Form) = ⊥
+IsCellsAnswer P (Some named) (Err Name) = HasUnknown P named
+
+-- the same where memory may run out
+abbrev pub AnswersCells : Instance → Option (List NamedCell) → Result (List GivenCell) (Fail LineRefusal) → Type 0
+AnswersCells P read (Ok given) = IsCellsAnswer P read (Ok given)
+AnswersCells P read (Err Memory) = Unit {0}
+AnswersCells P read (Err (Refused why)) = IsCellsAnswer P read (Err why)

@@ -5,9 +5,12 @@ use Rattle.refutation_terms.specs.declared.lines.Version.{Version}
 use Rattle.refutation_terms.specs.declared.lines.LogKind.{LogKind}
 use Rattle.refutation_terms.specs.declared.lines.Opening.{Opening}
 use Rattle.refutation_terms.specs.declared.lines.Opening.TheVariants.{Full, Turned}
-use Rattle.refutation_terms.specs.LogText.{version_text, rules_text, goal_text, no_turn_text}
+use Rattle.refutation_terms.specs.declared.cells.GivenCell.{GivenCell}
+use Rattle.refutation_terms.specs.GivenCells.{AreGivenIn}
+use Rattle.refutation_terms.specs.LogText.{version_text, rules_text, goal_text, no_turn_text, cells_text}
 use Rattle.refutation_terms.specs.Ranges.{AreRules}
-use Rattle.refutation_terms.specs.Verdict.{kind_of, SpellsNothing, SpellsUnknown, SpellsNoTurn, SpellsNoOpening, TurnsTo, TurnsToUnknown}
+use Rattle.rwsp_text.specs.Fields.{NamedCell}
+use Rattle.refutation_terms.specs.Verdict.{kind_of, SpellsNothing, SpellsUnknown, SpellsNoTurn, SpellsNoOpening, TurnsTo, TurnsToUnknown, SpellsCells, SpellsUnknownCell}
 use Rattle.refutation_log.specs.declared.refusal.LineRefusal.{LineRefusal}
 use Rattle.refutation_log.specs.declared.refusal.LineRefusal.TheVariants.{Form, Name}
 
@@ -25,13 +28,22 @@ IsTurnRefused P bytes Name = TurnsToUnknown P bytes
 -- the bytes spell this opening: a turn, or none in a log that may count
 abbrev pub SpellsOpening : Instance → Bool → List ℕ → Opening → Type 0
 SpellsOpening P true bytes Full = bytes ≡ no_turn_text
-SpellsOpening P counts bytes Full = ⊥
 SpellsOpening P counts bytes (Turned t) = TurnsTo P bytes t.day t.x
+SpellsOpening P counts bytes o = ⊥
 
 -- no opening is spelled, or a turn to a name that is no symbol's
 abbrev pub IsOpeningRefused : Instance → Bool → List ℕ → LineRefusal → Type 0
 IsOpeningRefused P counts bytes Form = SpellsNoOpening P counts bytes
 IsOpeningRefused P counts bytes Name = TurnsToUnknown P bytes
+
+-- the bytes spell these given cells
+abbrev pub SpellsGivenCells : Instance → List ℕ → List GivenCell → Type 0
+SpellsGivenCells P bytes given = AreGivenIn P given × (bytes ≡ cells_text P given)
+
+-- they spell none, or some with a name that is no symbol's
+abbrev pub AreCellsRefused : Instance → List ℕ → LineRefusal → Type 0
+AreCellsRefused P bytes Form = (named : List NamedCell) → SpellsCells P bytes named → ⊥
+AreCellsRefused P bytes Name = SpellsUnknownCell P bytes
 
 -- the bytes spell this version of logs of the kind, or none
 abbrev pub SpellsVersion : LogKind → List ℕ → Option Version → Type 0

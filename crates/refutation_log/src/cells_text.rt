@@ -4,10 +4,10 @@ ghost use Rattle.rwsp_terms.specs.declared.limits.TheConstants.{LONGEST_FILE};
 ghost use Rattle.rwsp_terms.specs.Instance.{symbol_of};
 ghost use Rattle.rwsp_model.specs.Refusals.{MatchAnswer, IfRefused};
 ghost use Rattle.roster_print.specs.Said.{open_word};
-ghost use Rattle.refutation_log.specs.GivenCells.{AreGivenIn};
+ghost use Rattle.refutation_terms.specs.GivenCells.{AreGivenIn};
 ghost use Rattle.refutation_log.specs.CellsText.{SpellsGiven, given_from, refusal_of_cells};
 
-use crate::{GivenCell, GivenCells};
+use refutation_terms::{GivenCell, GivenCells};
 use roster_print::{RosterRefusal, read_weeks};
 use rwsp_model::{Fail, Problem};
 use rwsp_terms::Symbol;

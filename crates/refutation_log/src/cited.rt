@@ -39,16 +39,16 @@ fn put_line_cited(rules: &mut RuleList, problem: &Problem, line: &Line) -> Resul
 pub fn put_opening_cited(
     rules: &mut RuleList,
     problem: &Problem,
-    opening: Opening,
+    opening: &Opening,
 ) -> Result<(), AllocError>
-    requires { OpeningFits problem.now opening }
-    ensures ok { OnOk result (Adds rules.old rules.new (IsCited problem.now (OpeningCites opening))) }
+    requires { OpeningFits problem.now opening.now }
+    ensures ok { OnOk result (Adds rules.old rules.new (IsCited problem.now (OpeningCites opening.now))) }
     ensures names { OnOk result ((r : Rule) → Names problem.now rules.new r
-        ↔ (Names problem.now rules.old r ⊎ OpeningCites opening r)) }
+        ↔ (Names problem.now rules.old r ⊎ OpeningCites opening.now r)) }
     ensures err { OnErr result (rules.new ≡ rules.old) }
 {
     match opening {
-        Opening::Full => Ok(()),
+        Opening::Full | Opening::Given(_) => Ok(()),
         Opening::Turned(turn) => put_day_rule(rules, problem, turn.day),
     }
 }

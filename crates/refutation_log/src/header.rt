@@ -1,4 +1,4 @@
-// The header of a log's text: its version, the rules that it names, and its turn or its goal.
+// The header of a log's text: its version, the rules that it names, and its turn, its goal or its given cells.
 ghost use Rattle.std.specs.Prelude.{◌≡◌, ◌≤◌, ◌+◌, ◌++◌, Some, IfOk, MatchOption, MatchResult};
 ghost use Rattle.rwsp_terms.specs.Instance.{name_of};
 ghost use Rattle.rwsp_model.specs.Refusals.{MatchAnswer};
@@ -12,6 +12,7 @@ ghost use Rattle.refutation_log.specs.Reading.{named_at, goal_at, turn_at};
 ghost use Rattle.refutation_log.specs.Headers.{BeginsWithHeader, IsHeaderRefused, StopsFor, version_counts, HasOpening, IsThird, StopsAtThird, OpeningReadCause};
 
 use crate::LineRefusal;
+use crate::cells_line::cells_line;
 use crate::line::{body_of, rule_numbers};
 use refutation_terms::{LogKind, LogRefusal, Opening, Terms, Turn, Version};
 use rwsp_model::{Fail, Problem};
@@ -19,10 +20,10 @@ use rwsp_terms::RuleList;
 use rwsp_text::{Fields, LineReader};
 use std::alloc::{AllocError, Global};
 
-/// The number of lines of the header of a log with this opening and of these terms: three with a turn or a goal, or
-/// where it may count, else two.
-pub fn lines_of_header(opening: Opening, terms: Terms) -> u32
-    ensures value { result ≡ header_lines opening terms.goal terms.counts }
+/// The number of lines of the header of a log with this opening and of these terms: three with a turn, a goal or given
+/// cells, or where it may count, else two.
+pub fn lines_of_header(opening: &Opening, terms: Terms) -> u32
+    ensures value { result ≡ header_lines opening.now terms.goal terms.counts }
     ensures few { result ≤ 3 }
 {
     match (opening, terms.goal, terms.counts) {
@@ -55,7 +56,8 @@ impl<'a> Header<'a> {
 }
 
 /// The header of a text, as that of a log of this kind. Refused are a line that isn't spelled as it should be, a turn
-/// to a name that is no symbol's, and a text that ends before its header does; what the turn says isn't looked at.
+/// to a name that is no symbol's or a given cell with one, and a text that ends before its header does; what the turn
+/// says isn't looked at.
 pub fn read_header<'a>(
     alloc: Global,
     problem: &Problem,
@@ -75,7 +77,7 @@ pub fn read_header<'a>(
         Ok(named) => named,
         Err(fail) => return Err(fail),
     };
-    match third_line(problem, version, &mut reader) {
+    match third_line(alloc, problem, version, &mut reader) {
         Ok((opening, goal)) => Ok(Header {
             named,
             opening,
@@ -83,7 +85,7 @@ pub fn read_header<'a>(
             counts: version_counts(version),
             body: reader.rest(),
         }),
-        Err(why) => Err(Fail::Refused(why)),
+        Err(fail) => Err(fail),
     }
 }
 
@@ -107,18 +109,19 @@ fn version_counts(version: Version) -> bool
     ensures { result ≡ version_counts version }
 {
     match version {
-        Version::Version3 | Version::Free2 => true,
+        Version::Version3 | Version::Free2 | Version::Fill1 => true,
         Version::Version1 | Version::Version2 | Version::Free1 => false,
     }
 }
 
 // The opening and the goal of the third line, or neither a turn nor a goal where the version has no third line.
 fn third_line(
+    alloc: Global,
     problem: &Problem,
     version: Version,
     reader: &mut LineReader,
-) -> Result<(Opening, Option<u32>), LogRefusal>
-    ensures { MatchResult result
+) -> Result<(Opening, Option<u32>), Fail<LogRefusal>>
+    ensures { MatchAnswer result
         (λ r. IsThird problem.now version r.0 r.1 reader.old reader.new)
         (StopsAtThird problem.now version reader.old) }
 {
@@ -127,12 +130,16 @@ fn third_line(
         Version::Version2 | Version::Version3 => {
             match opening_line(problem, version_counts(version), reader) {
                 Ok(opening) => Ok((opening, None)),
-                Err(why) => Err(why),
+                Err(why) => Err(Fail::Refused(why)),
             }
         }
         Version::Free1 | Version::Free2 => match goal_line(problem, reader) {
             Ok(goal) => Ok((Opening::Full, Some(goal))),
-            Err(why) => Err(why),
+            Err(why) => Err(Fail::Refused(why)),
+        },
+        Version::Fill1 => match cells_line(alloc, problem, reader) {
+            Ok(given) => Ok((Opening::Given(given), None)),
+            Err(fail) => Err(fail),
         },
     }
 }
@@ -152,8 +159,8 @@ fn goal_line(problem: &Problem, reader: &mut LineReader) -> Result<u32, LogRefus
     }
 }
 
-/// The rules that the second line of a text names, from a reader behind its first.
-pub fn rules_line(
+// The rules that the second line names.
+fn rules_line(
     alloc: Global,
     problem: &Problem,
     reader: &mut LineReader,
@@ -172,7 +179,7 @@ pub fn rules_line(
     }
 }
 
-// The opening of the third line of a log which may count or not.
+// The opening of the third line of a log without a goal or given cells, which may count or not.
 fn opening_line(
     problem: &Problem,
     counts: bool,
@@ -199,6 +206,7 @@ fn read_version(kind: LogKind, bytes: &[u8]) -> Option<Version>
     match kind {
         LogKind::WithoutGoal => read_log_version(bytes),
         LogKind::WithGoal => read_free_version(bytes),
+        LogKind::WithCells => read_fill_version(bytes),
     }
 }
 
@@ -223,6 +231,16 @@ fn read_free_version(bytes: &[u8]) -> Option<Version>
         Some(Version::Free1)
     } else if bytes == b"rwsp-free 2\n".as_slice() {
         Some(Version::Free2)
+    } else {
+        None
+    }
+}
+
+fn read_fill_version(bytes: &[u8]) -> Option<Version>
+    ensures { SpellsVersion LogKind.WithCells bytes.now result }
+{
+    if bytes == b"rwsp-fill 1\n".as_slice() {
+        Some(Version::Fill1)
     } else {
         None
     }

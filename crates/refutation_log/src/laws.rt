@@ -1,7 +1,12 @@
 // Laws of the text of logs. Each function's contract is the law.
-ghost use Rattle.refutation_log.specs.Laws.{LogsHaveOneText, TextsOfLogsAreRead, TextsHaveOneVerdict, UnreadTextsHaveOneCause};
+ghost use Rattle.refutation_log.specs.Laws.{TextsHaveOneHeader, LogsHaveOneText, TextsOfLogsAreRead, TextsHaveOneVerdict, UnreadTextsHaveOneCause};
 
-/// No two logs that fit a problem, with goals or without, have one text.
+/// A text begins with one header at most, of whatever kind.
+pub fn texts_have_one_header()
+    ensures { TextsHaveOneHeader }
+{}
+
+/// No two logs that fit a problem, of one kind or of two, have one text.
 pub fn logs_have_one_text()
     ensures { LogsHaveOneText }
 {}

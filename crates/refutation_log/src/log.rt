@@ -75,11 +75,11 @@ impl Log {
         &self.named
     }
 
-    /// What is known before its first line: that week 1 holds the symbol of its turn, if it has one.
-    pub fn opening(&self) -> Opening
-        ensures { result ≡ self.now.opening }
+    /// What is known before its first line: that week 1 holds the symbol of its turn, if it has one, or given cells.
+    pub fn opening(&self) -> &Opening
+        ensures { result.now ≡ self.now.opening }
     {
-        self.opening
+        &self.opening
     }
 
     /// How many free weekends it says that no roster has, if it is a free log.
@@ -133,10 +133,11 @@ impl Log {
         ensures { IfOk result (λ same. same ≡ self.now) }
     {
         let named = self.named.copy()?;
+        let opening = self.opening.copy()?;
         let lines = copy_lines(*self.lines.allocator(), &self.lines)?;
         Ok(Log {
             named,
-            opening: self.opening,
+            opening,
             goal: self.goal,
             counts: self.counts,
             lines,

@@ -5,7 +5,7 @@ ghost use Rattle.rwsp_terms.specs.Rules.{Names};
 ghost use Rattle.refutation_terms.specs.declared.lines.Line.{Line};
 ghost use Rattle.refutation_terms.specs.Ranges.{AreRules};
 ghost use Rattle.refutation_terms.specs.Leaves.{LeafFits};
-ghost use Rattle.refutation_terms.specs.Log.{LineFits, Cites, OpeningFits, OpeningCites, NamesOnlyCited, Passes};
+ghost use Rattle.refutation_terms.specs.Log.{LineFits, Cites, OpeningFits, CountsFit, OpeningCites, NamesOnlyCited, Passes};
 ghost use Rattle.refutation_log.specs.OneLeaf.{ClosesAll};
 
 use crate::Log;
@@ -25,6 +25,7 @@ pub fn one_leaf_log(
     leaf: Leaf,
 ) -> Result<Log, AllocError>
     requires opening { OpeningFits problem.now opening }
+    requires counts { CountsFit opening terms.counts }
     requires leaf { LeafFits problem.now terms.goal terms.counts leaf }
     ensures opening { IfOk result (λ g. g.opening ≡ opening) }
     ensures goal { IfOk result (λ g. g.goal ≡ terms.goal) }
@@ -34,7 +35,7 @@ pub fn one_leaf_log(
     ensures passes { ClosesAll problem.now opening terms.goal leaf → IfOk result (Passes problem.now) }
 {
     let line = Line::Closing(leaf);
-    let named = cited_rules(alloc, problem, opening, &line)?;
+    let named = cited_rules(alloc, problem, &opening, &line)?;
     let lines = one_line(alloc, line)?;
     Ok(Log::new(named, opening, terms.goal, terms.counts, lines))
 }
@@ -43,14 +44,14 @@ pub fn one_leaf_log(
 fn cited_rules(
     alloc: Global,
     problem: &Problem,
-    opening: Opening,
+    opening: &Opening,
     line: &Line,
 ) -> Result<RuleList, AllocError>
-    requires opening { OpeningFits problem.now opening }
+    requires opening { OpeningFits problem.now opening.now }
     requires line { (goal : Option ℕ) × (counts : Bool) × LineFits problem.now goal counts line.now }
     ensures rules { IfOk result (AreRules problem.now) }
     ensures names { IfOk result (λ R. (r : Rule) → Names problem.now R r
-        ↔ (OpeningCites opening r ⊎ Cites problem.now line.now r)) }
+        ↔ (OpeningCites opening.now r ⊎ Cites problem.now line.now r)) }
 {
     let mut rules = RuleList::new(alloc);
     put_opening_cited(&mut rules, problem, opening)?;

@@ -1,21 +1,21 @@
 // The text of a log.
-ghost use Rattle.std.specs.Prelude.{◌≡◌, ℕ, ◌++◌, ◌<◌, OnOk, IfOk, true, false, Some, None, slice_get};
+ghost use Rattle.std.specs.Prelude.{◌≡◌, ℕ, ◌++◌, ◌<◌, OnOk, IfOk, Some, slice_get};
 ghost use Rattle.std.specs.List.{join_with_byte};
 ghost use Rattle.rwsp_terms.specs.Instance.{cells, IsSymbol, name_of};
 ghost use Rattle.refutation_terms.specs.declared.lines.Line.{Line};
 ghost use Rattle.refutation_terms.specs.Log.{Fits, LineFits, OpeningFits};
-ghost use Rattle.refutation_terms.specs.LogText.{RawSplit, raw, raw_fields, line_text, lines_text, log_text, header_text, version_text, rules_text, goal_text, turn_text, opening_text};
-ghost use Rattle.refutation_terms.specs.Verdict.{goal_version};
+ghost use Rattle.refutation_terms.specs.LogText.{RawSplit, raw, raw_fields, line_text, lines_text, log_text, header_text, version_of, version_text, rules_text, third_text, goal_text, turn_text, opening_text};
 
 use crate::Log;
+use crate::cells_line::put_cells_line;
 use crate::fields::{put_count, put_numbers, put_place, put_word};
 use crate::leaf::put_leaf;
-use refutation_terms::{Line, Opening, Terms, Turn};
+use refutation_terms::{Line, Opening, Terms, Turn, Version};
 use rwsp_model::Problem;
 use rwsp_terms::Symbol;
 use std::alloc::{AllocError, Global};
 
-/// The text of the log, with a goal or without.
+/// The text of the log.
 pub fn print_log(alloc: Global, problem: &Problem, log: &Log) -> Result<Vec<u8>, AllocError>
     requires { Fits problem.now log.now }
     ensures { IfOk result (λ v. v.items ≡ log_text problem.now log.now) }
@@ -42,8 +42,8 @@ fn put_line(
     Ok(())
 }
 
-/// Appends the texts of lines of a log of these terms.
-pub fn put_lines(
+// Appends the texts of lines of a log of these terms.
+fn put_lines(
     out: &mut Vec<u8>,
     problem: &Problem,
     terms: Terms,
@@ -59,41 +59,59 @@ pub fn put_lines(
     Ok(())
 }
 
-// Appends the header: the version, the named rules, and the line of the turn or the goal, if there is one.
+// Appends the header: the version, the named rules, and the line of the turn, the goal or the given cells, if there is
+// one.
 fn put_header(out: &mut Vec<u8>, problem: &Problem, log: &Log) -> Result<(), AllocError>
     requires { OpeningFits problem.now log.now.opening }
     ensures { OnOk result (out.new.items ≡ out.old.items
         ++ header_text problem.now log.now.named log.now.opening log.now.goal log.now.counts) }
 {
-    let named = log.named().numbers();
-    match (log.goal(), log.counts()) {
-        (Some(goal), counts) => put_free_header(out, named, goal, counts),
-        (None, true) => put_counting_header(out, problem, named, log.opening()),
-        (None, false) => put_plain_header(out, problem, named, log.opening()),
+    put_version(out, version_of(log.opening(), log.terms()))?;
+    put_named(out, log.named().numbers())?;
+    put_third(out, problem, log.opening(), log.terms())
+}
+
+// The version of a log with this opening and of these terms.
+fn version_of(opening: &Opening, terms: Terms) -> Version
+    ensures { result ≡ version_of opening.now terms.goal terms.counts }
+{
+    match (opening, terms.goal, terms.counts) {
+        (Opening::Given(_), _, _) => Version::Fill1,
+        (_, Some(_), false) => Version::Free1,
+        (_, Some(_), true) => Version::Free2,
+        (_, None, true) => Version::Version3,
+        (Opening::Full, None, false) => Version::Version1,
+        (Opening::Turned(_), None, false) => Version::Version2,
     }
 }
 
-fn put_free_header(
-    out: &mut Vec<u8>,
-    named: &[u32],
-    goal: u32,
-    counts: bool,
-) -> Result<(), AllocError>
-    ensures { OnOk result (out.new.items
-        ≡ out.old.items ++ version_text (goal_version counts) ++ rules_text named.now ++ goal_text goal) }
+fn put_version(out: &mut Vec<u8>, version: Version) -> Result<(), AllocError>
+    ensures { OnOk result (out.new.items ≡ out.old.items ++ version_text version) }
 {
-    put_free_version(out, counts)?;
-    put_named(out, named)?;
-    put_goal(out, goal)
+    match version {
+        Version::Version1 => out.extend_from_slice(b"rwsp-log 1\n"),
+        Version::Version2 => out.extend_from_slice(b"rwsp-log 2\n"),
+        Version::Version3 => out.extend_from_slice(b"rwsp-log 3\n"),
+        Version::Free1 => out.extend_from_slice(b"rwsp-free 1\n"),
+        Version::Free2 => out.extend_from_slice(b"rwsp-free 2\n"),
+        Version::Fill1 => out.extend_from_slice(b"rwsp-fill 1\n"),
+    }
 }
 
-fn put_free_version(out: &mut Vec<u8>, counts: bool) -> Result<(), AllocError>
-    ensures { OnOk result (out.new.items ≡ out.old.items ++ version_text (goal_version counts)) }
+// The third line of a log with this opening and of these terms, if there is one.
+fn put_third(
+    out: &mut Vec<u8>,
+    problem: &Problem,
+    opening: &Opening,
+    terms: Terms,
+) -> Result<(), AllocError>
+    requires { OpeningFits problem.now opening.now }
+    ensures { OnOk result (out.new.items
+        ≡ out.old.items ++ third_text problem.now opening.now terms.goal terms.counts) }
 {
-    if counts {
-        out.extend_from_slice(b"rwsp-free 2\n")
-    } else {
-        out.extend_from_slice(b"rwsp-free 1\n")
+    match terms.goal {
+        None => put_opening(out, problem, opening, terms.counts),
+        Some(goal) => put_goal(out, goal),
     }
 }
 
@@ -107,51 +125,21 @@ fn put_goal(out: &mut Vec<u8>, goal: u32) -> Result<(), AllocError>
     Ok(())
 }
 
-// The header of a log without a goal which may not count.
-fn put_plain_header(
+// The third line of a log without a goal, if there is one.
+fn put_opening(
     out: &mut Vec<u8>,
     problem: &Problem,
-    named: &[u32],
-    opening: Opening,
+    opening: &Opening,
+    counts: bool,
 ) -> Result<(), AllocError>
-    requires { OpeningFits problem.now opening }
-    ensures { OnOk result (out.new.items ≡ out.old.items ++ header_text problem.now named.now opening None false) }
+    requires { OpeningFits problem.now opening.now }
+    ensures { OnOk result (out.new.items ≡ out.old.items ++ opening_text problem.now opening.now counts) }
 {
-    match opening {
-        Opening::Full => {
-            out.extend_from_slice(b"rwsp-log 1\n")?;
-            put_named(out, named)
-        }
-        Opening::Turned(turn) => {
-            out.extend_from_slice(b"rwsp-log 2\n")?;
-            put_named(out, named)?;
-            put_turn(out, problem, turn)
-        }
-    }
-}
-
-// The header of a log without a goal which may count.
-fn put_counting_header(
-    out: &mut Vec<u8>,
-    problem: &Problem,
-    named: &[u32],
-    opening: Opening,
-) -> Result<(), AllocError>
-    requires { OpeningFits problem.now opening }
-    ensures { OnOk result (out.new.items ≡ out.old.items ++ header_text problem.now named.now opening None true) }
-{
-    out.extend_from_slice(b"rwsp-log 3\n")?;
-    put_named(out, named)?;
-    put_opening(out, problem, opening)
-}
-
-fn put_opening(out: &mut Vec<u8>, problem: &Problem, opening: Opening) -> Result<(), AllocError>
-    requires { OpeningFits problem.now opening }
-    ensures { OnOk result (out.new.items ≡ out.old.items ++ opening_text problem.now opening) }
-{
-    match opening {
-        Opening::Full => out.extend_from_slice(b"turn\n"),
-        Opening::Turned(turn) => put_turn(out, problem, turn),
+    match (opening, counts) {
+        (Opening::Given(given), _) => put_cells_line(out, problem, given),
+        (Opening::Turned(turn), _) => put_turn(out, problem, *turn),
+        (Opening::Full, true) => out.extend_from_slice(b"turn\n"),
+        (Opening::Full, false) => Ok(()),
     }
 }
 

@@ -3,7 +3,7 @@ ghost use Rattle.std.specs.Prelude.{◌≡◌, ◌≤◌, ◌<◌, ◌+◌, ◌^
 ghost use Rattle.rwsp_terms.specs.declared.limits.TheConstants.{LONGEST_LOG};
 ghost use Rattle.rwsp_model.specs.Refusals.{MatchAnswer};
 ghost use Rattle.refutation_terms.specs.Ranges.{AreRules};
-ghost use Rattle.refutation_terms.specs.Log.{OpeningFits, GoalFits};
+ghost use Rattle.refutation_terms.specs.Log.{OpeningFits, GoalFits, CountsFit};
 ghost use Rattle.refutation_terms.specs.Verdict.{Spells};
 ghost use Rattle.refutation_log.specs.ReadLog.{HasLogsOf, IsReadAs, IsUnread, AreLinesUnder, IsLogUnder, IsUnreadUnder, IsTreeLineRefused, open_after};
 
@@ -34,15 +34,12 @@ pub fn read_log(
     log_behind(alloc, problem, header)
 }
 
-/// The log with this header, whose lines are all that is behind it.
-pub(crate) fn log_behind(
-    alloc: Global,
-    problem: &Problem,
-    header: Header,
-) -> Result<Log, Fail<LogRefusal>>
+// The log with this header, whose lines are all that is behind it.
+fn log_behind(alloc: Global, problem: &Problem, header: Header) -> Result<Log, Fail<LogRefusal>>
     requires named { AreRules problem.now header.named }
     requires opening { OpeningFits problem.now header.opening }
     requires goal { GoalFits problem.now header.opening header.goal }
+    requires counts { CountsFit header.opening header.counts }
     requires few { length header.body.now ≤ LONGEST_LOG }
     ensures { MatchAnswer result
         (IsLogUnder problem.now header.entry header.entry.body.now)
@@ -62,7 +59,7 @@ pub(crate) fn log_behind(
             lines,
         )),
         Some(_) => Err(Fail::Refused(LogRefusal::Extra(
-            lines_of_header(header.opening, header.terms()) + lines.len() as u32 + 1,
+            lines_of_header(&header.opening, header.terms()) + lines.len() as u32 + 1,
         ))),
     }
 }
@@ -76,6 +73,7 @@ fn read_lines(
     requires named { AreRules problem.now header.now.named }
     requires opening { OpeningFits problem.now header.now.opening }
     requires goal { GoalFits problem.now header.now.opening header.now.goal }
+    requires counts { CountsFit header.now.opening header.now.counts }
     requires few { length reader.old ≤ LONGEST_LOG }
     ensures { MatchAnswer result
         (λ v. AreLinesUnder problem.now header.now reader.old reader.new v.items)
@@ -83,7 +81,7 @@ fn read_lines(
 {
     problem.prove_limits();
     let terms = header.terms();
-    let first = lines_of_header(header.opening, terms) + 1;
+    let first = lines_of_header(&header.opening, terms) + 1;
     let mut lines = Vec::new(alloc);
     let mut count: u64 = 1;
     while count > 0 {

@@ -1,6 +1,9 @@
+ghost use Rattle.std.specs.Prelude.{◌≡◌, None};
 ghost use Rattle.rwsp_terms.specs.declared.data.Symbol.{Symbol};
 ghost use Rattle.rwsp_terms.specs.Instance.{IsDay};
+ghost use Rattle.refutation_terms.specs.declared.lines.LogKind.TheVariants.{WithoutGoal};
 ghost use Rattle.refutation_terms.specs.Sharp.{IsFirstTurn};
+ghost use Rattle.refutation_terms.specs.Verdict.{kind_by};
 ghost use Rattle.refutation_log.specs.Turns.{IsFirstOn};
 
 use refutation_terms::{Opening, Turn};
@@ -10,7 +13,8 @@ use rwsp_terms::Symbol;
 /// The turn to the first shift that some week must hold on the first day on which there is one. Where no shift must be
 /// there, it is no turn.
 pub fn first_turn(problem: &Problem) -> Opening
-    ensures { IsFirstTurn problem.now result }
+    ensures first { IsFirstTurn problem.now result }
+    ensures of_kind { kind_by result None ≡ WithoutGoal }
 {
     for day in 0..problem.days() {
         if let Some(x) = first_demanded(problem, day + 1) {

@@ -101,6 +101,7 @@ open_log_is_spent = record {
       named = (λ k lt. absurd (omega (arith, lt)), λ k d lt. absurd (omega (arith, lt)));
       opening = tt;
       goal = tt;
+      counts = tt;
       lines = each_at (λ k line. LineFits three_of_six None false line) open_log.lines ((lit< tt, lit≤ tt), (tt, (tt, tt)));
     };
     allowed = tt;

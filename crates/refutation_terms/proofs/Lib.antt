@@ -1,4 +1,5 @@
 pub mod Tests
+pub mod LeftCells
 pub mod Windows
 pub mod Sides
 pub mod Trees
@@ -16,6 +17,7 @@ pub mod Named
 pub mod LeafLaws
 pub mod SameDomains
 pub mod Sound
+pub mod LogKinds
 pub mod AsSaid
 pub mod InWords
 pub mod NeverEmpty
@@ -25,6 +27,7 @@ pub mod ExampleSharp
 pub mod ExampleSplit
 pub mod ExampleBlunt
 pub mod LineTables
+pub mod GivenLine
 pub mod Texts
 pub mod Fronts
 pub mod Causes

@@ -14,7 +14,7 @@ use Rattle.rwsp_terms.specs.declared.limits.TheConstants.{GREATEST_REWARD, LONGE
 use Rattle.rwsp_terms.specs.Instance.{Instance, cells, IsDay, IsSymbol, symbol_of, name_of}
 use Rattle.rwsp_terms.specs.Rules.{rules}
 use Rattle.refutation_terms.specs.declared.lines.Version.{Version}
-use Rattle.refutation_terms.specs.declared.lines.Version.TheVariants.{Version1, Version2, Version3, Free1, Free2}
+use Rattle.refutation_terms.specs.declared.lines.Version.TheVariants.{Version1, Version2, Version3, Free1, Free2, Fill1}
 use Rattle.refutation_terms.specs.Ranges.{IsLength, AreRules, AreWeightsOf}
 use Rattle.refutation_terms.specs.LogText.{RawLine, RawSplit, RawWindow, RawDay, RawDead, RawBound, RawFew, RawFree, RawBlocks, RawUnfinished, place_words, raw_fields, IsInRange, most_turns, split_kind, window_kind, day_kind, dead_kind, bound_kind, open_kind, few_kind, free_kind, blocks_kind, last_kinds, own_kinds, line_kinds, version_kinds, rules_kinds, turn_kinds, goal_kinds, named_weight, raw, line_text, WeightIsInRange, with_weight, weights_of, line_of, WeightsAscend}
 use Rattle.refutation_terms.specs.TextLaws.{IsWritable, HasNames, SpelledLinesFit, FittingLinesAreSpelled}
@@ -77,7 +77,7 @@ pub goal_readable : (P : Instance) → IsWritable P → IsReadable (goal_kinds P
 goal_readable P w = (((omega (arith, w.1), tt), refl, tt), tt)
 
 pub version_readable : IsReadable version_kinds
-version_readable = (((omega arith, tt), refl, (refl, tt)), (((omega arith, tt), refl, tt), tt))
+version_readable = (((omega arith, tt), refl, (refl, (refl, tt))), (((omega arith, tt), refl, (refl, tt)), (((omega arith, tt), refl, tt), tt)))
 
 pub rules_readable : (P : Instance) → IsWritable P → IsReadable (rules_kinds P)
 rules_readable P w = ((((omega (arith, w.2), tt), tt), refl, tt), tt)
@@ -224,6 +224,7 @@ version_fields Version2 = codes "rwsp-log" ∷ codes "2" ∷ []
 version_fields Version3 = codes "rwsp-log" ∷ codes "3" ∷ []
 version_fields Free1 = codes "rwsp-free" ∷ codes "1" ∷ []
 version_fields Free2 = codes "rwsp-free" ∷ codes "2" ∷ []
+version_fields Fill1 = codes "rwsp-fill" ∷ codes "1" ∷ []
 
 abbrev pub rules_fields : List ℕ → Words
 rules_fields R = codes "rules" ∷ numbers R
@@ -240,6 +241,7 @@ version_line Version2 = inl (refl, record { values = (2, tt); keeps = ((omega ar
 version_line Version3 = inl (refl, record { values = (3, tt); keeps = ((omega arith, omega arith), tt); spelled = one_digit 3 (omega arith); made = refl })
 version_line Free1 = inr (inl (refl, record { values = (1, tt); keeps = ((omega arith, omega arith), tt); spelled = one_digit 1 (omega arith); made = refl }))
 version_line Free2 = inr (inl (refl, record { values = (2, tt); keeps = ((omega arith, omega arith), tt); spelled = one_digit 2 (omega arith); made = refl }))
+version_line Fill1 = inr (inr (inl (refl, record { values = (1, tt); keeps = ((omega arith, omega arith), tt); spelled = one_digit 1 (omega arith); made = refl })))
 
 pub rules_line : (P : Instance) (R : List ℕ) → AreRules P R → IsLine (rules_kinds P) (rules_fields R) R
 rules_line P R h = inl (refl, record { values = (R, tt); keeps = (h, tt); spelled = sym (append-nil (numbers R)); made = refl })

@@ -1,15 +1,18 @@
 -- No domain at a line is empty where no earlier split is idle.
-use Rattle.std.proofs.Common.{◌≡◌, ◌⊎◌, ℕ, zero, suc, ◌+◌, ◌-◌, ◌<◌, ◌≤◌, List, length, take, Some, refl, sym, subst, arith, length-append, inl, inr, true, false, IsTrue, ◌==◌}
-use Rattle.std.specs.Prelude.{slice_get, nat_le}
+use Rattle.std.proofs.Common.{◌≡◌, ◌⊎◌, ℕ, zero, suc, ◌+◌, ◌-◌, ◌<◌, ◌≤◌, List, [], ◌∷◌, length, take, map, Some, refl, sym, subst, arith, length-append, inl, inr, true, false, IsTrue, ◌==◌, ◌||◌, not}
+use Rattle.std.specs.Prelude.{slice_get, nat_le, All}
 use Rattle.std.proofs.lemmas.Bool.{eqb-true, eq-eqb, leb-true, le-leb, cases_Bool, cases_lt}
 use Rattle.rwsp_terms.specs.declared.data.Symbol.{Symbol}
-use Rattle.rwsp_terms.specs.Instance.{Instance, shift_count}
+use Rattle.std.proofs.lemmas.List.Elements.{All-head, All-tail}
+use Rattle.rwsp_text.proofs.Rising.{RisesFrom, rises_from_zero}
+use Rattle.rwsp_terms.specs.Instance.{Instance, cells, shift_count, IsSymbol}
 use Rattle.refutation_terms.specs.declared.lines.Line.{Line}
 use Rattle.refutation_terms.specs.declared.lines.Line.TheVariants.{Split}
+use Rattle.refutation_terms.specs.declared.cells.GivenCell.{GivenCell}
 use Rattle.refutation_terms.specs.declared.lines.Opening.{Opening}
-use Rattle.refutation_terms.specs.declared.lines.Opening.TheVariants.{Full, Turned}
+use Rattle.refutation_terms.specs.declared.lines.Opening.TheVariants.{Full, Turned, Given}
 use Rattle.refutation_terms.specs.Word.{Domains, full}
-use Rattle.refutation_terms.specs.Tree.{Tree, Leaf, Node, lines_in, Side, First, Second, side_takes, line_leaves, lines_leave, narrowed, opening_leaves, opening, is_idle}
+use Rattle.refutation_terms.specs.Tree.{Tree, Leaf, Node, lines_in, Side, First, Second, side_takes, line_leaves, lines_leave, narrowed, cells_leave, opening_leaves, opening, is_idle}
 use Rattle.refutation_terms.specs.Log.{OpeningFits}
 use Rattle.refutation_terms.specs.Laws.{DomainsAreNeverEmpty}
 use Rattle.refutation_terms.proofs.Tests.{both, left_of, where_passed, not_passed}
@@ -62,6 +65,31 @@ has_some_at P (Node p x a b) D (suc k) some lt h =
     (λ m less. has_some_at P b (narrowed D (Split p x) Second) m second less)
     (cases_lt k (length (lines_in a)))
 
+-- cells behind a position leave all there
+later_leave : (n p z : ℕ) (given : List GivenCell) → p < n → RisesFrom n (map (λ c. c.p) given) → IsTrue (cells_leave given p z)
+later_leave n p z [] less up = refl
+later_leave n p z (c ∷ given) less up =
+    both (not (c.p == p) || (z == c.x.number)) (cells_leave given p z)
+    (where_passed (c.p == p) (z == c.x.number) (λ e. absurd (omega (arith, eqb-true c.p p e, up.0, less))))
+    (later_leave (c.p + 1) p z given (omega (arith, up.0, less)) up.1)
+
+-- given cells leave a symbol everywhere
+cells_have_some : (P : Instance) (n p : ℕ) (given : List GivenCell) → RisesFrom n (map (λ c. c.p) given) → All (λ c. (c.p < cells P) × IsSymbol P c.x) given → (z : ℕ) × (z ≤ shift_count P) × IsTrue (cells_leave given p z)
+cells_have_some P n p [] up are = (0, omega arith, refl)
+cells_have_some P n p (c ∷ given) up are = by (cells_have_some P (c.p + 1) p given up.1 (All-tail (λ c. (c.p < cells P) × IsSymbol P c.x) c given are)) (cases_Bool (c.p == p))
+  where
+    by : (z : ℕ) × (z ≤ shift_count P) × IsTrue (cells_leave given p z) → ((c.p == p) ≡ true) ⊎ ((c.p == p) ≡ false) → (z : ℕ) × (z ≤ shift_count P) × IsTrue (cells_leave (c ∷ given) p z)
+    by rest (inl e) =
+        let z = c.x.number in (
+          z,
+          (All-head (λ c. (c.p < cells P) × IsSymbol P c.x) c given are).1,
+          both (not (c.p == p) || (z == c.x.number)) (cells_leave given p z) (where_passed (c.p == p) (z == c.x.number) (λ h. eq-eqb z z refl))
+              (later_leave (c.p + 1) p z given (omega (arith, eqb-true c.p p e)) up.1),
+        )
+    by rest (inr e) =
+        let z = rest.0 in
+        (z, rest.1, both (not (c.p == p) || (z == c.x.number)) (cells_leave given p z) (where_passed (c.p == p) (z == c.x.number) (λ h. absurd (cc))) rest.2)
+
 -- opening domains have a symbol everywhere
 opening_has_some : (P : Instance) (turn : Opening) → OpeningFits P turn → HasSome (opening P turn)
 opening_has_some P Full fits p = (0, both (nat_le 0 (shift_count P)) true (le-leb 0 (shift_count P) (omega arith)) refl)
@@ -70,6 +98,9 @@ opening_has_some P (Turned t) fits p = (
   both (nat_le t.x.number (shift_count P)) (opening_leaves (Turned t) p t.x.number) (le-leb t.x.number (shift_count P) fits.1)
       (where_passed ((t.day - 1) == p) (t.x.number == t.x.number) (λ e. eq-eqb t.x.number t.x.number refl)),
 )
+opening_has_some P (Given given) fits p =
+    let some = cells_have_some P 0 p given (rises_from_zero (map (λ c. c.p) given) fits.0) fits.1 in
+    (some.0, both (nat_le some.0 (shift_count P)) (cells_leave given p some.0) (le-leb some.0 (shift_count P) some.1) some.2)
 
 pub domains_never_empty : DomainsAreNeverEmpty
 domains_never_empty P turn lines k fits tree lt h =

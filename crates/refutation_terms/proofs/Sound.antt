@@ -1,7 +1,9 @@
 -- A log that passes leaves no roster, or with a goal none that has as many free weekends.
-use Rattle.std.proofs.Common.{◌≡◌, ℕ, ◌-◌, ◌<◌, ◌≤◌, List, get_or, refl, ap, sym, ◌∙◌, subst, arith, inl, inr, Bool, IsTrue, ◌==◌, Some, None, Option}
-use Rattle.std.specs.Prelude.{nat_le}
+use Rattle.std.proofs.Common.{◌≡◌, ℕ, ◌-◌, ◌<◌, ◌≤◌, List, get_or, refl, ap, sym, ◌∙◌, subst, arith, inl, inr, Bool, IsTrue, ◌==◌, ◌||◌, not, Some, None, Option}
+use Rattle.std.specs.Prelude.{nat_le, slice_get}
 use Rattle.std.proofs.lemmas.Bool.{eqb-true, eq-eqb, le-leb}
+use Rattle.std.proofs.lemmas.List.Sums.{list_all-from_AllPass}
+use Rattle.std.proofs.lemmas.Option.{get_or_from_slice_get}
 use Rattle.rwsp_terms.specs.declared.data.Symbol.{Symbol}
 use Rattle.rwsp_terms.specs.declared.data.Rule.{Rule}
 use Rattle.rwsp_terms.specs.declared.data.Rule.TheVariants as TheRules
@@ -10,12 +12,14 @@ use Rattle.rwsp_terms.specs.Roster.{IsRoster, MeetsDay}
 use Rattle.rwsp_terms.specs.Rules.{Names, Meets}
 use Rattle.refutation_terms.specs.declared.lines.Line.{Line}
 use Rattle.refutation_terms.specs.declared.lines.Line.TheVariants.{Split, Unfinished, Closing}
+use Rattle.refutation_terms.specs.declared.cells.GivenCell.{GivenCell}
 use Rattle.refutation_terms.specs.declared.lines.Opening.{Opening}
-use Rattle.refutation_terms.specs.declared.lines.Opening.TheVariants.{Full, Turned}
+use Rattle.refutation_terms.specs.declared.lines.Opening.TheVariants.{Full, Turned, Given}
 use Rattle.refutation_terms.specs.Word.{Domains, Within, turned}
-use Rattle.refutation_terms.specs.Tree.{IsLeaf, Tree, Leaf, Node, First, Second, narrowed, opening, opening_leaves}
-use Rattle.refutation_terms.specs.Log.{Log, Holds, LineFits, OpeningFits, GoalFits, Cites, OpeningCites, IsAllowed, Passes}
-use Rattle.refutation_terms.specs.Laws.{HasGoal}
+use Rattle.refutation_terms.specs.Tree.{IsLeaf, Tree, Leaf, Node, First, Second, narrowed, cells_leave, opening, opening_leaves}
+use Rattle.refutation_terms.specs.Log.{Log, Holds, LineFits, OpeningFits, GoalFits, Cites, OpeningCites, HoldsOpening, IsAllowed, Passes}
+use Rattle.refutation_terms.specs.GivenCells.{HoldsCells}
+use Rattle.refutation_terms.specs.Laws.{HasGoal, PassingLeavesNoRoster}
 use Rattle.refutation_terms.proofs.Tests.{both, where_passed}
 use Rattle.refutation_terms.proofs.Sides.{in_either_side}
 use Rattle.refutation_terms.proofs.TreeDomains.{EachLine, EachInOrder, in_tree}
@@ -74,10 +78,23 @@ within_opening P o s roster h = record {
       both (nat_le (get_or s p off_symbol).number (shift_count P)) (opening_leaves o p (get_or s p off_symbol).number) (le-leb (get_or s p off_symbol).number (shift_count P) small) (h p);
 }
 
--- some roster within the opening domains meets the named rules too: the roster turned to the symbol of the turn
-opens_for_some : (P : Instance) (named : List ℕ) (o : Opening) (s : List Symbol) → Meets P named s → OpeningFits P o → IsAllowed P o → ((r : Rule) → OpeningCites o r → Names P named r) → (t : List Symbol) × Meets P named t × Within P (opening P o) t
-opens_for_some P named Full s met fits allowed cited = (s, met, within_opening P Full s met.is_roster (λ p. refl))
-opens_for_some P named (Turned t) s met fits allowed cited =
+-- a roster that holds given cells is within what they leave
+cell_held : (s : List Symbol) (p q : ℕ) (x : Symbol) → slice_get s q ≡ Some x → p ≡ q → (get_or s p off_symbol).number ≡ x.number
+cell_held s p q x held same = ap (λ k. (get_or s k off_symbol).number) same ∙ ap (λ (z : Symbol). z.number) (get_or_from_slice_get s q x off_symbol held)
+
+cells_held : (given : List GivenCell) (s : List Symbol) (p : ℕ) → HoldsCells given s → IsTrue (cells_leave given p (get_or s p off_symbol).number)
+cells_held given s p held =
+    list_all-from_AllPass (λ c. not (c.p == p) || ((get_or s p off_symbol).number == c.x.number)) given
+    (λ i d lt.
+    let c : GivenCell = get_or given i d in
+    where_passed (c.p == p) ((get_or s p off_symbol).number == c.x.number)
+    (λ e. eq-eqb (get_or s p off_symbol).number c.x.number (cell_held s p c.p c.x (held i d lt) (sym (eqb-true c.p p e)))))
+
+-- some roster within the opening domains meets the named rules too: the roster itself, or turned to the symbol of the turn
+opens_for_some : (P : Instance) (named : List ℕ) (o : Opening) (s : List Symbol) → Meets P named s → HoldsOpening o s → OpeningFits P o → IsAllowed P o → ((r : Rule) → OpeningCites o r → Names P named r) → (t : List Symbol) × Meets P named t × Within P (opening P o) t
+opens_for_some P named Full s met held fits allowed cited = (s, met, within_opening P Full s met.is_roster (λ p. refl))
+opens_for_some P named (Given given) s met held fits allowed cited = (s, met, within_opening P (Given given) s met.is_roster (λ p. cells_held given s p held))
+opens_for_some P named (Turned t) s met held fits allowed cited =
     let day : MeetsDay P t.day s = met.rules (TheRules.Day t.day) (cited (TheRules.Day t.day) refl) in
     let some : 0 < cells P = demanded_somewhere P s t.day t.x fits.0 fits.1 day allowed in
     let there = turned_to P s t.day t.x some met.is_roster fits.0 fits.1 day allowed in
@@ -91,15 +108,16 @@ opens_for_some P named (Turned t) s met fits allowed cited =
     )
 
 -- a log whose goal is known leaves no roster
-leaves_none_by : (P : Instance) (g : Log) (s : List Symbol) (goal : Option ℕ) → g.goal ≡ goal → Passes P g → Meets P g.named s → HasGoal g.goal s → ⊥
-leaves_none_by P g s None is passes met has =
-    let t = opens_for_some P g.named g.opening s met passes.grounded.fits.opening passes.grounded.allowed passes.grounded.turn_named in
+leaves_none_by : (P : Instance) (g : Log) (s : List Symbol) (goal : Option ℕ) → g.goal ≡ goal → Passes P g → Meets P g.named s → HasGoal g.goal s → HoldsOpening g.opening s → ⊥
+leaves_none_by P g s None is passes met has held =
+    let t = opens_for_some P g.named g.opening s met held passes.grounded.fits.opening passes.grounded.allowed passes.grounded.turn_named in
     opening_leaves_none P g t.0 passes (subst (λ o. HasGoal o t.0) (sym is) tt) t.1 t.2
-leaves_none_by P g s (Some goal) is passes met has =
+leaves_none_by P g s (Some goal) is passes met has held =
     let fits : GoalFits P g.opening (Some goal) = subst (GoalFits P g.opening) is passes.grounded.fits.goal in
     opening_leaves_none P g s passes has met
     (subst (λ o. Within P (opening P o) s) (sym fits.0) (within_opening P Full s met.is_roster (λ p. refl)))
 
--- the law: a log that passes and a roster that meets its named rules and has its goal exclude each other
-pub passing_leaves_none : (P : Instance) (g : Log) (s : List Symbol) → Passes P g → Meets P g.named s → HasGoal g.goal s → ⊥
-passing_leaves_none P g s passes met has = leaves_none_by P g s g.goal refl passes met has
+-- the law: a log that passes and a roster that meets its named rules, has its goal and holds its given cells exclude
+-- each other
+pub passing_leaves_none : PassingLeavesNoRoster
+passing_leaves_none P g s passes met has held = leaves_none_by P g s g.goal refl passes met has held

@@ -7,34 +7,27 @@ use Rattle.rwsp_text.specs.Lines.{text_of_lines, AreLines, AreWords}
 use Rattle.rwsp_text.proofs.LineLaws.{lines_append, are_lines_append}
 use Rattle.rwsp_terms.specs.Instance.{Instance, symbol_of, name_of}
 use Rattle.refutation_terms.specs.declared.lines.Version.{Version}
-use Rattle.refutation_terms.specs.declared.lines.Version.TheVariants.{Version1, Version2, Version3, Free1, Free2}
+use Rattle.refutation_terms.specs.declared.lines.Version.TheVariants.{Version1, Version2, Version3, Free1, Free2, Fill1}
 use Rattle.refutation_terms.specs.declared.lines.Line.{Line}
 use Rattle.refutation_terms.specs.declared.lines.Turn.{Turn}
 use Rattle.refutation_terms.specs.declared.lines.Opening.{Opening}
-use Rattle.refutation_terms.specs.declared.lines.Opening.TheVariants.{Full, Turned}
+use Rattle.refutation_terms.specs.declared.lines.Opening.TheVariants.{Full, Turned, Given}
 use Rattle.refutation_terms.specs.Log.{Log, Fits, LineFits, OpeningFits, GoalFits}
-use Rattle.refutation_terms.specs.LogText.{raw, raw_fields, line_text, version_text, rules_text, turn_text, no_turn_text, opening_text, goal_text, header_text, lines_text, log_text, line_of}
-use Rattle.refutation_terms.specs.Verdict.{goal_version}
+use Rattle.refutation_terms.specs.LogText.{raw, raw_fields, line_text, version_text, version_of, rules_text, turn_text, cells_text, opening_text, goal_text, third_text, header_text, lines_text, log_text, line_of}
 use Rattle.refutation_terms.specs.TextLaws.{IsWritable, HasNames}
 use Rattle.refutation_terms.proofs.LineTables.{spelled_raw, version_fields, rules_fields, turn_fields, no_turn_fields, goal_fields, version_words, rules_words, turn_words, no_turn_words, goal_words, raw_words, raw_same, turn_same as names_same}
+use Rattle.refutation_terms.proofs.GivenLine.{given_fields, given_words}
 
--- the version of a log with this opening and this goal or none, which may count or not
-abbrev pub version_of : Opening → Option ℕ → Bool → Version
-version_of Full None false = Version1
-version_of (Turned t) None false = Version2
-version_of o None true = Version3
-version_of o (Some goal) counts = goal_version counts
+-- the third line of a log without a goal, if it has one: its given cells, its turn, or that there is none
+abbrev pub opening_lines : Instance → Opening → Bool → List Words
+opening_lines P (Given given) counts = given_fields P given ∷ []
+opening_lines P (Turned t) counts = turn_fields (name_of P t.x) t.day ∷ []
+opening_lines P Full true = no_turn_fields ∷ []
+opening_lines P Full false = []
 
--- the line of a turn or of none
-abbrev pub opening_fields : Instance → Opening → Words
-opening_fields P Full = no_turn_fields
-opening_fields P (Turned t) = turn_fields (name_of P t.x) t.day
-
--- its third line, if it has one: the turn, or that there is none, or the goal
+-- the third line of a log, if it has one
 abbrev pub third_fields : Instance → Opening → Option ℕ → Bool → List Words
-third_fields P Full None false = []
-third_fields P (Turned t) None false = turn_fields (name_of P t.x) t.day ∷ []
-third_fields P o None true = opening_fields P o ∷ []
+third_fields P o None counts = opening_lines P o counts
 third_fields P o (Some goal) counts = goal_fields goal ∷ []
 
 abbrev pub header_fields : Instance → List ℕ → Opening → Option ℕ → Bool → List Words
@@ -52,25 +45,27 @@ version_written Version2 = refl
 version_written Version3 = refl
 version_written Free1 = refl
 version_written Free2 = refl
+version_written Fill1 = refl
 
 pub lines_written : (P : Instance) (goal : Option ℕ) (lines : List Line) → lines_text P goal lines ≡ text_of_lines (lines_fields P goal lines)
 lines_written P goal [] = refl
 lines_written P goal (line ∷ lines) = ap (λ t. line_text P (raw P goal line) ++ t) (lines_written P goal lines)
 
-three_written : (a b c : List ℕ) → a ++ b ++ c ≡ a ++ (b ++ (c ++ []))
-three_written a b c = append_assoc a b c ∙ ap (λ t. a ++ (b ++ t)) (sym (append-nil c))
+opening_written : (P : Instance) (o : Opening) (counts : Bool) → opening_text P o counts ≡ text_of_lines (opening_lines P o counts)
+opening_written P (Given given) counts = sym (append-nil (cells_text P given))
+opening_written P (Turned t) counts = sym (append-nil (turn_text (name_of P t.x) t.day))
+opening_written P Full true = refl
+opening_written P Full false = refl
 
-pub opening_written : (P : Instance) (o : Opening) → opening_text P o ≡ text_of (opening_fields P o)
-opening_written P Full = refl
-opening_written P (Turned t) = refl
+third_written : (P : Instance) (o : Opening) (goal : Option ℕ) (counts : Bool) → third_text P o goal counts ≡ text_of_lines (third_fields P o goal counts)
+third_written P o None counts = opening_written P o counts
+third_written P o (Some goal) counts = sym (append-nil (goal_text goal))
 
 header_written : (P : Instance) (named : List ℕ) (o : Opening) (goal : Option ℕ) (counts : Bool) → header_text P named o goal counts ≡ text_of_lines (header_fields P named o goal counts)
-header_written P named Full None false = ap (λ t. version_text Version1 ++ t) (sym (append-nil (rules_text named)))
-header_written P named (Turned t) None false = three_written (version_text Version2) (rules_text named) (turn_text (name_of P t.x) t.day)
-header_written P named Full None true = three_written (version_text Version3) (rules_text named) no_turn_text
-header_written P named (Turned t) None true = three_written (version_text Version3) (rules_text named) (turn_text (name_of P t.x) t.day)
-header_written P named o (Some goal) false = three_written (version_text Free1) (rules_text named) (goal_text goal)
-header_written P named o (Some goal) true = three_written (version_text Free2) (rules_text named) (goal_text goal)
+header_written P named o goal counts =
+    append_assoc (version_text (version_of o goal counts)) (rules_text named) (third_text P o goal counts)
+    ∙ ap (λ t. t ++ (rules_text named ++ third_text P o goal counts)) (version_written (version_of o goal counts))
+    ∙ ap (λ t. text_of (version_fields (version_of o goal counts)) ++ (rules_text named ++ t)) (third_written P o goal counts)
 
 pub log_written : (P : Instance) (g : Log) → log_text P g ≡ text_of_lines (log_fields P g)
 log_written P g =
@@ -90,14 +85,14 @@ pub lines_words : (P : Instance) (goal : Option ℕ) (counts : Bool) (lines : Li
 lines_words P goal counts [] w n h = tt
 lines_words P goal counts (line ∷ lines) w n h = (line_words P goal counts line w n h.0, lines_words P goal counts lines w n h.1)
 
-opening_words : (P : Instance) (o : Opening) → IsWritable P → HasNames P → OpeningFits P o → AreWords (opening_fields P o)
-opening_words P Full w n fits = no_turn_words
-opening_words P (Turned t) w n fits = turn_words P (name_of P t.x) t.day w (n t.x fits.1).0 fits.0
+opening_words : (P : Instance) (o : Opening) (counts : Bool) → IsWritable P → HasNames P → OpeningFits P o → AreLines (opening_lines P o counts)
+opening_words P (Given given) counts w n fits = (given_words P given w n fits, tt)
+opening_words P (Turned t) counts w n fits = (turn_words P (name_of P t.x) t.day w (n t.x fits.1).0 fits.0, tt)
+opening_words P Full true w n fits = (no_turn_words, tt)
+opening_words P Full false w n fits = tt
 
 third_words : (P : Instance) (o : Opening) (goal : Option ℕ) (counts : Bool) → IsWritable P → HasNames P → OpeningFits P o → GoalFits P o goal → AreLines (third_fields P o goal counts)
-third_words P Full None false w n fits of_goal = tt
-third_words P (Turned t) None false w n fits of_goal = (turn_words P (name_of P t.x) t.day w (n t.x fits.1).0 fits.0, tt)
-third_words P o None true w n fits of_goal = (opening_words P o w n fits, tt)
+third_words P o None counts w n fits of_goal = opening_words P o counts w n fits
 third_words P o (Some goal) counts w n fits of_goal = (goal_words P goal w of_goal.2, tt)
 
 pub log_words : (P : Instance) (g : Log) → IsWritable P → HasNames P → Fits P g → AreLines (log_fields P g)
@@ -131,10 +126,3 @@ turn_same P t u w n ht hu e =
     let both : Some t.x ≡ Some u.x = sym (n t.x ht.1).1 ∙ ap (symbol_of P) same.0 ∙ (n u.x hu.1).1 in
     let symbol : t.x ≡ u.x = cc in
     ap (λ d. record { day = d; x = t.x }) same.1 ∙ ap (λ x. record { day = u.day; x = x }) symbol
-
--- the line of a turn or of none says one
-pub opening_same : (P : Instance) (o o' : Opening) → IsWritable P → HasNames P → OpeningFits P o → OpeningFits P o' → opening_fields P o ≡ opening_fields P o' → o ≡ o'
-opening_same P Full Full w n ho hp e = refl
-opening_same P Full (Turned u) w n ho hp e = absurd (cc)
-opening_same P (Turned t) Full w n ho hp e = absurd (cc)
-opening_same P (Turned t) (Turned u) w n ho hp e = ap Turned (turn_same P t u w n ho hp e)

@@ -11,23 +11,25 @@ use Rattle.rwsp_terms.specs.Instance.{Instance, least, name_of, symbol_of}
 use Rattle.rwsp_terms.specs.Rules.{Names}
 use Rattle.refutation_terms.specs.declared.lines.Version.{Version}
 use Rattle.refutation_terms.specs.declared.lines.LogKind.{LogKind}
+use Rattle.refutation_terms.specs.declared.lines.LogKind.TheVariants.{WithoutGoal, WithGoal, WithCells}
 use Rattle.refutation_terms.specs.declared.lines.Line.{Line}
 use Rattle.refutation_terms.specs.declared.lines.Turn.{Turn}
 use Rattle.refutation_terms.specs.declared.lines.Opening.{Opening}
-use Rattle.refutation_terms.specs.declared.lines.Opening.TheVariants.{Full, Turned}
+use Rattle.refutation_terms.specs.declared.lines.Opening.TheVariants.{Full, Turned, Given}
 use Rattle.refutation_terms.specs.declared.lines.LogRefusal.{LogRefusal}
 use Rattle.refutation_terms.specs.declared.lines.LogRefusal.TheVariants as Refusals
 use Rattle.refutation_terms.specs.Word.{Domains}
 use Rattle.refutation_terms.specs.Ranges.{AreRules}
 use Rattle.refutation_terms.specs.Tree.{IsTree, after_trees, domains_at, opening, lines_leave, lines_in}
 use Rattle.refutation_terms.specs.Log.{Log, LineFits, OpeningFits, GoalFits, Holds, Cites, OpeningCites, IsAllowed, ListsShortOnly, IsGrounded, Passes}
-use Rattle.refutation_terms.specs.LogText.{raw, line_text, version_text, rules_text, turn_text, no_turn_text, opening_text, goal_text}
-use Rattle.refutation_terms.specs.Verdict.{kind_of, Front, Start, Versioned, BeforeTurn, BeforeGoal, Reading, HasNoCause, IsSoundSoFar, header_lines, TreeCause, CauseBehind, Cause, VersionCause, GoalCause, RulesCause, IsRefused, IsAccepted}
+use Rattle.refutation_terms.specs.LogText.{raw, line_text, version_text, rules_text, turn_text, no_turn_text, goal_text, third_text}
+use Rattle.refutation_terms.specs.Verdict.{kind_of, kind_by, kind_of_log, Front, Start, Versioned, BeforeTurn, BeforeGoal, BeforeCells, Reading, HasNoCause, IsSoundSoFar, header_lines, TreeCause, CauseBehind, Cause, VersionCause, GoalCause, RulesCause, IsRefused, IsAccepted}
 use Rattle.refutation_terms.specs.TextLaws.{IsWritable, HasNames, VerdictIsUnique}
 use Rattle.refutation_terms.proofs.LineTables.{fitting_lines_are_spelled}
 use Rattle.refutation_terms.proofs.Spent.{open_holds_not}
 use Rattle.refutation_terms.proofs.Trees.{part_is_not_whole, tree_is_whole}
-use Rattle.refutation_terms.proofs.Fronts.{HasTurnLine, texts_distinct, front_fields, fronts}
+use Rattle.refutation_terms.proofs.Fronts.{texts_distinct, before_by, HasThird, front_fields, fronts}
+use Rattle.refutation_terms.proofs.GivenLine.{cells_cause_same, cells_refute}
 use Rattle.refutation_terms.proofs.OneRefusal.{IsAtEndOrLine, refusals_same, whole_has_none}
 use Rattle.refutation_terms.proofs.Causes.{spells_same, not_unknown, long_not_short, idle_not_holding, escaped_not_holding, Reason, OfName, OfIdle, OfLong, OfFail, OfEscape, OfOpen, Level, Nothing, Unknown, Known, level_of, tree_cause_same, version_cause, goal_cause, rules_cause, extra_cause, turns_same, no_turn_spelled, no_turn_no_name, TurnReason, NoTurn, NoName, NoDay, NoDemand, turn_reason, turn_cause_same}
 
@@ -103,11 +105,6 @@ no_turn_reason P counts named t bytes why w n fits allowed is_named spelled (NoD
     let symbol : t.x ≡ x = cc in
     same_demand P t.x x t.day day symbol (sym same.1) allowed l
 
-turn_is_fine : (P : Instance) (g : Log) (t : Turn) (why : LogRefusal) → IsWritable P → HasNames P → IsGrounded P g → g.opening ≡ Turned t → TurnReason P g.counts g.named (opening_text P (Turned t)) why → ⊥
-turn_is_fine P g t why w n h is_turn q =
-    no_turn_reason P g.counts g.named t (opening_text P (Turned t)) why w n (subst (OpeningFits P) is_turn h.fits.opening) (subst (IsAllowed P) is_turn h.allowed)
-    (h.turn_named (TheRules.Day t.day) (subst (λ o. OpeningCites o (TheRules.Day t.day)) (sym is_turn) refl)) refl q
-
 -- nor has a log that counts and says that it has no turn
 no_turn_is_fine : (P : Instance) (named : List ℕ) (why : LogRefusal) → IsWritable P → TurnReason P true named no_turn_text why → ⊥
 no_turn_is_fine P named why w (NoTurn a e) = a.1 refl
@@ -115,17 +112,26 @@ no_turn_is_fine P named why w (NoName name day a s e) = no_turn_no_name P name d
 no_turn_is_fine P named why w (NoDay name day x k a s l e) = no_turn_no_name P name day w a
 no_turn_is_fine P named why w (NoDemand name day x a s d l e) = no_turn_no_name P name day w a
 
-opening_is_fine : (P : Instance) (g : Log) (o : Opening) (why : LogRefusal) → IsWritable P → HasNames P → IsGrounded P g → g.opening ≡ o → HasTurnLine o g.counts → TurnReason P g.counts g.named (opening_text P o) why → ⊥
-opening_is_fine P g (Turned t) why w n h is has_line q = turn_is_fine P g t why w n h is q
-opening_is_fine P g Full why w n h is has_line q = untold g.counts has_line q
-  where
-    untold : (counts : Bool) → HasTurnLine Full counts → TurnReason P counts g.named no_turn_text why → ⊥
-    untold false none r = none
-    untold true some r = no_turn_is_fine P g.named why w r
-
 -- nor has the goal of one
 pub goal_refutes : (P : Instance) (goal : ℕ) (why : LogRefusal) → goal ≤ P.weeks + 1 → GoalCause P (goal_text goal) why → ⊥
 goal_refutes P goal why few h = (subst (GoalCause P (goal_text goal)) (goal_cause P (goal_text goal) why h) h).1 goal few refl
+
+-- nor has the third line of a log that fits, where its turn has none
+pub third_is_fine : (P : Instance) (kind : LogKind) (named : List ℕ) (o : Opening) (goal : Option ℕ) (counts : Bool) (why : LogRefusal) → IsWritable P → HasNames P → OpeningFits P o → GoalFits P o goal → HasThird o goal counts → ((t : Turn) → o ≡ Turned t → TurnReason P counts named (turn_text (name_of P t.x) t.day) why → ⊥) → Cause P kind (before_by (kind_by o goal) counts named) (third_text P o goal counts) why → ⊥
+third_is_fine P kind named Full None false why w n fits aim has turn c = has refl
+third_is_fine P kind named Full None true why w n fits aim has turn c = no_turn_is_fine P named why w (turn_reason P true named no_turn_text why c)
+third_is_fine P kind named (Turned t) None counts why w n fits aim has turn c = turn t refl (turn_reason P counts named (turn_text (name_of P t.x) t.day) why c)
+third_is_fine P kind named (Given given) None counts why w n fits aim has turn c = cells_refute P given why w n fits c
+third_is_fine P kind named Full (Some goal) counts why w n fits aim has turn c = goal_refutes P goal why aim.2 c
+third_is_fine P kind named (Turned t) (Some goal) counts why w n fits aim has turn c = let clash : Turned t ≡ Full = aim.0 in cc
+third_is_fine P kind named (Given given) (Some goal) counts why w n fits aim has turn c = let clash : Given given ≡ Full = aim.0 in cc
+
+grounded_third_fine : (P : Instance) (kind : LogKind) (g : Log) (why : LogRefusal) → IsWritable P → HasNames P → IsGrounded P g → HasThird g.opening g.goal g.counts → Cause P kind (before_by (kind_of_log g) g.counts g.named) (third_text P g.opening g.goal g.counts) why → ⊥
+grounded_third_fine P kind g why w n h has c =
+    third_is_fine P kind g.named g.opening g.goal g.counts why w n h.fits.opening h.fits.goal has
+    (λ t is q. no_turn_reason P g.counts g.named t (turn_text (name_of P t.x) t.day) why w n (subst (OpeningFits P) is h.fits.opening) (subst (IsAllowed P) is h.allowed)
+    (h.turn_named (TheRules.Day t.day) (subst (λ o. OpeningCites o (TheRules.Day t.day)) (sym is) refl)) refl q)
+    c
 
 -- one cause for the line behind a header and lines
 pub cause_behind_same : (P : Instance) (g : Log) (line : List ℕ) (why other : LogRefusal) → IsWritable P → HasNames P → CauseBehind P g line why → CauseBehind P g line other → why ≡ other
@@ -142,15 +148,20 @@ cause_same P kind Start line why other w n a b = version_cause kind line why a �
 cause_same P kind (Versioned v) line why other w n a b = rules_cause P line why a ∙ sym (rules_cause P line other b)
 cause_same P kind (BeforeTurn counts R) line why other w n a b = turn_cause_same P counts R line why other w a b
 cause_same P kind (BeforeGoal counts R) line why other w n a b = goal_cause P line why a ∙ sym (goal_cause P line other b)
+cause_same P kind (BeforeCells R) line why other w n a b = cells_cause_same P line why other a b
 cause_same P kind (Reading g) line why other w n a b = cause_behind_same P g line why other w n a b
+
+sound_rules : (P : Instance) (kind k : LogKind) (c : Bool) (R : List ℕ) → HasNoCause P kind (before_by k c R) → AreRules P R
+sound_rules P kind WithoutGoal c R h = h.1
+sound_rules P kind WithGoal c R h = h.1
+sound_rules P kind WithCells c R h = h.1
 
 sound_fronts : (P : Instance) (kind : LogKind) → IsWritable P → HasNames P → AreFronts (front_fields P) (HasNoCause P kind) (Cause P kind)
 sound_fronts P kind w n =
-    fronts P w n kind (HasNoCause P kind) (λ F h. h.0) (λ c R h. h.1) (λ c R h. h.1) (λ g h. h.1.grounded.fits) (Cause P kind)
+    fronts P w n kind (HasNoCause P kind) (λ F h. h.0) (λ k c R h. sound_rules P kind k c R h) (λ g h. h.1.grounded.fits) (Cause P kind)
     (λ v why of c. version_refutes kind v why of c)
     (λ v R why are c. rules_refutes P R why are c)
-    (λ g why h has_line c. opening_is_fine P g g.opening why w n h.1.grounded refl has_line (turn_reason P g.counts g.named (opening_text P g.opening) why c))
-    (λ g goal why h is_goal c. let fits : GoalFits P g.opening (Some goal) = subst (GoalFits P g.opening) is_goal h.1.grounded.fits.goal in goal_refutes P goal why fits.2 c)
+    (λ g why h has c. grounded_third_fine P kind g why w n h.1.grounded has c)
     (λ f line more why h c. next_line_fine P f line more why w n h.1 c)
     (λ F line why other a b. cause_same P kind F line why other w n a b)
 

@@ -17,7 +17,7 @@ use Rattle.refutation_terms.specs.FreeWeekends.{is_off_at, free_weekends}
 use Rattle.refutation_terms.specs.Tree.{IsLeaf, IsTree, after_trees, First, Second, side, InFirst, InSecond, narrowed, opening, domains_at, is_idle}
 use Rattle.refutation_terms.specs.Ranges.{HasWeight}
 use Rattle.refutation_terms.specs.BlocksLeaf.{block_count, BlockCountFits, BlocksCite}
-use Rattle.refutation_terms.specs.Log.{Log, OpeningFits, Passes, IsSpent}
+use Rattle.refutation_terms.specs.Log.{Log, OpeningFits, HoldsOpening, Passes, IsSpent}
 
 -- one leaf line
 abbrev pub IsOneLeaf : List Line → Type 0
@@ -161,11 +161,12 @@ abbrev pub HasGoal : Option ℕ → List Symbol → Type 0
 HasGoal None s = Unit {0}
 HasGoal (Some goal) s = goal ≤ free_weekends s
 
--- a log that passes, with a turn or a goal or without, and a roster that meets the rules that it names and has as many
--- free weekends as the goal exclude each other
+-- a log that passes, with a turn, a goal or given cells or without, and a roster that meets the rules that it names,
+-- has as many free weekends as the goal and holds the cells exclude each other
 abbrev pub PassingLeavesNoRoster : Type 0
 PassingLeavesNoRoster =
-    (P : Instance) (g : Log) (s : List Symbol) → Passes P g → Meets P g.named s → HasGoal g.goal s → ⊥
+    (P : Instance) (g : Log) (s : List Symbol)
+    → Passes P g → Meets P g.named s → HasGoal g.goal s → HoldsOpening g.opening s → ⊥
 
 -- a roster of weeks of seven days has as many free weekends as weeks with both days of the weekend off
 abbrev pub FreeWeekendsAreWeeks : Type 0

@@ -8,6 +8,7 @@ pub mod WordsLeaf
 pub mod FewLeaf
 pub mod BlocksLeaf
 pub mod Leaves
+pub mod GivenCells
 pub mod Tree
 pub mod Log
 pub mod Sharp

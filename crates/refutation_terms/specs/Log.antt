@@ -3,14 +3,16 @@ use Rattle.std.specs.Prelude.{◌≡◌, ◌⊎◌, ℕ, ◌+◌, ◌<◌, ◌�
 use Rattle.rwsp_terms.specs.declared.data.Rule.{Rule}
 use Rattle.rwsp_terms.specs.declared.data.Rule.TheVariants as TheRules
 use Rattle.rwsp_terms.specs.declared.limits.TheConstants.{DAYS_OF_WEEK}
+use Rattle.rwsp_terms.specs.declared.data.Symbol.{Symbol}
 use Rattle.rwsp_terms.specs.Instance.{Instance, cells, least, IsSymbol, IsDay}
 use Rattle.rwsp_terms.specs.Rules.{Names}
 use Rattle.refutation_terms.specs.declared.lines.Line.{Line}
 use Rattle.refutation_terms.specs.declared.lines.Line.TheVariants.{Split, Closing, Unfinished}
 use Rattle.refutation_terms.specs.declared.lines.Opening.{Opening}
-use Rattle.refutation_terms.specs.declared.lines.Opening.TheVariants.{Full, Turned}
+use Rattle.refutation_terms.specs.declared.lines.Opening.TheVariants.{Full, Turned, Given}
 use Rattle.refutation_terms.specs.Word.{Domains}
 use Rattle.refutation_terms.specs.Ranges.{AreRules}
+use Rattle.refutation_terms.specs.GivenCells.{AreGivenIn, HoldsCells}
 use Rattle.refutation_terms.specs.Leaves.{LeafFits, LeafCites, LeafHolds, LeafListsShort}
 use Rattle.refutation_terms.specs.Tree.{IsTree, domains_at, is_idle}
 
@@ -31,21 +33,28 @@ LineFits P goal counts (Split p x) = (p < cells P) × IsSymbol P x
 LineFits P goal counts (Closing leaf) = LeafFits P goal counts leaf
 LineFits P goal counts Unfinished = Unit {0}
 
--- and those of a turn
+-- a turn is to a symbol of the problem on one of its days, and given cells are cells of its rosters
 abbrev pub OpeningFits : Instance → Opening → Type 0
 OpeningFits P Full = Unit {0}
 OpeningFits P (Turned t) = IsDay P t.day × IsSymbol P t.x
+OpeningFits P (Given given) = AreGivenIn P given
 
--- a free log has no turn. Its week has seven days, and its goal is at most one more than the weeks
+-- a free log has no turn and no given cells. Its week has seven days, and its goal is at most one more than the weeks
 abbrev pub GoalFits : Instance → Opening → Option ℕ → Type 0
 GoalFits P o None = Unit {0}
 GoalFits P o (Some goal) = (o ≡ Full) × (P.days ≡ DAYS_OF_WEEK) × (goal ≤ P.weeks + 1)
+
+-- a log that gives cells may count
+abbrev pub CountsFit : Opening → Bool → Type 0
+CountsFit (Given given) counts = counts ≡ true
+CountsFit o counts = Unit {0}
 
 -- a log over the rules, days, positions and symbols of the problem
 pub record Fits (P : Instance) (g : Log) : Type 0 where
   pub named : AreRules P g.named
   pub opening : OpeningFits P g.opening
   pub goal : GoalFits P g.opening g.goal
+  pub counts : CountsFit g.opening g.counts
   pub lines : (k : ℕ) (line : Line) → slice_get g.lines k ≡ Some line → LineFits P g.goal g.counts line
 
 -- a split that isn't idle, or a leaf that holds, in a log with this goal or none
@@ -68,11 +77,18 @@ CitesOnlyNamed P named line = (r : Rule) → Cites P line r → Names P named r
 abbrev pub OpeningCites : Opening → Rule → Type 0
 OpeningCites Full r = ⊥
 OpeningCites (Turned t) r = r ≡ TheRules.Day t.day
+OpeningCites (Given given) r = ⊥
+
+-- the roster has the cells that are given. A turn asks for nothing: some turned roster has it
+abbrev pub HoldsOpening : Opening → List Symbol → Type 0
+HoldsOpening (Given given) s = HoldsCells given s
+HoldsOpening o s = Unit {0}
 
 -- a turn is to a symbol that some week must hold on its day
 abbrev pub IsAllowed : Instance → Opening → Type 0
 IsAllowed P Full = Unit {0}
 IsAllowed P (Turned t) = pos 1 ≤ℤ least P t.x.number t.day
+IsAllowed P (Given given) = Unit {0}
 
 -- the lists of leaves of words hold short rules only
 abbrev pub ListsShortOnly : Instance → Line → Type 0

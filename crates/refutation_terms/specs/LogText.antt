@@ -3,7 +3,7 @@ use Rattle.std.specs.Prelude.{◌≡◌, ℕ, zero, suc, ◌+◌, ◌*◌, ◌/�
 use Rattle.std.specs.List.{concat, flat_map}
 use Rattle.std.specs.Fmt.{decimal}
 use Rattle.std.specs.Option.{option_map}
-use Rattle.rwsp_text.specs.Fields.{Word, Number, Name, Choice, Place, Rules, Weights, either_word, IsName, NamedWeight, IsNamedWeight, numbers, weight_fields, text_of}
+use Rattle.rwsp_text.specs.Fields.{Word, Number, Name, Choice, Place, Rules, Weights, Cells, either_word, IsName, NamedWeight, IsNamedWeight, NamedCell, numbers, weight_fields, cell_fields, text_of}
 use Rattle.rwsp_text.specs.Kinds.{Kind}
 use Rattle.rwsp_terms.specs.declared.limits.TheConstants.{GREATEST_WEIGHT, GREATEST_REWARD, LONGEST_WORD}
 use Rattle.rwsp_terms.specs.declared.data.Symbol.{Symbol}
@@ -16,9 +16,10 @@ use Rattle.refutation_terms.specs.declared.lines.Line.TheVariants.{Split, Unfini
 use Rattle.refutation_terms.specs.declared.lines.Leaf.TheVariants.{Window, Day, Few, Words, Blocks}
 use Rattle.refutation_terms.specs.declared.lines.WordClaim.TheVariants.{Dead, Light}
 use Rattle.refutation_terms.specs.declared.lines.Opening.{Opening}
-use Rattle.refutation_terms.specs.declared.lines.Opening.TheVariants.{Full, Turned}
+use Rattle.refutation_terms.specs.declared.lines.Opening.TheVariants.{Full, Turned, Given}
+use Rattle.refutation_terms.specs.declared.cells.GivenCell.{GivenCell}
 use Rattle.refutation_terms.specs.declared.lines.Version.{Version}
-use Rattle.refutation_terms.specs.declared.lines.Version.TheVariants.{Version1, Version2, Version3, Free1, Free2}
+use Rattle.refutation_terms.specs.declared.lines.Version.TheVariants.{Version1, Version2, Version3, Free1, Free2, Fill1}
 use Rattle.refutation_terms.specs.Ranges.{IsLength, AreRules}
 use Rattle.refutation_terms.specs.Log.{Log}
 
@@ -89,6 +90,7 @@ version_text Version2 = text_of (codes "rwsp-log" ∷ codes "2" ∷ [])
 version_text Version3 = text_of (codes "rwsp-log" ∷ codes "3" ∷ [])
 version_text Free1 = text_of (codes "rwsp-free" ∷ codes "1" ∷ [])
 version_text Free2 = text_of (codes "rwsp-free" ∷ codes "2" ∷ [])
+version_text Fill1 = text_of (codes "rwsp-fill" ∷ codes "1" ∷ [])
 
 -- line 2, the named rules
 abbrev pub rules_text : List ℕ → List ℕ
@@ -106,18 +108,45 @@ goal_text goal = text_of (codes "goal" ∷ decimal goal ∷ [])
 abbrev pub no_turn_text : List ℕ
 no_turn_text = text_of (codes "turn" ∷ [])
 
--- in version 3 line 3, with a turn or without
-abbrev pub opening_text : Instance → Opening → List ℕ
-opening_text P Full = no_turn_text
-opening_text P (Turned t) = turn_text (name_of P t.x) t.day
+-- in a fill log line 3, the given cells by the names of their symbols
+abbrev pub named_cells_text : Instance → List NamedCell → List ℕ
+named_cells_text P named = text_of (codes "cells" ∷ flat_map (cell_fields P.days) named)
+
+abbrev pub named_cell : Instance → GivenCell → NamedCell
+named_cell P c = record { p = c.p; name = name_of P c.x }
+
+abbrev pub cells_text : Instance → List GivenCell → List ℕ
+cells_text P given = named_cells_text P (map (named_cell P) given)
+
+-- the version of a log without given cells and without a goal
+abbrev pub plain_version : Opening → Bool → Version
+plain_version o true = Version3
+plain_version Full false = Version1
+plain_version o false = Version2
+
+-- the version of a log with this opening and this goal or none, which may count or not
+abbrev pub version_of : Opening → Option ℕ → Bool → Version
+version_of (Given given) goal counts = Fill1
+version_of o (Some goal) false = Free1
+version_of o (Some goal) true = Free2
+version_of o None counts = plain_version o counts
+
+-- the third line of a log without a goal: none where there is no turn and the log doesn't count
+abbrev pub opening_text : Instance → Opening → Bool → List ℕ
+opening_text P (Given given) counts = cells_text P given
+opening_text P (Turned t) counts = turn_text (name_of P t.x) t.day
+opening_text P Full true = no_turn_text
+opening_text P Full false = []
+
+-- the third line of a log with this opening and this goal or none, which may count or not
+abbrev pub third_text : Instance → Opening → Option ℕ → Bool → List ℕ
+third_text P o None counts = opening_text P o counts
+third_text P o (Some goal) counts = goal_text goal
 
 -- the header of a log with this opening and this goal or none, which may count or not
 abbrev pub header_text : Instance → List ℕ → Opening → Option ℕ → Bool → List ℕ
-header_text P named Full None false = version_text Version1 ++ rules_text named
-header_text P named (Turned t) None false = version_text Version2 ++ rules_text named ++ turn_text (name_of P t.x) t.day
-header_text P named o None true = version_text Version3 ++ rules_text named ++ opening_text P o
-header_text P named o (Some goal) false = version_text Free1 ++ rules_text named ++ goal_text goal
-header_text P named o (Some goal) true = version_text Free2 ++ rules_text named ++ goal_text goal
+header_text P named o goal counts =
+    version_text (version_of o goal counts) ++ rules_text named ++ third_text P o goal counts
 
 -- the text of some lines of a log with this goal or none
 abbrev pub lines_text : Instance → Option ℕ → List Line → List ℕ
@@ -272,8 +301,11 @@ version_kind = record { word = codes "rwsp-log"; fields = Number 1 3 ∷ []; mak
 abbrev pub free_version_kind : Kind Version
 free_version_kind = record { word = codes "rwsp-free"; fields = Number 1 2 ∷ []; make = λ v. free_version v.0 }
 
+abbrev pub fill_version_kind : Kind Version
+fill_version_kind = record { word = codes "rwsp-fill"; fields = Number 1 1 ∷ []; make = λ v. Fill1 }
+
 abbrev pub version_kinds : List (Kind Version)
-version_kinds = version_kind ∷ free_version_kind ∷ []
+version_kinds = version_kind ∷ free_version_kind ∷ fill_version_kind ∷ []
 
 -- line 2, the rules
 abbrev pub rules_kind : Instance → Kind (List ℕ)
@@ -286,6 +318,13 @@ turn_kind P = record { word = codes "turn"; fields = Name ∷ Number 1 P.days �
 -- line 3 of a free log: its goal
 abbrev pub goal_kind : Instance → Kind ℕ
 goal_kind P = record { word = codes "goal"; fields = Number 0 (P.weeks + 1) ∷ []; make = λ v. v.0 }
+
+-- line 3 of a fill log: its given cells
+abbrev pub cells_kind : Instance → Kind (List NamedCell)
+cells_kind P = record { word = codes "cells"; fields = Cells P.weeks P.days ∷ []; make = λ v. v.0 }
+
+abbrev pub cells_kinds : Instance → List (Kind (List NamedCell))
+cells_kinds P = cells_kind P ∷ []
 
 abbrev pub goal_kinds : Instance → List (Kind ℕ)
 goal_kinds P = goal_kind P ∷ []

@@ -12,7 +12,7 @@ use Rattle.refutation_terms.specs.declared.lines.Line.{Line}
 use Rattle.refutation_terms.specs.declared.lines.Line.TheVariants.{Split, Closing, Unfinished}
 use Rattle.refutation_terms.specs.declared.lines.Leaf.TheVariants.{Window, Day}
 use Rattle.refutation_terms.specs.declared.lines.Opening.{Opening}
-use Rattle.refutation_terms.specs.declared.lines.Opening.TheVariants.{Full, Turned}
+use Rattle.refutation_terms.specs.declared.lines.Opening.TheVariants.{Full, Turned, Given}
 use Rattle.refutation_terms.specs.Word.{Domains, Over, Clean}
 use Rattle.refutation_terms.specs.Ranges.{AreWeightsOf}
 use Rattle.refutation_terms.specs.WordsLeaf.{IsDead, IsTooLight}
@@ -98,9 +98,11 @@ IsUnclosed line = ⊥
 abbrev pub IsDemanded : Instance → ℕ → Symbol → Type 0
 IsDemanded P j x = IsDay P j × IsShift P x × (pos 1 ≤ℤ least P x.number j)
 
--- no shift is demanded, or the turn is to the first that is, on the first day on which one is
+-- no shift is demanded, or the turn is to the first that is, on the first day on which one is; or cells are given, with
+-- which no week is like another
 abbrev pub IsFirstTurn : Instance → Opening → Type 0
 IsFirstTurn P Full = (j : ℕ) (x : Symbol) → IsDemanded P j x → ⊥
+IsFirstTurn P (Given given) = Unit {0}
 IsFirstTurn P (Turned t) =
     IsDemanded P t.day t.x
     × ((j : ℕ) (x : Symbol) → IsDemanded P j x → (t.day < j) ⊎ ((t.day ≡ j) × (t.x.number ≤ x.number)))

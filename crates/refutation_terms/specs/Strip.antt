@@ -1,5 +1,5 @@
--- Taking rules out of a log.
-use Rattle.std.specs.Prelude.{◌≡◌, ◌≢◌, ◌⊎◌, ℕ, zero, suc, List, [], ◌∷◌, map, filter, reverse, not, ◌==◌, Option, Some}
+-- Taking rules and given cells out of a log.
+use Rattle.std.specs.Prelude.{◌≡◌, ◌≢◌, ◌⊎◌, ℕ, zero, suc, List, [], ◌∷◌, map, filter, reverse, not, ◌==◌, Option, Some, Contains}
 use Rattle.rwsp_terms.specs.declared.data.Weight.{Weight}
 use Rattle.rwsp_terms.specs.declared.data.Rule.{Rule}
 use Rattle.rwsp_terms.specs.declared.data.Rule.TheVariants as TheRules
@@ -10,6 +10,9 @@ use Rattle.refutation_terms.specs.declared.lines.Line.TheVariants.{Closing}
 use Rattle.refutation_terms.specs.declared.lines.Leaf.TheVariants.{Words}
 use Rattle.refutation_terms.specs.declared.lines.WordClaim.{WordClaim}
 use Rattle.refutation_terms.specs.declared.lines.WordClaim.TheVariants.{Dead, Light}
+use Rattle.refutation_terms.specs.declared.cells.GivenCell.{GivenCell}
+use Rattle.refutation_terms.specs.declared.lines.Opening.{Opening}
+use Rattle.refutation_terms.specs.declared.lines.Opening.TheVariants.{Given}
 use Rattle.refutation_terms.specs.Log.{Log, Passes}
 
 -- the list without the number
@@ -60,3 +63,34 @@ ReducesIn P (suc n) g h = (next : Log) × DescendsTo P g next × (next ≢ g) ×
 -- what descents give, repeated until one drops nothing
 abbrev pub IsReduced : Instance → Log → Log → Type 0
 IsReduced P g h = (n : ℕ) × ReducesIn P n g h
+
+-- it no longer passes once any one of its rules is taken out
+abbrev pub NeedsEachRule : Instance → Log → Type 0
+NeedsEachRule P g = (number : ℕ) → Contains g.named number → Passes P (strip P number g) → ⊥
+
+-- the cells that an opening gives
+abbrev pub cells_given : Opening → List GivenCell
+cells_given (Given given) = given
+cells_given o = []
+
+-- the given cells without the one at this position
+abbrev pub cells_without : ℕ → List GivenCell → List GivenCell
+cells_without p given = filter (λ c. not (c.p == p)) given
+
+abbrev pub opening_without : ℕ → Opening → Opening
+opening_without p (Given given) = Given (cells_without p given)
+opening_without p o = o
+
+-- the log without the given cell at this position
+abbrev pub without_cell : ℕ → Log → Log
+without_cell p g = record {
+  named = g.named;
+  opening = opening_without p g.opening;
+  goal = g.goal;
+  counts = g.counts;
+  lines = g.lines;
+}
+
+-- it no longer passes once any one of its given cells is left out
+abbrev pub NeedsEachCell : Instance → Log → Type 0
+NeedsEachCell P g = (c : GivenCell) → Contains (cells_given g.opening) c → Passes P (without_cell c.p g) → ⊥

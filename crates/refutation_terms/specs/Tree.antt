@@ -1,11 +1,13 @@
 -- The tree that the lines of a log form, and the domains at a line.
 use Rattle.std.specs.Prelude.{◌≡◌, ℕ, zero, suc, ◌-◌, List, [], ◌∷◌, ◌++◌, take, Bool, true, Option, Some, None, ◌&&◌, ◌||◌, ◌==◌, not}
+use Rattle.std.specs.List.{list_all}
 use Rattle.rwsp_terms.specs.declared.data.Symbol.{Symbol}
 use Rattle.rwsp_terms.specs.Instance.{Instance}
 use Rattle.refutation_terms.specs.declared.lines.Line.{Line}
 use Rattle.refutation_terms.specs.declared.lines.Line.TheVariants.{Split}
 use Rattle.refutation_terms.specs.declared.lines.Opening.{Opening}
-use Rattle.refutation_terms.specs.declared.lines.Opening.TheVariants.{Full, Turned}
+use Rattle.refutation_terms.specs.declared.lines.Opening.TheVariants.{Full, Turned, Given}
+use Rattle.refutation_terms.specs.declared.cells.GivenCell.{GivenCell}
 use Rattle.refutation_terms.specs.Word.{Domains, full}
 use Rattle.refutation_terms.specs.DayLeaf.{is_only}
 
@@ -81,10 +83,15 @@ abbrev pub lines_leave : List Line → Domains
 lines_leave [] p z = true
 lines_leave (line ∷ later) p z = line_leaves line (side later) p z && lines_leave later p z
 
+-- what given cells leave: at the position of each its symbol alone
+abbrev pub cells_leave : List GivenCell → Domains
+cells_leave given p z = list_all (λ c. not (c.p == p) || (z == c.x.number)) given
+
 -- what is known before the first line leaves of the domains: with a turn to x on day j, position j - 1 has x alone
 abbrev pub opening_leaves : Opening → Domains
 opening_leaves Full p z = true
 opening_leaves (Turned t) p z = not ((t.day - 1) == p) || (z == t.x.number)
+opening_leaves (Given given) p z = cells_leave given p z
 
 -- the domains at the first line
 abbrev pub opening : Instance → Opening → Domains

@@ -1,20 +1,20 @@
 -- The verdict on a text: that it is a log that passes, or its first line with a cause to refuse it.
 use Rattle.std.specs.Prelude.{◌≡◌, ◌≢◌, ◌⊎◌, ℕ, ◌+◌, ◌<◌, ◌≤◌, List, [], ◌++◌, length, slice_get, take, Bool, true, false, Option, Some, None, Result, Ok, Err, pos, ◌<ℤ◌}
 use Rattle.rwsp_text.specs.Lines.{IsNextLine}
-use Rattle.rwsp_text.specs.Fields.{IsName}
+use Rattle.rwsp_text.specs.Fields.{IsName, NamedCell, AreNamedCells}
 use Rattle.rwsp_terms.specs.declared.data.Symbol.{Symbol}
 use Rattle.rwsp_terms.specs.declared.data.Rule.{Rule}
 use Rattle.rwsp_terms.specs.declared.data.Rule.TheVariants as TheRules
-use Rattle.rwsp_terms.specs.Instance.{Instance, least, IsDay, symbol_of}
+use Rattle.rwsp_terms.specs.Instance.{Instance, cells, least, IsDay, symbol_of}
 use Rattle.rwsp_terms.specs.Rules.{rule_of, Names}
 use Rattle.refutation_terms.specs.declared.lines.Version.{Version}
-use Rattle.refutation_terms.specs.declared.lines.Version.TheVariants.{Version1, Version2, Version3, Free1, Free2}
+use Rattle.refutation_terms.specs.declared.lines.Version.TheVariants.{Version1, Version2, Version3, Free1, Free2, Fill1}
 use Rattle.refutation_terms.specs.declared.lines.LogKind.{LogKind}
-use Rattle.refutation_terms.specs.declared.lines.LogKind.TheVariants.{WithoutGoal, WithGoal}
+use Rattle.refutation_terms.specs.declared.lines.LogKind.TheVariants.{WithoutGoal, WithGoal, WithCells}
 use Rattle.refutation_terms.specs.declared.lines.Line.{Line}
 use Rattle.refutation_terms.specs.declared.lines.Line.TheVariants.{Split, Closing, Unfinished}
 use Rattle.refutation_terms.specs.declared.lines.Opening.{Opening}
-use Rattle.refutation_terms.specs.declared.lines.Opening.TheVariants.{Full, Turned}
+use Rattle.refutation_terms.specs.declared.lines.Opening.TheVariants.{Full, Given}
 use Rattle.refutation_terms.specs.declared.lines.LogRefusal.{LogRefusal}
 use Rattle.refutation_terms.specs.declared.lines.LogRefusal.TheVariants as Refusals
 use Rattle.refutation_terms.specs.Word.{Domains}
@@ -22,7 +22,7 @@ use Rattle.refutation_terms.specs.Ranges.{AreRules}
 use Rattle.refutation_terms.specs.Leaves.{IsWordless, LeafListsLong, LeafEscapes}
 use Rattle.refutation_terms.specs.Tree.{IsTree, domains_at, is_idle}
 use Rattle.refutation_terms.specs.Log.{Log, Holds, HoldsAt, Cites, CitesOnlyNamed, ListsShortOnly, IsGrounded, Passes}
-use Rattle.refutation_terms.specs.LogText.{RawLine, IsWritten, line_of, version_text, rules_text, turn_text, no_turn_text, goal_text, log_text}
+use Rattle.refutation_terms.specs.LogText.{RawLine, IsWritten, line_of, version_text, rules_text, turn_text, no_turn_text, goal_text, named_cells_text, log_text}
 
 -- the least number with a property
 abbrev pub IsLeast : (ℕ → Type 0) → ℕ → Type 0
@@ -153,11 +153,17 @@ kind_of Version2 = WithoutGoal
 kind_of Version3 = WithoutGoal
 kind_of Free1 = WithGoal
 kind_of Free2 = WithGoal
+kind_of Fill1 = WithCells
 
--- the kind of a log with this goal or none
-abbrev pub kind_by : Option ℕ → LogKind
-kind_by None = WithoutGoal
-kind_by (Some goal) = WithGoal
+-- the kind of a log with this opening and this goal or none
+abbrev pub kind_by : Opening → Option ℕ → LogKind
+kind_by (Given given) goal = WithCells
+kind_by o None = WithoutGoal
+kind_by o (Some goal) = WithGoal
+
+-- the kind of a log
+abbrev pub kind_of_log : Log → LogKind
+kind_of_log g = kind_by g.opening g.goal
 
 -- why line 1 is refused, the version
 abbrev pub VersionCause : LogKind → List ℕ → LogRefusal → Type 0
@@ -169,13 +175,32 @@ abbrev pub GoalCause : Instance → List ℕ → LogRefusal → Type 0
 GoalCause P bytes (Refusals.Form i) = (i ≡ 3) × ((goal : ℕ) → goal ≤ P.weeks + 1 → bytes ≢ goal_text goal)
 GoalCause P bytes why = ⊥
 
--- the front of a text that has been read: nothing, the version, the rules of a log whose turn is to come or of one
--- whose goal is, and which may count or not, or a whole header with some lines
+-- the bytes spell these cells, by names
+abbrev pub SpellsCells : Instance → List ℕ → List NamedCell → Type 0
+SpellsCells P bytes named = AreNamedCells (cells P) named × (bytes ≡ named_cells_text P named)
+
+-- a cell has a name that is no symbol's
+abbrev pub HasUnknown : Instance → List NamedCell → Type 0
+HasUnknown P named = (k : ℕ) × (c : NamedCell) × (slice_get named k ≡ Some c) × (symbol_of P c.name ≡ None)
+
+-- they spell cells, and one of a name that is no symbol's
+abbrev pub SpellsUnknownCell : Instance → List ℕ → Type 0
+SpellsUnknownCell P bytes = (named : List NamedCell) × SpellsCells P bytes named × HasUnknown P named
+
+-- why line 3 of a fill log is refused, the given cells
+abbrev pub CellsCause : Instance → List ℕ → LogRefusal → Type 0
+CellsCause P bytes (Refusals.Form i) = (i ≡ 3) × ((named : List NamedCell) → SpellsCells P bytes named → ⊥)
+CellsCause P bytes (Refusals.Name i) = (i ≡ 3) × SpellsUnknownCell P bytes
+CellsCause P bytes why = ⊥
+
+-- the front of a text that has been read: nothing, the version, the rules of a log whose turn, goal or given cells are
+-- to come, and which may count or not, or a whole header with some lines
 pub data Front : Type 0 where
   Start : Front
   Versioned : Version → Front
   BeforeTurn : (counts : Bool) (named : List ℕ) → Front
   BeforeGoal : (counts : Bool) (named : List ℕ) → Front
+  BeforeCells : (named : List ℕ) → Front
   Reading : Log → Front
 
 -- the version of a log with a line for its turn, or of one with a goal, which may count or not
@@ -193,6 +218,7 @@ front_text P Start = []
 front_text P (Versioned v) = version_text v
 front_text P (BeforeTurn counts named) = version_text (turn_version counts) ++ rules_text named
 front_text P (BeforeGoal counts named) = version_text (goal_version counts) ++ rules_text named
+front_text P (BeforeCells named) = version_text Fill1 ++ rules_text named
 front_text P (Reading g) = log_text P g
 
 -- lines of a log that are refused for no cause: all is named, allowed and holds, and none is behind a whole tree
@@ -207,12 +233,14 @@ IsFrontOf kind Start = Unit {0}
 IsFrontOf kind (Versioned v) = kind_of v ≡ kind
 IsFrontOf kind (BeforeTurn counts named) = WithoutGoal ≡ kind
 IsFrontOf kind (BeforeGoal counts named) = WithGoal ≡ kind
-IsFrontOf kind (Reading g) = kind_by g.goal ≡ kind
+IsFrontOf kind (BeforeCells named) = WithCells ≡ kind
+IsFrontOf kind (Reading g) = kind_of_log g ≡ kind
 
 -- no line of the front has a cause
 abbrev pub IsSoundFront : Instance → Front → Type 0
 IsSoundFront P (BeforeTurn counts named) = AreRules P named
 IsSoundFront P (BeforeGoal counts named) = AreRules P named
+IsSoundFront P (BeforeCells named) = AreRules P named
 IsSoundFront P (Reading g) = IsSoundSoFar P g
 IsSoundFront P front = Unit {0}
 
@@ -233,9 +261,7 @@ ExtraCause n why = ⊥
 -- how many lines the header of a log has with this opening and this goal or none, which may count or not
 abbrev pub header_lines : Opening → Option ℕ → Bool → ℕ
 header_lines Full None false = 2
-header_lines (Turned t) None false = 3
-header_lines o None true = 3
-header_lines o (Some goal) counts = 3
+header_lines o goal counts = 3
 
 -- why the line behind the header and the lines of a log is refused
 abbrev pub CauseBehind : Instance → Log → List ℕ → LogRefusal → Type 0
@@ -251,6 +277,7 @@ Cause P kind Start bytes why = VersionCause kind bytes why
 Cause P kind (Versioned v) bytes why = RulesCause P bytes why
 Cause P kind (BeforeTurn counts named) bytes why = TurnCause P counts named bytes why
 Cause P kind (BeforeGoal counts named) bytes why = GoalCause P bytes why
+Cause P kind (BeforeCells named) bytes why = CellsCause P bytes why
 Cause P kind (Reading g) bytes why = CauseBehind P g bytes why
 
 -- a front of the text, of these fronts, has no cause, and the line behind it has this one
@@ -279,7 +306,7 @@ IsRefused P kind text why = IsRefusedBehindFront P (HasNoCause P kind) (Cause P 
 
 -- the text is that of a log of this kind that passes
 pub record IsAccepted (P : Instance) (kind : LogKind) (text : List ℕ) (g : Log) : Type 0 where
-  pub of_kind : kind_by g.goal ≡ kind
+  pub of_kind : kind_of_log g ≡ kind
   pub is_text : text ≡ log_text P g
   pub passes : Passes P g
 

@@ -2,8 +2,8 @@
 ghost use Rattle.refutation_terms.specs.Laws.{TreesAreAsSaid, WalksReadTrees, SidesAreAsSaid, DomainsAreAsSaid, IdleIsAsSaid, OverIsAsSaid, DomainsAreNeverEmpty, WindowsAreOver, SidesTakeAll, SidesShareNone, WindowsAreClean, PartsAreClean, FewerRulesAreClean, WindowsWeighEnough, WindowsWeighExactly, TurningKeepsRules, TurningKeepsLists, SomeTurnHasIt, FreeWeekendsAreWeeks, TurnsHaveFreeWeekends, PassingLeavesNoRoster, PassingIsNotSpent, BlockCountsFit};
 ghost use Rattle.refutation_terms.specs.TextLaws.{SpelledLinesFit, FittingLinesAreSpelled, TextsAreDistinct, VerdictIsUnique};
 
-/// A log that passes, with a turn or a goal or without, and a roster that meets the rules that it names and has as many
-/// free weekends as the goal exclude each other.
+/// A log that passes, with a turn, a goal or given cells or without, and a roster that meets the rules that it names,
+/// has as many free weekends as the goal and holds the cells exclude each other.
 pub fn passing_leaves_no_roster()
     ensures { PassingLeavesNoRoster }
 {}

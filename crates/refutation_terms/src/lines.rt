@@ -1,6 +1,10 @@
-// The lines of a log, its turn, and the causes for which a log is refused. Positions count from 0, days and rules
-// from 1.
+// The lines of a log, what is known before them, and the causes for which a log is refused. Positions count from 0,
+// days and rules from 1.
+ghost use Rattle.std.specs.Prelude.{◌≡◌, IfOk};
+
+use crate::cells::GivenCells;
 use rwsp_terms::{RuleList, Symbol, Weights, Word};
+use std::alloc::AllocError;
 
 /// A line of a log: a split of the cases in two, a leaf that closes a case, or a case that wasn't worked out.
 #[derive(Drop)]
@@ -68,12 +72,27 @@ pub struct Turn {
 }
 
 /// What is known of the cells before the first line of a log.
-#[derive(Clone, Copy, Debug, PartialEq, Eq)]
+#[derive(Drop)]
 pub enum Opening {
     /// Each cell may hold each symbol.
     Full,
     /// Week 1 holds the symbol of the turn on its day.
     Turned(Turn),
+    /// These cells hold their symbols.
+    Given(GivenCells),
+}
+
+impl Opening {
+    /// A copy of the opening.
+    pub fn copy(&self) -> Result<Opening, AllocError>
+        ensures { IfOk result (λ same. same ≡ self.now) }
+    {
+        match self {
+            Opening::Full => Ok(Opening::Full),
+            Opening::Turned(turn) => Ok(Opening::Turned(*turn)),
+            Opening::Given(given) => Ok(Opening::Given(given.copy()?)),
+        }
+    }
 }
 
 /// What the lines of a log may be: which kinds there are goes by its goal, if it has one, and by whether it may count
@@ -84,11 +103,12 @@ pub struct Terms {
     pub counts: bool,
 }
 
-/// What a text is read as: a log without a goal, or a free log.
+/// What a text is read as: a log without a goal, a free log, or a fill log, which gives cells.
 #[derive(Clone, Copy, Debug, PartialEq, Eq)]
 pub enum LogKind {
     WithoutGoal,
     WithGoal,
+    WithCells,
 }
 
 /// The form of a log's text, by its first line.
@@ -104,6 +124,8 @@ pub enum Version {
     Free1,
     /// `rwsp-free 2`, a free log that may count, with its goal on line 3.
     Free2,
+    /// `rwsp-fill 1`, a log that may count, with its given cells on line 3.
+    Fill1,
 }
 
 /// Why a log is refused. The first number is the line of the text, from 1 on; the second is the rule.

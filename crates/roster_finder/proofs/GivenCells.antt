@@ -3,8 +3,8 @@ use Rattle.std.proofs.Common.{ℕ, ◌<◌, List, length, slice_index_or, All, s
 use Rattle.rwsp_terms.specs.declared.data.Symbol.{Symbol}
 use Rattle.rwsp_terms.specs.Instance.{Instance}
 use Rattle.rwsp_terms.specs.Roster.{MeetsAll}
-use Rattle.refutation_log.specs.declared.cells.GivenCell.{GivenCell}
-use Rattle.refutation_log.specs.GivenCells.{AreGivenIn}
+use Rattle.refutation_terms.specs.declared.cells.GivenCell.{GivenCell}
+use Rattle.refutation_terms.specs.GivenCells.{AreGivenIn}
 
 -- each is a cell of a roster that meets every rule
 pub cells_within : (P : Instance) (given : List GivenCell) (s : List Symbol) → AreGivenIn P given → MeetsAll P s → All (λ c. c.p < length s) given

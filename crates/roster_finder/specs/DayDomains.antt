@@ -4,7 +4,7 @@ use Rattle.roster_finder.specs.declared.day_domains.DayDomains.{DayDomains}
 use Rattle.roster_finder.specs.declared.setting.Setting.{Setting}
 use Rattle.roster_finder.specs.declared.given_ways.Ways.{Ways}
 use Rattle.roster_finder.specs.declared.walk.Walk.{Walk}
-use Rattle.refutation_log.specs.declared.cells.GivenCell.{GivenCell}
+use Rattle.refutation_terms.specs.declared.cells.GivenCell.{GivenCell}
 
 -- they are of the setting's days, symbols and nodes
 pub record AreDomainsOf (setting : Setting) (domains : DayDomains) : Type 0 where

@@ -3,8 +3,8 @@ use Rattle.std.specs.Prelude.{◌≡◌, ℕ, ◌≤◌, List}
 use Rattle.rwsp_terms.specs.Instance.{Instance}
 use Rattle.rwsp_terms.specs.Roster.{MeetsAll}
 use Rattle.refutation_terms.specs.FreeWeekends.{free_weekends}
-use Rattle.refutation_log.specs.declared.cells.GivenCell.{GivenCell}
-use Rattle.refutation_log.specs.GivenCells.{IsFilled}
+use Rattle.refutation_terms.specs.declared.cells.GivenCell.{GivenCell}
+use Rattle.refutation_terms.specs.GivenCells.{IsFilled}
 use Rattle.rwsp_model.specs.declared.roster.Roster.{Roster}
 
 -- a roster of the problem's days that meets every rule and has `free` free weekends at least

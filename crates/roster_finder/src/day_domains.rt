@@ -4,7 +4,7 @@ ghost use Rattle.std.specs.Prelude.{◌≡◌, ◌<◌, ◌≤◌, length, All, 
 use crate::numbers::Numbers;
 use crate::setting::Setting;
 use crate::table::Table;
-use refutation_log::GivenCell;
+use refutation_terms::GivenCell;
 use std::alloc::{AllocError, Global};
 
 /// For each day of all weeks the symbols that it may have.

@@ -3,7 +3,7 @@ ghost use Rattle.std.specs.Prelude.{◌≡◌, ◌*◌, ◌<◌, ◌≤◌, leng
 ghost use Rattle.rwsp_terms.specs.Roster.{IsRoster};
 ghost use Rattle.refutation_terms.specs.FreeWeekends.{free_weekends};
 ghost use Rattle.roster_finder.specs.Found.{IsRosterHolding, IsRosterWith};
-ghost use Rattle.refutation_log.specs.GivenCells.{AreGivenIn, HoldsCells};
+ghost use Rattle.refutation_terms.specs.GivenCells.{AreGivenIn, HoldsCells};
 ghost use Rattle.roster_finder.specs.DayDomains.{AreDomainsFor, AreDomainsOf};
 ghost use Rattle.roster_finder.specs.Moves.{IsMoverOf};
 ghost use Rattle.roster_finder.specs.Starters.{IsStarterOf};
@@ -23,7 +23,7 @@ use crate::shares::Shares;
 use crate::start::{Lead, Starter};
 use crate::steady_layer::SteadyLayer;
 use crate::window::Mover;
-use refutation_log::{GivenCell, GivenCells};
+use refutation_terms::{GivenCell, GivenCells};
 use roster_checker::{first_broken, free_weekends};
 use rwsp_model::{Problem, Roster};
 use rwsp_terms::Symbol;

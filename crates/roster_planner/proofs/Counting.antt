@@ -9,10 +9,11 @@ use Rattle.refutation_terms.specs.declared.lines.Line.TheVariants.{Closing}
 use Rattle.refutation_terms.specs.declared.lines.Leaf.{Leaf}
 use Rattle.refutation_terms.specs.declared.lines.Leaf.TheVariants.{Window, Day, Blocks}
 use Rattle.refutation_terms.specs.declared.lines.Opening.{Opening}
+use Rattle.refutation_terms.specs.declared.lines.Opening.TheVariants.{Full, Turned, Given}
 use Rattle.refutation_terms.specs.Word.{Domains, AreSame}
 use Rattle.refutation_terms.specs.BlocksLeaf.{IsFirstBlocks, NoBlocksHold}
 use Rattle.refutation_terms.specs.Tree.{opening}
-use Rattle.refutation_terms.specs.Log.{Log, Passes, NamesOnlyCited, GoalFits, IsAllowed}
+use Rattle.refutation_terms.specs.Log.{Log, Passes, NamesOnlyCited, GoalFits, CountsFit, IsAllowed}
 use Rattle.refutation_terms.specs.Leaves.{LeafFits}
 use Rattle.refutation_terms.proofs.SameDomains.{turned_round, same_holds}
 use Rattle.domain_store.specs.Store.{Store, has_domain}
@@ -23,14 +24,15 @@ use Rattle.refutation_log.specs.declared.found.Found.{Found}
 use Rattle.refutation_log.specs.declared.found.Found.TheVariants.{Roster, NoRoster, Undecided}
 use Rattle.refutation_log.specs.declared.best_found.BestFound.{BestFound}
 use Rattle.refutation_log.specs.declared.best_found.BestFound.TheVariants as Bests
-use Rattle.refutation_log.specs.Planned.{IsBlocksTree, NoPlainLeafHolds, IsCountingLog, IsCountedLog, IsCounted}
+use Rattle.refutation_log.specs.Planned.{IsPlain, IsBlocksTree, NoPlainLeafHolds, IsCountingLog, IsCountedLog, IsCounted}
 use Rattle.refutation_log.specs.Bests.{IsBestCounted}
 use Rattle.refutation_log.specs.OneLeaf.{ClosesAll}
 use Rattle.propagators.specs.Days.{IsDaySpent}
+use Rattle.roster_search.proofs.Logs.{fits_either}
 use Rattle.roster_search.proofs.Reaching.{unweighed_leaf}
-use Rattle.roster_search.specs.Founds.{IsFound}
+use Rattle.roster_search.specs.Founds.{IsFound, gives_cells}
 use Rattle.roster_planner.specs.CaseReasons.{AreCaseReasons, ArePlain}
-use Rattle.roster_planner.specs.Counted.{IsCountedProof, IsPlainLeaf, IsPlainLook}
+use Rattle.roster_planner.specs.Counted.{IsCountedProof, IsPlainProof, IsPlainLeaf, IsPlainLook}
 use Rattle.roster_planner.proofs.Unweighed.{plain_unweighed}
 
 -- a look at windows and days
@@ -72,18 +74,18 @@ leaf_at_start P S o (Some leaf) some same h = same_plain P (has_domain S) (openi
 -- logs
 
 -- the tree of a log of such a leaf is no leaf of blocks
-not_blocks : (P : Instance) (D : Domains) (leaf : Leaf) (x : Symbol) → leaf ≡ Blocks x → IsPlainLeaf P D leaf → ⊥
-not_blocks P D leaf x is h = let plain : IsPlainLeaf P D (Blocks x) = subst (IsPlainLeaf P D) is h in absurd plain.1
+not_blocks : (leaf : Leaf) (x : Symbol) → leaf ≡ Blocks x → IsPlain (Closing leaf) → ⊥
+not_blocks leaf x is h = absurd (subst (λ (l : Leaf). IsPlain (Closing l)) is h)
 
 only_one : (a b : Leaf) → Closing a ∷ [] ≡ Closing b ∷ [] → a ≡ b
 only_one a b e = cc e
 
-pub plain_counts : (P : Instance) (D : Domains) (leaf : Leaf) (g : Log) → g.counts ≡ false → g.lines ≡ Closing leaf ∷ [] → IsPlainLeaf P D leaf → IsCountingLog P g
-plain_counts P D leaf g none lines plain =
-    let no_tree : IsBlocksTree P g → ⊥ = λ h. not_blocks P D leaf h.0 (only_one leaf (Blocks h.0) (sym lines ∙ h.2)) plain in
+plain_counts : (P : Instance) (leaf : Leaf) (g : Log) → g.counts ≡ false → g.lines ≡ Closing leaf ∷ [] → IsPlain (Closing leaf) → IsCountingLog P g
+plain_counts P leaf g none lines plain =
+    let no_tree : IsBlocksTree P g → ⊥ = λ h. not_blocks leaf h.0 (only_one leaf (Blocks h.0) (sym lines ∙ h.2)) plain in
     record {
       may_count = (λ counts. let no : IsTrue false = subst IsTrue none counts in absurd (cc no), λ h. absurd (no_tree h));
-      counted_first = inr (inr (Closing leaf, plain.1, lines));
+      counted_first = inr (inr (Closing leaf, plain, lines));
     }
 
 pub blocks_count : (P : Instance) (o : Opening) (x : Symbol) (g : Log) → g.opening ≡ o → g.counts ≡ true → g.lines ≡ Closing (Blocks x) ∷ [] → IsFirstBlocks P x → NoPlainLeafHolds P (opening P o) → IsCountingLog P g
@@ -93,8 +95,8 @@ blocks_count P o x g opened counts lines first none = record {
 }
 
 -- such a leaf fits every log, and closes all cases where it holds before the first line
-pub plain_fits : (P : Instance) (o : Opening) (goal : Option ℕ) (leaf : Leaf) → IsPlainLeaf P (opening P o) leaf → LeafFits P goal false leaf
-plain_fits P o goal leaf h = (unweighed_leaf P goal (opening P o) (Closing leaf) h.0 (plain_unweighed (Closing leaf) h.1)).fits
+pub plain_fits : (P : Instance) (o : Opening) (goal : Option ℕ) (counts : Bool) (leaf : Leaf) → IsPlainLeaf P (opening P o) leaf → LeafFits P goal counts leaf
+plain_fits P o goal counts leaf h = fits_either P goal counts (Closing leaf) (unweighed_leaf P goal (opening P o) (Closing leaf) h.0 (plain_unweighed (Closing leaf) h.1)).fits
 
 pub plain_closes : (P : Instance) (o : Opening) (goal : Option ℕ) (leaf : Leaf) → GoalFits P o goal → IsAllowed P o → IsPlainLeaf P (opening P o) leaf → ClosesAll P o goal leaf
 plain_closes P o goal leaf fits allowed h =
@@ -106,16 +108,32 @@ pub blocks_close : (P : Instance) (o : Opening) (goal : Option ℕ) (x : Symbol)
 blocks_close P o goal x fits allowed first = record { goal_fits = fits; allowed = allowed; short = tt; holds = first.holds }
 
 -- the logs that are made of them
-pub plain_proof : (P : Instance) (o : Opening) (goal : Option ℕ) (leaf : Leaf) (r : Result Log AllocError) → IsPlainLeaf P (opening P o) leaf → IfOk r (λ g. g.opening ≡ o) → IfOk r (λ g. g.goal ≡ goal) → IfOk r (λ g. g.counts ≡ false) → IfOk r (λ g. g.lines ≡ Closing leaf ∷ []) → IfOk r (NamesOnlyCited P) → IfOk r (Passes P) → IfOk r (IsCountedProof P o goal)
-plain_proof P o goal leaf (Ok g) plain opened same none lines cited passes = record {
+pub plain_proof : (P : Instance) (o : Opening) (goal : Option ℕ) (leaf : Leaf) (r : Result Log AllocError) → IsPlain (Closing leaf) → IfOk r (λ g. g.opening ≡ o) → IfOk r (λ g. g.goal ≡ goal) → IfOk r (λ g. g.counts ≡ gives_cells o) → IfOk r (λ g. g.lines ≡ Closing leaf ∷ []) → IfOk r (NamesOnlyCited P) → IfOk r (Passes P) → IfOk r (IsPlainProof P o goal)
+plain_proof P o goal leaf (Ok g) plain opened same counts lines cited passes = record {
   passes = passes;
-  same_opening = opened;
-  same_goal = same;
-  cited = cited;
-  one_leaf = (leaf, lines);
-  counted = plain_counts P (opening P o) leaf g none lines plain;
+  is_log = record { same_opening = opened; same_goal = same; may_count = counts; cited = cited };
+  leaf = leaf;
+  plain = plain;
+  lines = lines;
 }
-plain_proof P o goal leaf (Err e) plain opened same none lines cited passes = tt
+plain_proof P o goal leaf (Err e) plain opened same counts lines cited passes = tt
+
+-- an opening with which a log may count or not gives no cells
+pub gives_none : (o : Opening) → ((counts : Bool) → CountsFit o counts) → gives_cells o ≡ false
+gives_none Full either = refl
+gives_none (Turned t) either = refl
+gives_none (Given given) either = let no : false ≡ true = either false in absurd (cc no)
+
+pub plain_counted : (P : Instance) (o : Opening) (goal : Option ℕ) (r : Result Log AllocError) → ((counts : Bool) → CountsFit o counts) → IfOk r (IsPlainProof P o goal) → IfOk r (IsCountedProof P o goal)
+plain_counted P o goal (Ok g) either h = record {
+  passes = h.passes;
+  same_opening = h.is_log.same_opening;
+  same_goal = h.is_log.same_goal;
+  cited = h.is_log.cited;
+  one_leaf = (h.leaf, h.lines);
+  counted = plain_counts P h.leaf g (h.is_log.may_count ∙ gives_none o either) h.lines h.plain;
+}
+plain_counted P o goal (Err e) either h = tt
 
 pub blocks_proof : (P : Instance) (o : Opening) (goal : Option ℕ) (x : Symbol) (r : Result Log AllocError) → IsFirstBlocks P x → NoPlainLeafHolds P (opening P o) → IfOk r (λ g. g.opening ≡ o) → IfOk r (λ g. g.goal ≡ goal) → IfOk r (λ g. g.counts ≡ true) → IfOk r (λ g. g.lines ≡ Closing (Blocks x) ∷ []) → IfOk r (NamesOnlyCited P) → IfOk r (Passes P) → IfOk r (IsCountedProof P o goal)
 blocks_proof P o goal x (Ok g) first none opened same counts lines cited passes = record {
@@ -128,15 +146,12 @@ blocks_proof P o goal x (Ok g) first none opened same counts lines cited passes 
 }
 blocks_proof P o goal x (Err e) first none opened same counts lines cited passes = tt
 
--- the logs of a search may not count
-uncounted : (P : Instance) (start : Opening) (goal : Option ℕ) (budget : ℕ) (leaves : Store → Line → Type 0) (spent : Store → ℕ → Symbol → Type 0) (found : Found) → IsFound P start goal budget leaves spent found → IsCounted P false found
-uncounted P start goal budget leaves spent (Roster s) h = tt
-uncounted P start goal budget leaves spent (NoRoster g) h = h.2.is_log.no_blocks
-uncounted P start goal budget leaves spent (Undecided g) h = h.1.is_log.no_blocks
-
-pub if_uncounted : (P : Instance) (start : Opening) (goal : Option ℕ) (budget : ℕ) (leaves : Store → Line → Type 0) (spent : Store → ℕ → Symbol → Type 0) (r : Result Found AllocError) → AreCaseReasons P leaves spent → IfOk r (IsFound P start goal budget leaves spent) → IfOk r (IsCounted P false)
-if_uncounted P start goal budget leaves spent (Ok found) reasons h = uncounted P start goal budget leaves spent found h
-if_uncounted P start goal budget leaves spent (Err e) reasons h = tt
+-- the logs of a search that begins with full domains may not count
+pub if_uncounted : (P : Instance) (goal : Option ℕ) (budget : ℕ) (leaves : Store → Line → Type 0) (spent : Store → ℕ → Symbol → Type 0) (r : Result Found AllocError) → AreCaseReasons P leaves spent → IfOk r (IsFound P Full goal budget leaves spent) → IfOk r (IsCounted P false)
+if_uncounted P goal budget leaves spent (Ok (Roster s)) reasons h = tt
+if_uncounted P goal budget leaves spent (Ok (NoRoster g)) reasons h = h.2.is_log.may_count
+if_uncounted P goal budget leaves spent (Ok (Undecided g)) reasons h = h.1.is_log.may_count
+if_uncounted P goal budget leaves spent (Err e) reasons h = tt
 
 -- where no leaf of blocks holds, a log that may not count is as one of a search that counts
 search_counts : (P : Instance) (counts : Bool) (g : Log) → (IsTrue counts → NoBlocksHold P) → g.counts ≡ false → IsCountedLog P counts g

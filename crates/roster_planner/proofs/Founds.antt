@@ -47,7 +47,7 @@ free_sharp P goal leaves spent g limits fails reasons h =
     }
 
 pub found_with : (P : Instance) (goal budget : ℕ) (leaves : Leaves) (spent : Spent) (found : Found) → KeepsLimits P → FailsFreeAtTop P goal → AreCaseReasons P leaves spent → IsFound P Full (Some goal) budget leaves spent found → IsFoundWith P budget goal found
-found_with P goal budget leaves spent (Roster s) limits fails reasons h = ((h.0, h.1), h.2)
+found_with P goal budget leaves spent (Roster s) limits fails reasons h = ((h.0.0, h.0.1), h.0.2)
 found_with P goal budget leaves spent (NoRoster g) limits fails reasons h = (h.0, h.2.is_log.same_goal, h.1, free_sharp P goal leaves spent g limits fails reasons h.2)
 found_with P goal budget leaves spent (Undecided g) limits fails reasons h = (h.0, h.1.is_log.same_goal, free_sharp P goal leaves spent g limits fails reasons h.1)
 

@@ -4,6 +4,8 @@ mod Unweighed
 mod ShortLists
 mod OneLeaves
 mod Counting
+mod CountedFills
+mod Plans
 pub mod TopProofs
 pub mod Founds
 mod OtherWeeks

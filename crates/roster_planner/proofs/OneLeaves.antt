@@ -9,12 +9,16 @@ use Rattle.refutation_terms.specs.declared.lines.Line.TheVariants.{Split, Closin
 use Rattle.refutation_terms.specs.declared.lines.Leaf.{Leaf}
 use Rattle.refutation_terms.specs.declared.lines.Opening.{Opening}
 use Rattle.refutation_terms.specs.Log.{Log, Passes, NamesOnlyCited, is_worked, size}
+use Rattle.refutation_terms.specs.declared.lines.LogKind.TheVariants.{WithoutGoal}
 use Rattle.refutation_terms.specs.Sharp.{IsFirstTurn, IsSharp, IsUnclosed}
+use Rattle.refutation_terms.specs.Verdict.{kind_by}
 use Rattle.refutation_log.specs.declared.found.Found.TheVariants.{NoRoster}
 use Rattle.refutation_log.specs.Planned.{IsPlanned}
 use Rattle.refutation_log.specs.FreeSharp.{IsFreeSharp}
 use Rattle.refutation_log.specs.Bests.{IsFreeProof}
-use Rattle.roster_planner.specs.Counted.{IsOneLeaf, IsCountedProof}
+use Rattle.roster_planner.specs.Counted.{IsOneLeaf, IsCountedProof, IsPlainProof}
+use Rattle.roster_planner.specs.FoundFrom.{IsFoundFrom}
+use Rattle.roster_planner.proofs.Plans.{kind_of_plan}
 use Rattle.roster_planner.proofs.ShortLists.{some_short_rules}
 
 only_line : (leaf : Leaf) (k : ℕ) (line : Line) → slice_get (Closing leaf ∷ []) k ≡ Some line → Closing leaf ≡ line
@@ -66,14 +70,20 @@ pub if_one_proof : (P : Instance) (budget goal : ℕ) (leaf : Leaf) (r : Result 
 if_one_proof P budget goal leaf (Ok g) some lines passes same cited = one_proof P budget goal g some (leaf, lines) passes same cited
 if_one_proof P budget goal leaf (Err e) some lines passes same cited = tt
 
+-- one of a search is what a plan finds from its opening
+pub found_at_once : (P : Instance) (start : Opening) (budget : ℕ) (g : Log) → 1 ≤ budget → IsFirstTurn P start → IsPlainProof P start None g → IsFoundFrom P start budget (NoRoster g)
+found_at_once P start budget g some first h =
+    let few = one_line g (h.leaf, h.lines) in
+    (h.passes, omega (arith, few, some), h.is_log, one_is_sharp P g (h.leaf, h.lines) (subst (IsFirstTurn P) (sym h.is_log.same_opening) first))
+
 -- and one with the first turn is a plan
-pub one_plan : (P : Instance) (budget : ℕ) (o : Opening) (g : Log) → 1 ≤ budget → IsFirstTurn P o → IsCountedProof P o None g → IsPlanned P budget (NoRoster g)
-one_plan P budget o g some first h =
+pub one_plan : (P : Instance) (budget : ℕ) (o : Opening) (g : Log) → 1 ≤ budget → IsFirstTurn P o → kind_by o None ≡ WithoutGoal → IsCountedProof P o None g → IsPlanned P budget (NoRoster g)
+one_plan P budget o g some first plain h =
     let few = one_line g h.one_leaf in (
       h.passes,
       omega (arith, few, some),
       record {
-        no_goal = h.same_goal;
+        of_kind = kind_of_plan o g plain h.same_opening h.same_goal;
         cited = h.cited;
         sharp = one_is_sharp P g h.one_leaf (subst (IsFirstTurn P) (sym h.same_opening) first);
       },

@@ -45,7 +45,6 @@ pub if_found_by : {A : Type 0} (P : Instance) (start : Opening) (goal : Option �
 if_found_by P start goal budget served lines symbols v w (Ok found) same h = found_by P start goal budget served lines symbols v w found same h
 if_found_by P start goal budget served lines symbols v w (Err e) same h = tt
 
-pub if_some_found_by : {A : Type 0} (P : Instance) (start : Opening) (goal : Option ℕ) (budget : ℕ) (served : A → Instance → Type 0) (lines : A → Leaves) (symbols : A → Spent) (v w : A) (r : Result (Option Found) AllocError) → IsSame served lines symbols v w → IfOk r (λ found. IfSome found (IsFound P start goal budget (lines w) (symbols w))) → IfOk r (λ found. IfSome found (IsFound P start goal budget (lines v) (symbols v)))
-if_some_found_by P start goal budget served lines symbols v w (Ok (Some found)) same h = found_by P start goal budget served lines symbols v w found same h
-if_some_found_by P start goal budget served lines symbols v w (Ok None) same h = tt
-if_some_found_by P start goal budget served lines symbols v w (Err e) same h = tt
+pub some_found_by : {A : Type 0} (P : Instance) (start : Opening) (goal : Option ℕ) (budget : ℕ) (served : A → Instance → Type 0) (lines : A → Leaves) (symbols : A → Spent) (v w : A) (found : Option Found) → IsSame served lines symbols v w → IfSome found (IsFound P start goal budget (lines w) (symbols w)) → IfSome found (IsFound P start goal budget (lines v) (symbols v))
+some_found_by P start goal budget served lines symbols v w (Some found) same h = found_by P start goal budget served lines symbols v w found same h
+some_found_by P start goal budget served lines symbols v w None same h = tt

@@ -12,6 +12,7 @@ use Rattle.domain_store.specs.Leaves.{IsHoldingLeaf}
 use Rattle.domain_store.specs.declared.look.Look.{Look}
 use Rattle.domain_store.specs.declared.look.Look.TheVariants.{Closed}
 use Rattle.refutation_log.specs.Planned.{IsCountedLog, IsPlain, NoPlainLeafHolds}
+use Rattle.roster_search.specs.Founds.{IsLogOf}
 
 -- the tree of the log is one leaf
 abbrev pub IsOneLeaf : Log → Type 0
@@ -26,6 +27,14 @@ pub record IsCountedProof (P : Instance) (o : Opening) (goal : Option ℕ) (g : 
   pub cited : NamesOnlyCited P g
   pub one_leaf : IsOneLeaf g
   pub counted : IsCountedLog P true g
+
+-- a log of a search, from this opening, for this goal or none, that passes and whose tree is a window leaf or a day leaf
+pub record IsPlainProof (P : Instance) (start : Opening) (goal : Option ℕ) (g : Log) : Type 0 where
+  pub passes : Passes P g
+  pub is_log : IsLogOf P start goal g
+  pub leaf : Leaf
+  pub plain : IsPlain (Closing leaf)
+  pub lines : g.lines ≡ Closing leaf ∷ []
 
 -- a window leaf or a day leaf that holds
 abbrev pub IsPlainLeaf : Instance → Domains → Leaf → Type 0

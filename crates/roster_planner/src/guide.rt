@@ -2,14 +2,16 @@
 ghost use Rattle.std.specs.Prelude.{◌≡◌, ◌↔◌, ℕ, Option, IfOk};
 ghost use Rattle.std.specs.Option.{IfSome};
 ghost use Rattle.refutation_terms.specs.declared.lines.Opening.TheVariants.{Full};
-ghost use Rattle.refutation_terms.specs.Log.{GoalFits};
+ghost use Rattle.refutation_terms.specs.Log.{GoalFits, OpeningFits};
 ghost use Rattle.domain_store.specs.Cycles.{AreShortRules};
-ghost use Rattle.roster_search.specs.Guides.{IsLeafGiven, IsSplitIn, IsWantedRoster};
+ghost use Rattle.roster_search.specs.Guides.{IsLeafGiven, IsSplitIn, IsWantedBehind};
 ghost use Rattle.rwsp_terms.specs.Instance.{Instance};
 ghost use Rattle.domain_store.specs.Store.{BelongsTo};
 ghost use Rattle.roster_planner.specs.OneShift.{HasDaysOf};
+ghost use Rattle.roster_planner.specs.Guided.{IsGuideFor};
 
 use crate::off_weights::OffWeights;
+use crate::rosters::roster_behind;
 use clean_words::Automaton;
 use domain_store::Domains;
 use propagators::NearestWeights;
@@ -25,8 +27,8 @@ use std::mem;
 pub enum Order {
     /// Which days are off, in the order of the days.
     OffByWeeks,
-    /// Which days are off, one day of the week after the other.
-    OffByDays,
+    /// Which days are off, one day of the week after the other, from the one on that is so many days behind the first.
+    OffByDays { later: u32 },
     /// The days in their order, with their shifts.
     Days,
 }
@@ -47,6 +49,8 @@ pub struct PlannerGuide<'a> {
     wish: u32,
     // Whether a leaf was asked for at the top, where words of many turns may be weighed.
     has_begun: bool,
+    // Whether a roster was looked for.
+    has_looked: bool,
     // The position of the turn.
     first: u32,
 }
@@ -59,15 +63,15 @@ impl<'a> PlannerGuide<'a> {
         automaton: &'a Automaton,
         one: &'a Automaton,
         finder: &'a RosterFinder<'a>,
-        aim: Aim,
+        aim: &Aim,
         wish: u32,
     ) -> PlannerGuide<'a>
         requires short { AreShortRules automaton.now.problem automaton.now.rules }
         requires same { finder.now ≡ automaton.now.problem }
-        requires goal { GoalFits automaton.now.problem Full aim.goal }
+        requires goal { GoalFits automaton.now.problem Full aim.now.goal }
         requires one_short { AreShortRules one.now.problem one.now.rules }
         requires days { HasDaysOf one.now.problem automaton.now.problem }
-        ensures { ⟦<PlannerGuide<'a> as Guide>⟧.serves result automaton.now.problem aim.goal }
+        ensures { ⟦<PlannerGuide<'a> as Guide>⟧.serves result automaton.now.problem aim.now.goal }
     {
         PlannerGuide {
             automaton,
@@ -78,7 +82,8 @@ impl<'a> PlannerGuide<'a> {
             goal: aim.goal,
             wish,
             has_begun: false,
-            first: position_of(aim.opening),
+            has_looked: false,
+            first: position_of(&aim.opening),
         }
     }
 
@@ -129,17 +134,14 @@ impl<'a> PlannerGuide<'a> {
     {
         match self.order {
             Order::OffByWeeks => off_or_work_from(doms, 0),
-            Order::OffByDays => off_or_work_by_day(self.automaton.problem(), doms),
+            Order::OffByDays { later } => off_or_work_by_day(self.automaton.problem(), doms, later),
             Order::Days => None,
         }
     }
 }
 
 impl<'a> Guide for PlannerGuide<'a> {
-    ghost serves = { λ g P goal. (g.automaton.now.problem ≡ P) × (g.finder.now ≡ P) × (g.weights.problem ≡ P)
-        × HasDaysOf g.off_weights.one.now.problem P × (g.off_weights.weights.problem ≡ g.off_weights.one.now.problem)
-        × AreShortRules g.automaton.now.problem g.automaton.now.rules
-        × (goal ≡ g.goal) × GoalFits P Full goal };
+    ghost serves = { IsGuideFor };
 
     fn leaf(&mut self, alloc: Global, doms: &Domains) -> Result<Option<Line>, AllocError> {
         if mem::replace(&mut self.has_begun, true) {
@@ -149,16 +151,13 @@ impl<'a> Guide for PlannerGuide<'a> {
         }
     }
 
-    fn roster(&mut self, alloc: Global, _doms: &Domains) -> Result<Option<Roster>, AllocError> {
-        match (self.order, self.goal) {
-            (Order::Days, _) | (_, Some(_)) => found_roster(
-                alloc,
-                self.finder,
-                self.goal,
-                self.wish,
-            ),
-            _ => Ok(None),
+    fn roster(&mut self, alloc: Global, opening: &Opening) -> Result<Option<Roster>, AllocError> {
+        // Without a goal a roster was already looked for, so that short searches come before one with more patience.
+        let is_due = self.goal.is_some() || matches!(self.order, Order::Days);
+        if !is_due || mem::replace(&mut self.has_looked, true) {
+            return Ok(None);
         }
+        found_roster(alloc, self.finder, opening, self.goal, self.wish)
     }
 
     fn split(&mut self, doms: &Domains) -> Option<NextSplit> {
@@ -170,18 +169,21 @@ impl<'a> Guide for PlannerGuide<'a> {
     }
 }
 
-// A roster with as many free weekends as the goal, where one is found; first one with as many as are wished for.
+// A roster that holds the given cells; or one with as many free weekends as the goal, where one is found, and first one
+// with as many as are wished for.
 fn found_roster(
     alloc: Global,
     finder: &RosterFinder<'_>,
+    opening: &Opening,
     goal: Option<u32>,
     wish: u32,
 ) -> Result<Option<Roster>, AllocError>
-    requires { GoalFits finder.now Full goal }
-    ensures { IfOk result (λ found. IfSome found (IsWantedRoster finder.now goal)) }
+    requires opening { OpeningFits finder.now opening.now }
+    requires goal { GoalFits finder.now opening.now goal }
+    ensures { IfOk result (λ found. IfSome found (IsWantedBehind finder.now opening.now goal)) }
 {
     let Some(least) = goal else {
-        return finder.find(alloc, 0, Patience::Long);
+        return roster_behind(alloc, finder, opening, Patience::Long);
     };
     if least < wish {
         let found = finder.find(alloc, wish, Patience::Long)?;
@@ -193,9 +195,9 @@ fn found_roster(
 }
 
 // The position of the turn, 0 where there is none.
-fn position_of(opening: Opening) -> u32 {
+fn position_of(opening: &Opening) -> u32 {
     match opening {
         Opening::Turned(turn) => turn.day.saturating_sub(1),
-        Opening::Full => 0,
+        Opening::Full | Opening::Given(_) => 0,
     }
 }

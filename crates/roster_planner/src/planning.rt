@@ -1,19 +1,23 @@
 // A roster for a problem, or a refutation.
-ghost use Rattle.std.specs.Prelude.{◌≡◌, ◌+◌, ◌≤◌, false, None, IfOk, IsTrue};
+ghost use Rattle.std.specs.Prelude.{◌≡◌, ◌+◌, ◌≤◌, None, IfOk, IsTrue};
 ghost use Rattle.std.specs.Option.{IfSome};
 ghost use Rattle.rwsp_terms.specs.Instance.{shift_count};
 ghost use Rattle.refutation_terms.specs.BlocksLeaf.{NoBlocksHold};
+ghost use Rattle.refutation_terms.specs.Log.{OpeningFits, IsAllowed};
+ghost use Rattle.refutation_terms.specs.Sharp.{IsFirstTurn};
 ghost use Rattle.domain_store.specs.Cycles.{AreShortRules};
 ghost use Rattle.refutation_log.specs.Planned.{IsCounted, IsPlanned};
+ghost use Rattle.roster_planner.specs.FoundFrom.{IsFoundFrom};
 
-use crate::counted::counted_log;
+use crate::Effort;
+use crate::cases::search_cases;
+use crate::counted::{counted_log, log_at_once};
 use crate::effort::FEW_LINES;
-use crate::reasons::reasons_of;
-use crate::{Effort, planner_search};
+use crate::rosters::roster_behind;
 use clean_words::{Automaton, Gate, Told};
 use refutation_log::{Found, first_turn};
+use refutation_terms::Opening;
 use roster_finder::{Patience, RosterFinder, SteadyLayer};
-use roster_search::Aim;
 use rwsp_model::Problem;
 use rwsp_terms::limits::GREATEST_BUDGET;
 use std::alloc::{AllocError, Global};
@@ -59,7 +63,7 @@ pub fn plan_refutable<R: Threads + Sync, G: Gate>(
 
 // What a plan looks for before anything else.
 #[derive(Clone, Copy)]
-enum First {
+pub(crate) enum First {
     Rosters,
     Reasons,
 }
@@ -79,7 +83,10 @@ fn plan_by<R: Threads + Sync, G: Gate>(
 {
     match counted_plan(alloc, problem, effort)? {
         Some(found) => Ok(found),
-        None => search_plan(rt, alloc, problem, effort.budget, gate, first),
+        None => {
+            let opening = first_turn(problem);
+            search_plan(rt, alloc, problem, &opening, effort.budget, gate, first)
+        }
     }
 }
 
@@ -101,7 +108,10 @@ pub(crate) fn plan_over<R: Threads + Sync, G: Gate>(
 {
     match counted_plan(alloc, automaton.problem(), effort)? {
         Some(found) => Ok(found),
-        None => rosters_first(rt, alloc, automaton, layer, effort.budget, gate),
+        None => {
+            let opening = first_turn(automaton.problem());
+            rosters_first(rt, alloc, automaton, layer, &opening, effort.budget, gate)
+        }
     }
 }
 
@@ -125,21 +135,26 @@ fn counted_plan(
     }
 }
 
-// What a search finds that begins so, and whose logs may not count blocks.
-fn search_plan<R: Threads + Sync, G: Gate>(
+// What a search from this opening finds that begins so, where no leaf of windows or days closes all cases at once.
+pub(crate) fn search_plan<R: Threads + Sync, G: Gate>(
     rt: &R,
     alloc: Global,
     problem: &Problem,
+    opening: &Opening,
     budget: u32,
     gate: &G,
     first: First,
 ) -> Result<Found, AllocError>
-    requires { (1 ≤ budget) × (budget ≤ GREATEST_BUDGET) }
-    ensures planned { IfOk result (IsPlanned problem.now budget) }
-    ensures counted { IfOk result (IsCounted problem.now false) }
+    requires opening { let P = problem.now in
+        OpeningFits P opening.now × IsAllowed P opening.now × IsFirstTurn P opening.now }
+    requires budget { (1 ≤ budget) × (budget ≤ GREATEST_BUDGET) }
+    ensures { IfOk result (IsFoundFrom problem.now opening.now budget) }
 {
+    if let Some(log) = log_at_once(alloc, problem, opening)? {
+        return Ok(Found::NoRoster(log));
+    }
     let automaton = Automaton::of_short_rules(alloc, problem, Told::DayOff)?;
-    let found = search_by(rt, alloc, &automaton, budget, gate, first);
+    let found = search_by(rt, alloc, &automaton, opening, budget, gate, first);
     // An owned value that a generic call takes is dropped there, which keeps the proof of this body small.
     drop(automaton);
     found
@@ -150,19 +165,21 @@ fn search_by<R: Threads + Sync, G: Gate>(
     rt: &R,
     alloc: Global,
     automaton: &Automaton,
+    opening: &Opening,
     budget: u32,
     gate: &G,
     first: First,
 ) -> Result<Found, AllocError>
     requires short { AreShortRules automaton.now.problem automaton.now.rules }
+    requires opening { let P = automaton.now.problem in
+        OpeningFits P opening.now × IsAllowed P opening.now × IsFirstTurn P opening.now }
     requires budget { (1 ≤ budget) × (budget ≤ GREATEST_BUDGET) }
-    ensures planned { IfOk result (IsPlanned automaton.now.problem budget) }
-    ensures counted { IfOk result (IsCounted automaton.now.problem false) }
+    ensures { IfOk result (IsFoundFrom automaton.now.problem opening.now budget) }
 {
     let layer = SteadyLayer::of(alloc, automaton.problem())?;
     let found = match first {
-        First::Rosters => rosters_first(rt, alloc, automaton, &layer, budget, gate),
-        First::Reasons => reasons_first(rt, alloc, automaton, &layer, budget, gate),
+        First::Rosters => rosters_first(rt, alloc, automaton, &layer, opening, budget, gate),
+        First::Reasons => reasons_first(rt, alloc, automaton, &layer, opening, budget, gate),
     };
     drop(layer);
     found
@@ -174,20 +191,22 @@ fn rosters_first<R: Threads + Sync, G: Gate>(
     alloc: Global,
     automaton: &Automaton,
     layer: &SteadyLayer,
+    opening: &Opening,
     budget: u32,
     gate: &G,
 ) -> Result<Found, AllocError>
     requires short { AreShortRules automaton.now.problem automaton.now.rules }
     requires symbols { layer.now.symbols ≡ shift_count automaton.now.problem + 1 }
+    requires opening { let P = automaton.now.problem in
+        OpeningFits P opening.now × IsAllowed P opening.now × IsFirstTurn P opening.now }
     requires budget { (1 ≤ budget) × (budget ≤ GREATEST_BUDGET) }
-    ensures planned { IfOk result (IsPlanned automaton.now.problem budget) }
-    ensures counted { IfOk result (IsCounted automaton.now.problem false) }
+    ensures { IfOk result (IsFoundFrom automaton.now.problem opening.now budget) }
 {
     let finder = RosterFinder::over(automaton.problem(), layer, Patience::Long);
-    if let Some(roster) = finder.find(alloc, 0, Patience::Short)? {
+    if let Some(roster) = roster_behind(alloc, &finder, opening, Patience::Short)? {
         return Ok(Found::Roster(roster));
     }
-    plan_cases(rt, alloc, automaton, &finder, budget, gate)
+    search_cases(rt, alloc, automaton, &finder, opening, budget, gate)
 }
 
 // What a search finds that looks for rosters for a shorter time. Where it has spent its budget, and this isn't that of a
@@ -197,14 +216,16 @@ fn reasons_first<R: Threads + Sync, G: Gate>(
     alloc: Global,
     automaton: &Automaton,
     layer: &SteadyLayer,
+    opening: &Opening,
     budget: u32,
     gate: &G,
 ) -> Result<Found, AllocError>
     requires short { AreShortRules automaton.now.problem automaton.now.rules }
     requires symbols { layer.now.symbols ≡ shift_count automaton.now.problem + 1 }
+    requires opening { let P = automaton.now.problem in
+        OpeningFits P opening.now × IsAllowed P opening.now × IsFirstTurn P opening.now }
     requires budget { (1 ≤ budget) × (budget ≤ GREATEST_BUDGET) }
-    ensures planned { IfOk result (IsPlanned automaton.now.problem budget) }
-    ensures counted { IfOk result (IsCounted automaton.now.problem false) }
+    ensures { IfOk result (IsFoundFrom automaton.now.problem opening.now budget) }
 {
     let most = if budget > FEW_LINES {
         Patience::Middle
@@ -212,9 +233,9 @@ fn reasons_first<R: Threads + Sync, G: Gate>(
         Patience::Short
     };
     let finder = RosterFinder::over(automaton.problem(), layer, most);
-    let found = plan_cases(rt, alloc, automaton, &finder, budget, gate)?;
+    let found = search_cases(rt, alloc, automaton, &finder, opening, budget, gate)?;
     if budget > FEW_LINES && is_undecided(&found) {
-        or_patiently(alloc, automaton.problem(), layer, budget, found)
+        or_patiently(alloc, automaton.problem(), layer, opening, budget, found)
     } else {
         Ok(found)
     }
@@ -230,17 +251,17 @@ fn or_patiently(
     alloc: Global,
     problem: &Problem,
     layer: &SteadyLayer,
+    opening: &Opening,
     budget: u32,
     found: Found,
 ) -> Result<Found, AllocError>
     requires symbols { layer.now.symbols ≡ shift_count problem.now + 1 }
-    requires planned { IsPlanned problem.now budget found }
-    requires counted { IsCounted problem.now false found }
-    ensures planned { IfOk result (IsPlanned problem.now budget) }
-    ensures counted { IfOk result (IsCounted problem.now false) }
+    requires opening { OpeningFits problem.now opening.now }
+    requires found { IsFoundFrom problem.now opening.now budget found }
+    ensures { IfOk result (IsFoundFrom problem.now opening.now budget) }
 {
     let finder = RosterFinder::over(problem, layer, Patience::Long);
-    match finder.find(alloc, 0, Patience::Long) {
+    match roster_behind(alloc, &finder, opening, Patience::Long) {
         Ok(None) => Ok(found),
         Ok(Some(roster)) => {
             drop(found);
@@ -251,33 +272,4 @@ fn or_patiently(
             Err(error)
         }
     }
-}
-
-// What a search finds that distinguishes cases, by reasons for the turn with which it begins.
-fn plan_cases<R: Threads + Sync, G: Gate>(
-    rt: &R,
-    alloc: Global,
-    automaton: &Automaton,
-    finder: &RosterFinder<'_>,
-    budget: u32,
-    gate: &G,
-) -> Result<Found, AllocError>
-    requires short { AreShortRules automaton.now.problem automaton.now.rules }
-    requires same { finder.now ≡ automaton.now.problem }
-    requires budget { (1 ≤ budget) × (budget ≤ GREATEST_BUDGET) }
-    ensures planned { IfOk result (IsPlanned automaton.now.problem budget) }
-    ensures counted { IfOk result (IsCounted automaton.now.problem false) }
-{
-    let problem = automaton.problem();
-    problem.prove_limits();
-    let opening = first_turn(problem);
-    let mut reasons = reasons_of(rt, alloc, automaton, opening, gate)?;
-    let aim = Aim {
-        opening,
-        goal: None,
-        budget,
-    };
-    let found = planner_search(alloc, automaton, finder, aim, 0, &mut reasons);
-    drop(reasons);
-    found
 }

@@ -23,13 +23,13 @@ pub fn reasons_of<'a, R: Threads + Sync, G: Gate>(
     rt: &R,
     alloc: Global,
     automaton: &'a Automaton,
-    opening: Opening,
+    opening: &Opening,
     gate: &G,
 ) -> Result<Reasons<'a>, AllocError>
     requires short { AreShortRules automaton.now.problem automaton.now.rules }
-    requires opening { OpeningFits automaton.now.problem opening }
+    requires opening { OpeningFits automaton.now.problem opening.now }
     ensures serves { IfOk result (λ r. ⟦<Reasons<'a> as Propagator>⟧.serves r automaton.now.problem) }
-    ensures reasons { IfOk result (λ r. AreReasons automaton.now.problem opening
+    ensures reasons { IfOk result (λ r. AreReasons automaton.now.problem opening.now
         (⟦<Reasons<'a> as Propagator>⟧.leaves r) (⟦<Reasons<'a> as Propagator>⟧.spent r)) }
 {
     let problem = automaton.problem();

@@ -44,7 +44,7 @@ pub fn planner_search<A: Propagator>(
         HasSpentBudget found → aim.budget + 1 < 2 * (shift_count P + 1) ^ cells P) }
 {
     let one = one_shift(alloc, automaton.problem())?;
-    let mut guide = PlannerGuide::new(alloc, automaton, &one, finder, aim, wish);
+    let mut guide = PlannerGuide::new(alloc, automaton, &one, finder, &aim, wish);
     let found = search_by_starts(alloc, automaton.problem(), aim, reasons, &mut guide);
     drop(guide);
     drop(one);

@@ -6,7 +6,6 @@ ghost use Rattle.refutation_terms.specs.Log.{OpeningFits, GoalFits, IsAllowed};
 ghost use Rattle.domain_store.specs.Looks.{HasPlainLeaves, IsSame};
 ghost use Rattle.roster_search.specs.Founds.{IsFound, HasSpentBudget};
 ghost use Rattle.roster_search.specs.Guides.{AreUnweighed};
-ghost use Rattle.roster_planner.specs.declared.starts.TheConstants.{START_LINES};
 
 use crate::guide::{Order, PlannerGuide};
 use domain_store::Propagator;
@@ -19,11 +18,14 @@ use std::alloc::{AllocError, Global};
 // The most lines of a start.
 const START_LINES: u32 = 3_000;
 
+// A start of fewer lines isn't worth its time.
+const FEWEST_LINES: u32 = 500;
+
 // Rosters with more cells have no starts, since weights are looked for within no tree of theirs.
 const MOST_CELLS: u32 = 700;
 
 // What a search finds that begins with short ones (restarts, C. Gomes, B. Selman and H. Kautz, 1998): which days are off
-// is decided before anything else, week by week and then day by day. Where none of them decides, the last one is long.
+// is decided before anything else. The first that decides gives the answer; where none does, the last search is long.
 pub fn search_by_starts<'a, A: Propagator>(
     alloc: Global,
     problem: &Problem,
@@ -43,7 +45,7 @@ pub fn search_by_starts<'a, A: Propagator>(
     ensures complete { IfOk result (λ found.
         HasSpentBudget found → aim.budget + 1 < 2 * (shift_count problem.now + 1) ^ cells problem.now) }
 {
-    match short_searches(alloc, problem, aim, reasons, guide)? {
+    match short_searches(alloc, problem, &aim, reasons, guide)? {
         Some(found) => Ok(found),
         None => {
             guide.take(Order::Days);
@@ -52,53 +54,67 @@ pub fn search_by_starts<'a, A: Propagator>(
     }
 }
 
-// What the short searches find, where there are some and one decides.
+// What the first short search finds that decides, where one does. Together they write no more lines than the long one.
 fn short_searches<'a, A: Propagator>(
     alloc: Global,
     problem: &Problem,
-    aim: Aim,
+    aim: &Aim,
     reasons: &mut A,
     guide: &mut PlannerGuide<'a>,
 ) -> Result<Option<Found>, AllocError>
-    requires opening { OpeningFits problem.now aim.opening × IsAllowed problem.now aim.opening }
-    requires goal { GoalFits problem.now aim.opening aim.goal }
+    requires opening { OpeningFits problem.now aim.now.opening × IsAllowed problem.now aim.now.opening }
+    requires goal { GoalFits problem.now aim.now.opening aim.now.goal }
     requires serves { A.serves reasons.old problem.now }
     requires plain { HasPlainLeaves problem.now (A.leaves reasons.old) }
-    requires unweighed { AreUnweighed aim.goal (A.leaves reasons.old) }
-    requires guide { ⟦<PlannerGuide<'a> as Guide>⟧.serves guide.old problem.now aim.goal }
-    ensures found { IfOk result (λ found. IfSome found (IsFound problem.now aim.opening aim.goal aim.budget
+    requires unweighed { AreUnweighed aim.now.goal (A.leaves reasons.old) }
+    requires guide { ⟦<PlannerGuide<'a> as Guide>⟧.serves guide.old problem.now aim.now.goal }
+    ensures found { IfOk result (λ found. IfSome found (IsFound problem.now aim.now.opening aim.now.goal aim.now.budget
         (A.leaves reasons.old) (A.spent reasons.old))) }
     ensures decided { IfOk result (λ found. IfSome found (λ f. HasSpentBudget f → ⊥)) }
     ensures same { IsSame A.serves A.leaves A.spent reasons.old reasons.new }
     ensures guide { (P : Instance) (goal : Option ℕ) → ⟦<PlannerGuide<'a> as Guide>⟧.serves guide.old P goal
         ↔ ⟦<PlannerGuide<'a> as Guide>⟧.serves guide.new P goal }
 {
-    if problem.cells() > MOST_CELLS || aim.budget <= START_LINES {
+    let lines = START_LINES.min(aim.budget / 2);
+    if problem.cells() > MOST_CELLS || lines < FEWEST_LINES {
         return Ok(None);
     }
-    match start(alloc, problem, aim, reasons, guide, Order::OffByWeeks)? {
-        Some(found) => Ok(Some(found)),
-        None => start(alloc, problem, aim, reasons, guide, Order::OffByDays),
+    let starts = (aim.budget / lines).min(problem.days() + 1);
+    for number in 0..starts {
+        let found = start(alloc, problem, aim, reasons, guide, lines, order_of(number))?;
+        if found.is_some() {
+            return Ok(found);
+        }
+    }
+    Ok(None)
+}
+
+// The order of the start of this number: week by week, and then day by day from each day of the week on.
+fn order_of(number: u32) -> Order {
+    match number {
+        0 => Order::OffByWeeks,
+        _ => Order::OffByDays { later: number - 1 },
     }
 }
 
-// What a short search of this order finds, where it decides.
+// What a search of this order within so many lines finds, where it decides.
 fn start<'a, A: Propagator>(
     alloc: Global,
     problem: &Problem,
-    aim: Aim,
+    aim: &Aim,
     reasons: &mut A,
     guide: &mut PlannerGuide<'a>,
+    lines: u32,
     order: Order,
 ) -> Result<Option<Found>, AllocError>
-    requires budget { START_LINES ≤ aim.budget }
-    requires opening { OpeningFits problem.now aim.opening × IsAllowed problem.now aim.opening }
-    requires goal { GoalFits problem.now aim.opening aim.goal }
+    requires budget { (1 ≤ lines) × (lines ≤ aim.now.budget) × (lines ≤ GREATEST_BUDGET) }
+    requires opening { OpeningFits problem.now aim.now.opening × IsAllowed problem.now aim.now.opening }
+    requires goal { GoalFits problem.now aim.now.opening aim.now.goal }
     requires serves { A.serves reasons.old problem.now }
     requires plain { HasPlainLeaves problem.now (A.leaves reasons.old) }
-    requires unweighed { AreUnweighed aim.goal (A.leaves reasons.old) }
-    requires guide { ⟦<PlannerGuide<'a> as Guide>⟧.serves guide.old problem.now aim.goal }
-    ensures found { IfOk result (λ found. IfSome found (IsFound problem.now aim.opening aim.goal aim.budget
+    requires unweighed { AreUnweighed aim.now.goal (A.leaves reasons.old) }
+    requires guide { ⟦<PlannerGuide<'a> as Guide>⟧.serves guide.old problem.now aim.now.goal }
+    ensures found { IfOk result (λ found. IfSome found (IsFound problem.now aim.now.opening aim.now.goal aim.now.budget
         (A.leaves reasons.old) (A.spent reasons.old))) }
     ensures decided { IfOk result (λ found. IfSome found (λ f. HasSpentBudget f → ⊥)) }
     ensures same { IsSame A.serves A.leaves A.spent reasons.old reasons.new }
@@ -106,12 +122,7 @@ fn start<'a, A: Propagator>(
         ↔ ⟦<PlannerGuide<'a> as Guide>⟧.serves guide.new P goal }
 {
     guide.take(order);
-    let short = Aim {
-        opening: aim.opening,
-        goal: aim.goal,
-        budget: START_LINES,
-    };
-    let found = search(alloc, problem, short, reasons, guide)?;
+    let found = search(alloc, problem, aim.within(lines)?, reasons, guide)?;
     Ok(decided(found))
 }
 

@@ -1,20 +1,15 @@
 -- What is written with one line more.
-use Rattle.std.proofs.Common.{◌≡◌, ◌⊎◌, ℕ, ◌+◌, ◌≤◌, List, [], ◌∷◌, ◌++◌, length, Some, refl, ap, sym, ◌∙◌, subst, arith, length-append, inl, inr, cond, false}
+use Rattle.std.proofs.Common.{◌≡◌, ◌⊎◌, ℕ, ◌+◌, ◌≤◌, List, [], ◌∷◌, ◌++◌, length, Some, refl, ap, sym, subst, arith, length-append, inl, inr}
 use Rattle.std.specs.Prelude.{◌↔◌, Contains}
 use Rattle.rwsp_terms.specs.declared.data.Rule.{Rule}
 use Rattle.rwsp_terms.specs.Instance.{Instance}
 use Rattle.rwsp_terms.specs.Rules.{rule_of, Names}
 use Rattle.refutation_terms.specs.declared.lines.Line.{Line}
-use Rattle.refutation_terms.specs.declared.lines.Line.TheVariants.{Split}
 use Rattle.refutation_terms.specs.declared.lines.Opening.{Opening}
-use Rattle.refutation_terms.specs.Word.{Domains}
-use Rattle.refutation_terms.specs.Tree.{opening, domains_at}
+use Rattle.refutation_terms.specs.Tree.{domains_at}
 use Rattle.refutation_terms.specs.Log.{OpeningFits, GoalFits, OpeningCites, Cites}
 use Rattle.refutation_terms.proofs.TreeDomains.{got_left, got_right}
-use Rattle.domain_store.specs.Store.{Store}
-use Rattle.domain_store.specs.declared.open_split.OpenSplit.{OpenSplit}
-use Rattle.domain_store.specs.Splits.{InSplits, NoLines, HasRead, second_sides_to_come}
-use Rattle.domain_store.specs.States.{State, IsStateOf, open_trees}
+use Rattle.domain_store.specs.States.{IsStateOf, open_trees}
 use Rattle.roster_search.specs.declared.aim.Aim.{Aim}
 use Rattle.roster_search.specs.declared.progress.Progress.{Progress}
 use Rattle.roster_search.specs.Written.{Stands, IsCitedIn, IsProgress}
@@ -45,18 +40,6 @@ pub more_cited : (P : Instance) (start : Opening) (ls : List Line) (line : Line)
 more_cited P start ls line r (inl (inl h)) = inl h
 more_cited P start ls line r (inl (inr h)) = inr (h.0, h.1, got_left ls (line ∷ []) h.0 h.1 h.2, h.3)
 more_cited P start ls line r (inr h) = inr (length ls + 0, line, got_right ls (line ∷ []) 0 line refl, h)
-
-no_splits : (n : ℕ) (S : Store) (D : Domains) (from : ℕ) (splits : List OpenSplit) (lines : List Line) → InSplits NoLines n S D from splits lines → lines ≡ [] → splits ≡ []
-no_splits n S D from [] lines h e = refl
-no_splits n S D from (o ∷ splits) lines h e = let clash : [] ≡ Split o.p o.x ∷ (h.1 ++ h.2) = sym e ∙ h.3 in absurd (cc)
-
--- before the first line one tree is open
-pub one_open : (P : Instance) (start : Opening) (w : State) → w.whole ≡ false → IsStateOf P start [] w → open_trees w ≤ 1
-one_open P start w part h =
-    let read : HasRead false (length w.store.sets) w.store (opening P start) w.splits [] = subst (λ b. HasRead b (length w.store.sets) w.store (opening P start) w.splits []) part h.read in
-    let none : w.splits ≡ [] = no_splits (length w.store.sets) w.store (opening P start) 0 w.splits [] read refl in
-    let e : open_trees w ≡ 1 = ap (λ b. cond b 0 (second_sides_to_come w.splits + 1)) part ∙ ap (λ s. second_sides_to_come s + 1) none in
-    omega arith
 
 pub record IsNext (P : Instance) (a b : Progress) (line : Line) : Type 0 where
   pub aim : b.aim ≡ a.aim

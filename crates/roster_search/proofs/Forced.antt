@@ -2,7 +2,6 @@
 use Rattle.std.proofs.Common.{◌≡◌, ℕ, ◌<◌, ◌≤◌, List, [], ◌∷◌, ◌++◌, length, Option, Some, refl, ap, sym, ◌∙◌, subst, arith, length-append, inl, inr}
 use Rattle.std.specs.Prelude.{replicate, slice_get}
 use Rattle.std.proofs.lemmas.List.{length_push}
-use Rattle.std.proofs.lemmas.Option.{slice_get_within}
 use Rattle.rwsp_terms.specs.declared.data.Symbol.{Symbol}
 use Rattle.rwsp_terms.specs.Instance.{Instance, cells}
 use Rattle.refutation_terms.specs.declared.lines.Line.{Line}
@@ -16,7 +15,7 @@ use Rattle.roster_search.specs.declared.aim.Aim.{Aim}
 use Rattle.roster_search.specs.declared.progress.Progress.{Progress}
 use Rattle.roster_search.specs.Founds.{IsForced, AtEachSplit}
 use Rattle.roster_search.specs.Guides.{IsOpen}
-use Rattle.roster_search.specs.Written.{AtSplitsFrom, IsProgress, IsSplitWithLeaf, IsSplitOff, IsUnderWay, IsOneStep, IsNextStep}
+use Rattle.roster_search.specs.Written.{IsProgress, IsSplitWithLeaf, IsSplitOff, IsUnderWay, IsNextStep}
 use Rattle.roster_search.proofs.Growing.{EachAt, one_more, split_more, got_in, domains_before}
 use Rattle.roster_search.proofs.Logs.{open_rest}
 use Rattle.roster_search.proofs.Reaching.{still_not_few}
@@ -32,35 +31,35 @@ Spent = Store → ℕ → Symbol → Type 0
 abbrev Said : Type 1
 Said = Domains → ℕ → Symbol → Type 0
 
-abbrev OfLine : ℕ → Said → ℕ → Domains → Line → Type 0
-OfLine n Q k D line = (p : ℕ) (x : Symbol) → n ≤ k → line ≡ Split p x → Q D p x
+abbrev OfLine : Said → ℕ → Domains → Line → Type 0
+OfLine Q k D line = (p : ℕ) (x : Symbol) → line ≡ Split p x → Q D p x
 
-each_line : (n : ℕ) (Q : Said) (P : Instance) (start : Opening) (ls : List Line) → AtSplitsFrom n Q P start ls → EachAt (OfLine n Q) P start ls
-each_line n Q P start ls h k line e p x from is = h k p x from (e ∙ ap (λ (l : Line). Some l) is)
+each_line : (Q : Said) (P : Instance) (start : Opening) (ls : List Line) → AtEachSplit Q P start ls → EachAt (OfLine Q) P start ls
+each_line Q P start ls h k line e p x is = h k p x (e ∙ ap (λ (l : Line). Some l) is)
 
-each_split : (n : ℕ) (Q : Said) (P : Instance) (start : Opening) (ls : List Line) → EachAt (OfLine n Q) P start ls → AtSplitsFrom n Q P start ls
-each_split n Q P start ls h k p x from e = h k (Split p x) e p x from refl
+each_split : (Q : Said) (P : Instance) (start : Opening) (ls : List Line) → EachAt (OfLine Q) P start ls → AtEachSplit Q P start ls
+each_split Q P start ls h k p x e = h k (Split p x) e p x refl
 
-of_leaf : (n : ℕ) (Q : Said) (k : ℕ) (D : Domains) (leaf : Line) → IsLeaf leaf → OfLine n Q k D leaf
-of_leaf n Q k D leaf h p x from e = absurd (subst IsLeaf e h)
+of_leaf : (Q : Said) (k : ℕ) (D : Domains) (leaf : Line) → IsLeaf leaf → OfLine Q k D leaf
+of_leaf Q k D leaf h p x e = absurd (subst IsLeaf e h)
 
-of_split : (n : ℕ) (Q : Said) (k : ℕ) (D : Domains) (p : ℕ) (x : Symbol) → Q D p x → OfLine n Q k D (Split p x)
-of_split n Q k D p x h q y from e =
+of_split : (Q : Said) (k : ℕ) (D : Domains) (p : ℕ) (x : Symbol) → Q D p x → OfLine Q k D (Split p x)
+of_split Q k D p x h q y e =
     let ep : p ≡ q = cc in
     let ex : x ≡ y = cc in
     subst (λ r. Q D r y) ep (subst (Q D p) ex h)
 
 -- with a leaf more
-leaf_said : (n : ℕ) (Q : Said) (P : Instance) (start : Opening) (ls : List Line) (line : Line) → IsLeaf line → AtSplitsFrom n Q P start ls → AtSplitsFrom n Q P start (ls ++ line ∷ [])
-leaf_said n Q P start ls line leaf h =
-    each_split n Q P start (ls ++ line ∷ [])
-    (one_more (OfLine n Q) P start ls line (each_line n Q P start ls h) (of_leaf n Q (length ls) (domains_at P start ls (length ls)) line leaf))
+leaf_said : (Q : Said) (P : Instance) (start : Opening) (ls : List Line) (line : Line) → IsLeaf line → AtEachSplit Q P start ls → AtEachSplit Q P start (ls ++ line ∷ [])
+leaf_said Q P start ls line leaf h =
+    each_split Q P start (ls ++ line ∷ [])
+    (one_more (OfLine Q) P start ls line (each_line Q P start ls h) (of_leaf Q (length ls) (domains_at P start ls (length ls)) line leaf))
 
 -- with a split more
-split_said : (n : ℕ) (Q : Said) (P : Instance) (start : Opening) (ls added : List Line) (p : ℕ) (x : Symbol) → IsSplitWithLeaf p x added → AtSplitsFrom n Q P start ls → Q (domains_at P start ls (length ls)) p x → AtSplitsFrom n Q P start (ls ++ added)
-split_said n Q P start ls added p x split h here =
-    each_split n Q P start (ls ++ added)
-    (split_more (OfLine n Q) P start ls added p x (each_line n Q P start ls h) (of_split n Q (length ls) (domains_at P start ls (length ls)) p x here) (of_leaf n Q) split)
+split_said : (Q : Said) (P : Instance) (start : Opening) (ls added : List Line) (p : ℕ) (x : Symbol) → IsSplitWithLeaf p x added → AtEachSplit Q P start ls → Q (domains_at P start ls (length ls)) p x → AtEachSplit Q P start (ls ++ added)
+split_said Q P start ls added p x split h here =
+    each_split Q P start (ls ++ added)
+    (split_more (OfLine Q) P start ls added p x (each_line Q P start ls h) (of_split Q (length ls) (domains_at P start ls (length ls)) p x here) (of_leaf Q) split)
 
 -- with unfinished lines
 pub rest_said : (Q : Said) (P : Instance) (start : Opening) (ls : List Line) (n : ℕ) → AtEachSplit Q P start ls → AtEachSplit Q P start (ls ++ replicate n Unfinished)
@@ -71,13 +70,9 @@ rest_said Q P start ls n h k p x e = elim (got_in ls (replicate n Unfinished) k 
   | inr at ↦ let clash : Split p x ≡ Unfinished = open_rest n at.0 (Split p x) at.2 in absurd (cc)
 ]
 
--- from the next line on
-pub none_said : (Q : Said) (P : Instance) (start : Opening) (ls : List Line) → AtSplitsFrom (length ls) Q P start ls
-none_said Q P start ls k p x from e = absurd (omega (arith, from, slice_get_within ls k (Split p x) e))
-
--- from the first line on is everywhere
-pub from_first : (Q : Said) (P : Instance) (start : Opening) (ls : List Line) (n : ℕ) → n ≡ 0 → AtSplitsFrom n Q P start ls → AtEachSplit Q P start ls
-from_first Q P start ls n first h k p x e = h k p x (omega (arith, first)) e
+-- before the first line
+pub none_said : (Q : Said) (P : Instance) (start : Opening) (ls : List Line) → ls ≡ [] → AtEachSplit Q P start ls
+none_said Q P start ls none k p x e = let got : slice_get [] k ≡ Some (Split p x) = ap (λ (l : List Line). slice_get l k) (sym none) ∙ e in absurd (cc)
 
 -- the same of a search
 
@@ -86,9 +81,9 @@ abbrev pub NotFew : Instance → Option ℕ → Domains → ℕ → Symbol → T
 NotFew P goal D p x = FewHolds P goal D → ⊥
 
 -- of lines of the same search
-same_said : (n : ℕ) (Q : Aim → Said) (P : Instance) (a b : Aim) (ls more : List Line) → b ≡ a → more ≡ ls → AtSplitsFrom n (Q a) P a.opening ls → AtSplitsFrom n (Q b) P b.opening more
-same_said n Q P a b ls more same lines h =
-    subst (λ (m : Aim). AtSplitsFrom n (Q m) P m.opening more) (sym same) (subst (AtSplitsFrom n (Q a) P a.opening) (sym lines) h)
+same_said : (Q : Aim → Said) (P : Instance) (a b : Aim) (ls more : List Line) → b ≡ a → more ≡ ls → AtEachSplit (Q a) P a.opening ls → AtEachSplit (Q b) P b.opening more
+same_said Q P a b ls more same lines h =
+    subst (λ (m : Aim). AtEachSplit (Q m) P m.opening more) (sym same) (subst (AtEachSplit (Q a) P a.opening) (sym lines) h)
 
 -- behind a leaf
 pub leaf_under_way : (P : Instance) (a b : Progress) (line : Line) → IsProgress P b → b.aim ≡ a.aim → b.lines.items ≡ a.lines.items ++ line ∷ [] → length a.lines.items < a.aim.budget → IsUnderWay P b
@@ -100,13 +95,16 @@ pub leaf_next : (P : Instance) (leaves : Leaves) (spent : Spent) (a b : Progress
 leaf_next P leaves spent a b line leaf same lines = record {
   later = record {
     same_aim = same;
-    forced = λ n h. same_said n (λ m. IsForced P leaves spent) P a.aim b.aim (a.lines.items ++ line ∷ []) b.lines.items same lines (leaf_said n (IsForced P leaves spent) P a.aim.opening a.lines.items line leaf h);
-    no_few = λ n h. same_said n (λ m. NotFew P m.goal) P a.aim b.aim (a.lines.items ++ line ∷ []) b.lines.items same lines (leaf_said n (NotFew P a.aim.goal) P a.aim.opening a.lines.items line leaf h);
+    forced = λ h. same_said (λ m. IsForced P leaves spent) P a.aim b.aim (a.lines.items ++ line ∷ []) b.lines.items same lines (leaf_said (IsForced P leaves spent) P a.aim.opening a.lines.items line leaf h);
+    no_few = λ h. same_said (λ m. NotFew P m.goal) P a.aim b.aim (a.lines.items ++ line ∷ []) b.lines.items same lines (leaf_said (NotFew P a.aim.goal) P a.aim.opening a.lines.items line leaf h);
   };
-  added = line ∷ [];
-  one_step = inl (line, leaf, refl);
-  lines = lines;
+  longer = omega (arith, ap length lines ∙ length_push a.lines.items line);
 }
+
+-- a split is a line at least
+some_added : (p : ℕ) (x : Symbol) (added : List Line) → IsSplitWithLeaf p x added → 0 < length added
+some_added p x added (inl e) = subst (λ (ls : List Line). 0 < length ls) (sym e) (omega arith)
+some_added p x added (inr o) = subst (λ (ls : List Line). 0 < length ls) (sym o.2) (omega arith)
 
 -- behind a split of open domains
 pub split_under_way : (P : Instance) (a b : Progress) (p : ℕ) (x : Symbol) → IsSplitOff P a b p x → length b.lines.items ≤ a.aim.budget → IsUnderWay P b
@@ -127,24 +125,10 @@ split_next P leaves spent a b p x some written off store same unclosed forced =
     record {
       later = record {
         same_aim = off.same_aim;
-        forced = λ n h. same_said n (λ m. IsForced P leaves spent) P a.aim b.aim (a.lines.items ++ off.added) b.lines.items off.same_aim off.lines
-            (split_said n (IsForced P leaves spent) P a.aim.opening a.lines.items off.added p x off.split h forced_here);
-        no_few = λ n h. same_said n (λ m. NotFew P m.goal) P a.aim b.aim (a.lines.items ++ off.added) b.lines.items off.same_aim off.lines
-            (split_said n (NotFew P a.aim.goal) P a.aim.opening a.lines.items off.added p x off.split h not_few);
+        forced = λ h. same_said (λ m. IsForced P leaves spent) P a.aim b.aim (a.lines.items ++ off.added) b.lines.items off.same_aim off.lines
+            (split_said (IsForced P leaves spent) P a.aim.opening a.lines.items off.added p x off.split h forced_here);
+        no_few = λ h. same_said (λ m. NotFew P m.goal) P a.aim b.aim (a.lines.items ++ off.added) b.lines.items off.same_aim off.lines
+            (split_said (NotFew P a.aim.goal) P a.aim.opening a.lines.items off.added p x off.split h not_few);
       };
-      added = off.added;
-      one_step = inr (p, x, off.split);
-      lines = off.lines;
+      longer = omega (arith, ap length off.lines ∙ length-append a.lines.items off.added, some_added p x off.added off.split);
     }
-
--- a step has a line at least
-some_added : (added : List Line) → IsOneStep added → 0 < length added
-some_added added (inl h) = subst (λ (ls : List Line). 0 < length ls) (sym h.2) (omega arith)
-some_added added (inr h) = elim h.2 as (λ (o : IsSplitWithLeaf h.0 h.1 added). 0 < length added) [
-  | inl e ↦ subst (λ (ls : List Line). 0 < length ls) (sym e) (omega arith)
-  | inr o ↦ subst (λ (ls : List Line). 0 < length ls) (sym o.2) (omega arith)
-]
-
-pub next_is_longer : (P : Instance) (leaves : Leaves) (spent : Spent) (a b : Progress) → IsNextStep P leaves spent a b → length a.lines.items < length b.lines.items
-next_is_longer P leaves spent a b h =
-    omega (arith, ap length h.lines ∙ length-append a.lines.items h.added, some_added h.added h.one_step)

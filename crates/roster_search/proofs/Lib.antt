@@ -8,6 +8,3 @@ pub mod OneWord
 pub mod Finding
 pub mod Volume
 pub mod Reasons
-pub mod Behind
-pub mod BehindCells
-pub mod BehindSplits

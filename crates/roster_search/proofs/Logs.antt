@@ -1,5 +1,5 @@
 -- The logs that a search ends with.
-use Rattle.std.proofs.Common.{◌≡◌, ℕ, zero, suc, ◌+◌, ◌<◌, ◌≤◌, List, [], ◌++◌, length, get_or, Bool, Option, Some, refl, ap, sym, ◌∙◌, subst, append-nil, arith, length-append, inl, inr, cond, false}
+use Rattle.std.proofs.Common.{◌≡◌, ℕ, zero, suc, ◌+◌, ◌<◌, ◌≤◌, List, [], ◌++◌, length, get_or, Bool, Option, Some, refl, ap, sym, ◌∙◌, subst, append-nil, arith, length-append, inl, inr, cond, true, false}
 use Rattle.std.specs.Prelude.{slice_get, Contains, replicate}
 use Rattle.std.specs.List.Sorted.{IsStrictlyIncreasing}
 use Rattle.std.proofs.lemmas.List.{get_or_default, length-replicate}
@@ -9,10 +9,12 @@ use Rattle.rwsp_terms.specs.declared.data.Rule.{Rule}
 use Rattle.rwsp_terms.specs.Instance.{Instance}
 use Rattle.rwsp_terms.specs.Rules.{rule_of, Names}
 use Rattle.refutation_terms.specs.declared.lines.Line.{Line}
-use Rattle.refutation_terms.specs.declared.lines.Line.TheVariants.{Unfinished}
+use Rattle.refutation_terms.specs.declared.lines.Line.TheVariants.{Closing, Unfinished}
+use Rattle.refutation_terms.specs.declared.lines.Leaf.TheVariants.{Blocks}
 use Rattle.refutation_terms.specs.declared.lines.Opening.{Opening}
+use Rattle.refutation_terms.specs.declared.lines.Opening.TheVariants.{Given}
 use Rattle.refutation_terms.specs.Tree.{IsTree, after_trees}
-use Rattle.refutation_terms.specs.Log.{Log, LineFits, Holds, HoldsAt, Cites, ListsShortOnly, IsAllowed, IsGrounded, Passes, IsSpent, size, is_worked}
+use Rattle.refutation_terms.specs.Log.{Log, CountsFit, LineFits, Holds, HoldsAt, Cites, ListsShortOnly, IsAllowed, IsGrounded, Passes, IsSpent, size, is_worked}
 use Rattle.refutation_terms.specs.Ranges.{AreRules}
 use Rattle.refutation_terms.proofs.Trees.{whole_is_tree}
 use Rattle.refutation_terms.proofs.TreeDomains.{got_left}
@@ -20,7 +22,7 @@ use Rattle.domain_store.specs.Splits.{second_sides_to_come}
 use Rattle.domain_store.specs.States.{State, open_trees}
 use Rattle.roster_search.specs.declared.progress.Progress.{Progress}
 use Rattle.refutation_log.specs.declared.found.Found.TheVariants.{NoRoster, Undecided}
-use Rattle.roster_search.specs.Founds.{IsLogOf}
+use Rattle.roster_search.specs.Founds.{IsLogOf, gives_cells}
 use Rattle.roster_search.specs.Written.{IsProgress, IsEnded}
 use Rattle.roster_search.proofs.Growing.{got_in, domains_before}
 use Rattle.rwsp_model.proofs.Numbering.{rule_in_range}
@@ -40,7 +42,17 @@ abbrev pub AreOpen : List Line → Type 0
 AreOpen rest = (m : ℕ) (line : Line) → slice_get rest m ≡ Some line → line ≡ Unfinished
 
 abbrev pub log_of : Progress → List Line → Log
-log_of s rest = record { named = s.named; opening = s.aim.opening; goal = s.aim.goal; counts = false; lines = s.lines.items ++ rest }
+log_of s rest = record { named = s.named; opening = s.aim.opening; goal = s.aim.goal; counts = gives_cells s.aim.opening; lines = s.lines.items ++ rest }
+
+-- what fits a log that may not count fits each log
+pub fits_either : (P : Instance) (goal : Option ℕ) (counts : Bool) (line : Line) → LineFits P goal false line → LineFits P goal counts line
+fits_either P goal true (Closing (Blocks x)) h = (refl, h.1)
+fits_either P goal true line h = h
+fits_either P goal false line h = h
+
+pub counts_fit : (start : Opening) → CountsFit start (gives_cells start)
+counts_fit (Given given) = refl
+counts_fit start = tt
 
 pub each_in : (Q : Line → Type 0) (ls rest : List Line) → ((k : ℕ) (line : Line) → slice_get ls k ≡ Some line → Q line) → Q Unfinished → AreOpen rest → (k : ℕ) (line : Line) → slice_get (ls ++ rest) k ≡ Some line → Q line
 each_in Q ls rest each here opened k line e = elim (got_in ls rest k line e) [
@@ -54,7 +66,8 @@ grounded P s rest w allowed up opened = record {
     named = are_rules P s.named up w.numbers;
     opening = w.opening_fits;
     goal = w.goal_fits;
-    lines = each_in (LineFits P s.aim.goal false) s.lines.items rest (λ k line e. (w.stand k line e).fits) tt opened;
+    counts = counts_fit s.aim.opening;
+    lines = each_in (LineFits P s.aim.goal (gives_cells s.aim.opening)) s.lines.items rest (λ k line e. fits_either P s.aim.goal (gives_cells s.aim.opening) line (w.stand k line e).fits) tt opened;
   };
   allowed = allowed;
   turn_named = λ r h. (w.cited r).1 (inl h);
@@ -72,7 +85,7 @@ is_log_of : (P : Instance) (s : Progress) (rest : List Line) → IsProgress P s 
 is_log_of P s rest w = record {
   same_opening = refl;
   same_goal = refl;
-  no_blocks = refl;
+  may_count = refl;
   cited = λ r n. elim ((w.cited r).0 n) [
     | inl start ↦ inl start
     | inr at ↦ inr (at.0, at.1, got_left s.lines.items rest at.0 at.1 at.2, at.3)
@@ -94,7 +107,7 @@ none_open : AreOpen none
 none_open m line e = absurd (cc)
 
 -- a whole tree passes
-pub passing_end : (P : Instance) (s : Progress) (g : Log) → IsProgress P s → IsAllowed P s.aim.opening → IsStrictlyIncreasing s.named → IsTree s.lines.items → length s.lines.items ≤ s.aim.budget → g.named ≡ s.named → g.opening ≡ s.aim.opening → g.goal ≡ s.aim.goal → g.counts ≡ false → g.lines ≡ s.lines.items → IsEnded P s.aim s.lines.items (NoRoster g)
+pub passing_end : (P : Instance) (s : Progress) (g : Log) → IsProgress P s → IsAllowed P s.aim.opening → IsStrictlyIncreasing s.named → IsTree s.lines.items → length s.lines.items ≤ s.aim.budget → g.named ≡ s.named → g.opening ≡ s.aim.opening → g.goal ≡ s.aim.goal → g.counts ≡ gives_cells s.aim.opening → g.lines ≡ s.lines.items → IsEnded P s.aim s.lines.items (NoRoster g)
 passing_end P s g w allowed up tree few a b d n c =
     let whole : s.lines.items ++ none ≡ s.lines.items = append-nil s.lines.items in
     let is : log_of s none ≡ g = sym (same_log g (log_of s none) a b d n (c ∙ sym whole)) in
@@ -127,7 +140,7 @@ pub some_open : (w : State) → w.whole ≡ false → 1 ≤ open_trees w
 some_open w part = let e : open_trees w ≡ second_sides_to_come w.splits + 1 = ap (λ b. cond b 0 (second_sides_to_come w.splits + 1)) part in omega arith
 
 -- lines that have used up the budget, with the rest left open
-pub spent_end : (P : Instance) (s : Progress) (n : ℕ) (g : Log) → IsProgress P s → IsAllowed P s.aim.opening → IsStrictlyIncreasing s.named → IsTree (s.lines.items ++ replicate n Unfinished) → length s.lines.items ≤ s.aim.budget → s.aim.budget ≤ length s.lines.items → 1 ≤ n → g.named ≡ s.named → g.opening ≡ s.aim.opening → g.goal ≡ s.aim.goal → g.counts ≡ false → g.lines ≡ s.lines.items ++ replicate n Unfinished → IsEnded P s.aim s.lines.items (Undecided g)
+pub spent_end : (P : Instance) (s : Progress) (n : ℕ) (g : Log) → IsProgress P s → IsAllowed P s.aim.opening → IsStrictlyIncreasing s.named → IsTree (s.lines.items ++ replicate n Unfinished) → length s.lines.items ≤ s.aim.budget → s.aim.budget ≤ length s.lines.items → 1 ≤ n → g.named ≡ s.named → g.opening ≡ s.aim.opening → g.goal ≡ s.aim.goal → g.counts ≡ gives_cells s.aim.opening → g.lines ≡ s.lines.items ++ replicate n Unfinished → IsEnded P s.aim s.lines.items (Undecided g)
 spent_end P s n g w allowed up tree few all some a b d m c =
     let rest : List Line = replicate n Unfinished in
     let is : log_of s rest ≡ g = sym (same_log g (log_of s rest) a b d m c) in

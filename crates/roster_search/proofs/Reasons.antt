@@ -1,17 +1,19 @@
 -- A search goes on with a propagator that has the same reasons.
-use Rattle.std.proofs.Common.{◌≡◌, ◌∙◌, ℕ, Option, refl, subst, sym}
+use Rattle.std.proofs.Common.{◌≡◌, ◌∙◌, ℕ, List, Option, refl, subst, sym}
 use Rattle.rwsp_terms.specs.Instance.{Instance}
 use Rattle.refutation_terms.specs.declared.lines.Line.{Line}
 use Rattle.refutation_terms.specs.declared.lines.Line.TheVariants.{Closing}
 use Rattle.refutation_terms.specs.declared.lines.Leaf.TheVariants.{Window, Day}
+use Rattle.refutation_terms.specs.declared.lines.Opening.{Opening}
 use Rattle.domain_store.specs.Store.{Store}
 use Rattle.domain_store.specs.Looks.{HasPlainLeaves, IsSame}
 use Rattle.roster_search.specs.declared.aim.Aim.{Aim}
 use Rattle.roster_search.specs.declared.progress.Progress.{Progress}
 use Rattle.roster_search.specs.declared.sight.Sight.{Sight}
 use Rattle.roster_search.specs.declared.sight.Sight.TheVariants.{Leaf, Cut, Quiet}
+use Rattle.roster_search.specs.Founds.{AreForced}
 use Rattle.roster_search.specs.Guides.{AreUnweighed, IsOpen, IsSight}
-use Rattle.roster_search.specs.Written.{AreForcedFrom, IsUnderWay, IsSearching, IsLater, IsNextStep}
+use Rattle.roster_search.specs.Written.{IsUnderWay, IsSearching, IsLater, IsNextStep}
 use Rattle.roster_search.proofs.Reaching.{unweighed_by}
 use Rattle.roster_search.proofs.Forced.{Leaves, Spent}
 
@@ -36,9 +38,9 @@ same_back served lines symbols v w a = record {
 }
 
 -- splits as the one says are as the other says
-forced_by : {A : Type 0} (n : ℕ) (P : Instance) (served : A → Serves) (lines : A → Leaves) (symbols : A → Spent) (v w : A) (s : Progress) → IsSame served lines symbols v w → AreForcedFrom n P (lines v) (symbols v) s → AreForcedFrom n P (lines w) (symbols w) s
-forced_by n P served lines symbols v w s same h k p x from e =
-    let f = h k p x from e in
+forced_by : {A : Type 0} (P : Instance) (served : A → Serves) (lines : A → Leaves) (symbols : A → Spent) (v w : A) (start : Opening) (ls : List Line) → IsSame served lines symbols v w → AreForced P (lines v) (symbols v) start ls → AreForced P (lines w) (symbols w) start ls
+forced_by P served lines symbols v w start ls same h k p x e =
+    let f = h k p x e in
     record {
       store = f.store;
       is_store = f.is_store;
@@ -51,22 +53,22 @@ forced_by n P served lines symbols v w s same h k p x from e =
 pub later_by : {A : Type 0} (P : Instance) (served : A → Serves) (lines : A → Leaves) (symbols : A → Spent) (v w : A) (a b : Progress) → IsSame served lines symbols v w → IsLater P (lines w) (symbols w) a b → IsLater P (lines v) (symbols v) a b
 later_by P served lines symbols v w a b same l = record {
   same_aim = l.same_aim;
-  forced = λ n h. forced_by n P served lines symbols w v b (same_back served lines symbols v w same) (l.forced n (forced_by n P served lines symbols v w a same h));
+  forced = λ h. forced_by P served lines symbols w v b.aim.opening b.lines.items (same_back served lines symbols v w same) (l.forced (forced_by P served lines symbols v w a.aim.opening a.lines.items same h));
   no_few = l.no_few;
 }
 
 pub next_by : {A : Type 0} (P : Instance) (served : A → Serves) (lines : A → Leaves) (symbols : A → Spent) (v w : A) (a b : Progress) → IsSame served lines symbols v w → IsNextStep P (lines w) (symbols w) a b → IsNextStep P (lines v) (symbols v) a b
-next_by P served lines symbols v w a b same h = record { later = later_by P served lines symbols v w a b same h.later; added = h.added; one_step = h.one_step; lines = h.lines }
+next_by P served lines symbols v w a b same h = record { later = later_by P served lines symbols v w a b same h.later; longer = h.longer }
 
 -- the same search later
 pub later_still : (P : Instance) (leaves : Leaves) (spent : Spent) (s : Progress) → IsLater P leaves spent s s
-later_still P leaves spent s = record { same_aim = refl; forced = λ n h. h; no_few = λ n h. h }
+later_still P leaves spent s = record { same_aim = refl; forced = λ h. h; no_few = λ h. h }
 
 pub later_on : (P : Instance) (leaves : Leaves) (spent : Spent) (a b c : Progress) → IsLater P leaves spent a b → IsLater P leaves spent b c → IsLater P leaves spent a c
 later_on P leaves spent a b c first second = record {
   same_aim = second.same_aim ∙ first.same_aim;
-  forced = λ n h. second.forced n (first.forced n h);
-  no_few = λ n h. second.no_few n (first.no_few n h);
+  forced = λ h. second.forced (first.forced h);
+  no_few = λ h. second.no_few (first.no_few h);
 }
 
 pub sight_by : {A : Type 0} (P : Instance) (goal : Option ℕ) (served : A → Serves) (lines : A → Leaves) (symbols : A → Spent) (v w : A) (S : Store) (sight : Sight) → IsSame served lines symbols v w → IsSight P goal (lines v S) (symbols v S) S sight → IsSight P goal (lines w S) (symbols w S) S sight

@@ -1,17 +1,18 @@
 -- What a search finds.
-use Rattle.std.specs.Prelude.{◌≡◌, ℕ, ◌≤◌, List, slice_get, false, Option, Some}
+use Rattle.std.specs.Prelude.{◌≡◌, ℕ, ◌≤◌, List, slice_get, Bool, true, false, Option, Some}
 use Rattle.rwsp_terms.specs.declared.data.Symbol.{Symbol}
 use Rattle.rwsp_terms.specs.Instance.{Instance}
 use Rattle.refutation_terms.specs.declared.lines.Line.{Line}
 use Rattle.refutation_terms.specs.declared.lines.Line.TheVariants.{Split}
 use Rattle.refutation_terms.specs.declared.lines.Opening.{Opening}
+use Rattle.refutation_terms.specs.declared.lines.Opening.TheVariants.{Given}
 use Rattle.refutation_terms.specs.Word.{Domains, AreSame}
 use Rattle.refutation_terms.specs.Tree.{domains_at}
 use Rattle.refutation_terms.specs.FewLeaf.{FewHolds}
 use Rattle.refutation_terms.specs.Log.{Log, Passes, IsSpent, NamesOnlyCited, size}
 use Rattle.domain_store.specs.Store.{Store, BelongsTo, IsStore, has_domain}
 use Rattle.domain_store.specs.Looks.{Closes}
-use Rattle.roster_search.specs.Guides.{IsWantedRoster}
+use Rattle.roster_search.specs.Guides.{IsWantedBehind}
 use Rattle.refutation_log.specs.declared.found.Found.{Found}
 use Rattle.refutation_log.specs.declared.found.Found.TheVariants.{Roster, NoRoster, Undecided}
 
@@ -40,11 +41,17 @@ AreForced P leaves spent start lines = AtEachSplit (IsForced P leaves spent) P s
 abbrev pub FewHoldsAtNoSplit : Instance → Option ℕ → Opening → List Line → Type 0
 FewHoldsAtNoSplit P goal start lines = AtEachSplit (λ D p x. FewHolds P goal D → ⊥) P start lines
 
--- a log from this opening, for this goal or none, that may not count blocks and names what it cites and no more
+-- the opening gives cells
+abbrev pub gives_cells : Opening → Bool
+gives_cells (Given given) = true
+gives_cells start = false
+
+-- a log from this opening, for this goal or none, that names what it cites and no more. It may count blocks exactly where
+-- it gives cells
 pub record IsLogOf (P : Instance) (start : Opening) (goal : Option ℕ) (g : Log) : Type 0 where
   pub same_opening : g.opening ≡ start
   pub same_goal : g.goal ≡ goal
-  pub no_blocks : g.counts ≡ false
+  pub may_count : g.counts ≡ gives_cells start
   pub cited : NamesOnlyCited P g
 
 -- such a log, whose splits are as the propagator says, and at none of them is the leaf of few weeks at hand
@@ -54,11 +61,11 @@ pub record IsSearchLog (P : Instance) (start : Opening) (goal : Option ℕ) (lea
   pub splits : AreForced P leaves spent start g.lines
   pub no_few : FewHoldsAtNoSplit P goal start g.lines
 
--- a roster that meets every rule and has as many free weekends as the goal, where there is one; or a log that passes,
--- of at most the budget's size; or one that has spent the budget
+-- a roster that meets every rule, has as many free weekends as the goal, where there is one, and holds the given cells;
+-- or a log that passes, of at most the budget's size; or one that has spent the budget
 abbrev pub IsFound : Instance → Opening → Option ℕ → ℕ → (Store → Line → Type 0)
     → (Store → ℕ → Symbol → Type 0) → Found → Type 0
-IsFound P start goal budget leaves spent (Roster s) = IsWantedRoster P goal s
+IsFound P start goal budget leaves spent (Roster s) = IsWantedBehind P start goal s
 IsFound P start goal budget leaves spent (NoRoster g) =
     Passes P g × (size g ≤ budget) × IsSearchLog P start goal leaves spent g
 IsFound P start goal budget leaves spent (Undecided g) =

@@ -7,7 +7,9 @@ use Rattle.rwsp_terms.specs.Roster.{MeetsAll}
 use Rattle.rwsp_model.specs.Schedule.{Schedule}
 use Rattle.refutation_terms.specs.declared.lines.Line.{Line}
 use Rattle.refutation_terms.specs.Word.{Within}
+use Rattle.refutation_terms.specs.declared.lines.Opening.{Opening}
 use Rattle.refutation_terms.specs.FewLeaf.{FewHolds}
+use Rattle.refutation_terms.specs.Log.{HoldsOpening}
 use Rattle.refutation_terms.specs.Laws.{HasGoal}
 use Rattle.domain_store.specs.Store.{Store, has_domain}
 use Rattle.domain_store.specs.Splits.{is_idle_in}
@@ -24,6 +26,10 @@ IsLeafGiven P goal S line = IfSome line (IsHoldingLeaf P goal (has_domain S))
 -- a roster of the problem's days that meets every rule and has as many free weekends as the goal, where there is one
 abbrev pub IsWantedRoster : Instance → Option ℕ → Schedule → Type 0
 IsWantedRoster P goal s = (s.days ≡ P.days) × MeetsAll P s.cells × HasGoal goal s.cells
+
+-- such a roster that holds the cells that the opening gives
+abbrev pub IsWantedBehind : Instance → Opening → Option ℕ → Schedule → Type 0
+IsWantedBehind P start goal s = IsWantedRoster P goal s × HoldsOpening start s.cells
 
 -- where there is a goal, no leaf of the propagator weighs words
 abbrev pub AreUnweighed : Option ℕ → (Store → Line → Type 0) → Type 0

@@ -2,4 +2,3 @@ pub mod Founds
 pub mod Written
 pub mod Laws
 pub mod Guides
-pub mod Behind

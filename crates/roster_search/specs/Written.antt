@@ -9,12 +9,11 @@ use Rattle.refutation_terms.specs.declared.lines.Line.TheVariants.{Split, Unfini
 use Rattle.refutation_terms.specs.declared.lines.Opening.{Opening}
 use Rattle.refutation_terms.specs.Word.{Domains}
 use Rattle.refutation_terms.specs.Tree.{IsLeaf, domains_at}
-use Rattle.refutation_terms.specs.FewLeaf.{FewHolds}
 use Rattle.refutation_terms.specs.Log.{LineFits, OpeningFits, GoalFits, Holds, Cites, OpeningCites, ListsShortOnly, Passes, IsSpent, size}
 use Rattle.domain_store.specs.Store.{Store}
 use Rattle.domain_store.specs.States.{IsStateOf, open_trees}
 use Rattle.domain_store.specs.Looks.{HasPlainLeaves, IsNarrowedAt}
-use Rattle.roster_search.specs.Founds.{IsForced, IsLogOf}
+use Rattle.roster_search.specs.Founds.{IsLogOf, AreForced, FewHoldsAtNoSplit}
 use Rattle.roster_search.specs.Guides.{AreUnweighed}
 use Rattle.roster_search.specs.declared.aim.Aim.{Aim}
 use Rattle.roster_search.specs.declared.progress.Progress.{Progress}
@@ -76,38 +75,21 @@ pub record IsSearching {A : Type 0} (P : Instance) (served : A → Instance → 
 abbrev pub HasRoom : Progress → Type 0
 HasRoom s = (s.walk.whole ≡ false) × (length s.lines.items < s.aim.budget)
 
--- this is said of each split from line n on, counted from 0, by the domains at it, its position and its symbol
-abbrev pub AtSplitsFrom : ℕ → (Domains → ℕ → Symbol → Type 0) → Instance → Opening → List Line → Type 0
-AtSplitsFrom n Said P start lines =
-    (k p : ℕ) (x : Symbol) → n ≤ k → slice_get lines k ≡ Some (Split p x) → Said (domains_at P start lines k) p x
-
--- each split from line n on is as the propagator says
-abbrev pub AreForcedFrom : ℕ → Instance → (Store → Line → Type 0) → (Store → ℕ → Symbol → Type 0) → Progress → Type 0
-AreForcedFrom n P leaves spent s = AtSplitsFrom n (IsForced P leaves spent) P s.aim.opening s.lines.items
-
--- at none of them is the leaf of few weeks at hand
-abbrev pub FewHoldsAtNoneFrom : ℕ → Instance → Progress → Type 0
-FewHoldsAtNoneFrom n P s = AtSplitsFrom n (λ D p x. FewHolds P s.aim.goal D → ⊥) P s.aim.opening s.lines.items
-
--- the same search later: where each split from some line on was as the propagator says before, each one is, and at none
--- of them is the leaf of few weeks at hand
+-- the same search later: where each split was as the propagator says before, each one is, and at none is the leaf of few
+-- weeks at hand
 pub record IsLater (P : Instance) (leaves : Store → Line → Type 0) (spent : Store → ℕ → Symbol → Type 0)
     (before after : Progress) : Type 0 where
   pub same_aim : after.aim ≡ before.aim
-  pub forced : (n : ℕ) → AreForcedFrom n P leaves spent before → AreForcedFrom n P leaves spent after
-  pub no_few : (n : ℕ) → FewHoldsAtNoneFrom n P before → FewHoldsAtNoneFrom n P after
-
--- what one step writes: a leaf, or a split, maybe with the leaf of its first side
-abbrev pub IsOneStep : List Line → Type 0
-IsOneStep added = ((leaf : Line) × IsLeaf leaf × (added ≡ leaf ∷ [])) ⊎ ((p : ℕ) × (x : Symbol) × IsSplitWithLeaf p x added)
+  pub forced : AreForced P leaves spent before.aim.opening before.lines.items
+      → AreForced P leaves spent after.aim.opening after.lines.items
+  pub no_few : FewHoldsAtNoSplit P before.aim.goal before.aim.opening before.lines.items
+      → FewHoldsAtNoSplit P after.aim.goal after.aim.opening after.lines.items
 
 -- the search one step later
 pub record IsNextStep (P : Instance) (leaves : Store → Line → Type 0) (spent : Store → ℕ → Symbol → Type 0)
     (before after : Progress) : Type 0 where
   pub later : IsLater P leaves spent before after
-  pub added : List Line
-  pub one_step : IsOneStep added
-  pub lines : after.lines.items ≡ before.lines.items ++ added
+  pub longer : length before.lines.items < length after.lines.items
 
 -- the log of these lines: one that passes, or one that has spent the budget and leaves the rest unfinished
 abbrev pub IsEnded : Instance → Aim → List Line → Found → Type 0

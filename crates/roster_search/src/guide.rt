@@ -2,12 +2,13 @@
 ghost use Rattle.std.specs.Prelude.{◌↔◌, ℕ, Option, IfOk};
 ghost use Rattle.std.specs.Option.{IfSome};
 ghost use Rattle.rwsp_terms.specs.Instance.{Instance};
+ghost use Rattle.refutation_terms.specs.Log.{OpeningFits, GoalFits};
 ghost use Rattle.domain_store.specs.Store.{BelongsTo};
-ghost use Rattle.roster_search.specs.Guides.{IsLeafGiven, IsSplitIn, IsWantedRoster};
+ghost use Rattle.roster_search.specs.Guides.{IsLeafGiven, IsSplitIn, IsWantedBehind};
 
 use crate::NextSplit;
 use domain_store::Domains;
-use refutation_terms::Line;
+use refutation_terms::{Line, Opening};
 use rwsp_model::Roster;
 use std::alloc::{AllocError, Global};
 
@@ -26,12 +27,13 @@ pub trait Guide {
             (P : Instance) (goal : Option ℕ) → serves self.old P goal → IsLeafGiven P goal doms.now line) }
         ensures serves { (P : Instance) (goal : Option ℕ) → serves self.old P goal ↔ serves self.new P goal };
 
-    /// A roster that meets every rule and has as many free weekends as the goal, if it has one. It is asked once, behind
-    /// the first step of a search, where that leaves something open.
-    fn roster(&mut self, alloc: Global, doms: &Domains) -> Result<Option<Roster>, AllocError>
-        requires problem { (P : Instance) × (goal : Option ℕ) × serves self.old P goal × BelongsTo P doms.now }
-        ensures wanted { IfOk result (λ found.
-            (P : Instance) (goal : Option ℕ) → serves self.old P goal → IfSome found (IsWantedRoster P goal)) }
+    /// A roster that meets every rule, has as many free weekends as the goal and holds the cells that the opening gives,
+    /// if it has one. It is asked once, behind the first step of a search, where that leaves something open.
+    fn roster(&mut self, alloc: Global, opening: &Opening) -> Result<Option<Roster>, AllocError>
+        requires problem { (P : Instance) × (goal : Option ℕ) × serves self.old P goal
+            × OpeningFits P opening.now × GoalFits P opening.now goal }
+        ensures wanted { IfOk result (λ found. (P : Instance) (goal : Option ℕ)
+            → serves self.old P goal → IfSome found (IsWantedBehind P opening.now goal)) }
         ensures serves { (P : Instance) (goal : Option ℕ) → serves self.old P goal ↔ serves self.new P goal };
 
     /// Where to split, if it has a choice. It is asked where there is no leaf and no spent symbol.
@@ -52,7 +54,7 @@ impl Guide for NoGuide {
         Ok(None)
     }
 
-    fn roster(&mut self, _alloc: Global, _doms: &Domains) -> Result<Option<Roster>, AllocError> {
+    fn roster(&mut self, _alloc: Global, _opening: &Opening) -> Result<Option<Roster>, AllocError> {
         Ok(None)
     }
 

@@ -4,7 +4,6 @@
 mod aim;
 mod decided;
 mod ending;
-mod given_roster;
 mod guide;
 mod laws;
 mod need;
@@ -15,7 +14,8 @@ mod searching;
 mod sight;
 
 pub use aim::Aim;
+pub use ending::gives_cells;
 pub use guide::{Guide, NoGuide};
 pub use laws::{spent_budgets_are_small, trees_have_few_leaves};
 pub use order::{NextSplit, chronological, off_or_work_by_day, off_or_work_from};
-pub use searching::{search, search_given};
+pub use searching::search;

@@ -47,13 +47,16 @@ pub fn off_or_work_from(domains: &Domains, start: u32) -> Option<NextSplit>
     None
 }
 
-/// The first position that may be off or hold a shift, with the day off: of all first days of a week, then of all second
-/// ones and so on; None where there is none.
-pub fn off_or_work_by_day(problem: &Problem, domains: &Domains) -> Option<NextSplit>
+/// The first position that may be off or hold a shift, with the day off: of all days that are `later` days behind the
+/// first one of a week, then of all that are one day later, and so on round the week; None where there is none.
+pub fn off_or_work_by_day(problem: &Problem, domains: &Domains, later: u32) -> Option<NextSplit>
     requires { BelongsTo problem.now domains.now }
     ensures { IfSome result (IsSplitIn domains.now) }
 {
-    for day in 1..problem.days() + 1 {
+    problem.prove_limits();
+    let days = problem.days();
+    for i in 0..days {
+        let day = (later % days + i) % days + 1;
         let found = off_or_work_on(problem, domains, day);
         if found.is_some() {
             return found;

@@ -11,18 +11,13 @@ ghost use Rattle.domain_store.specs.Store.{has_domain, IsStore, HasDomains};
 ghost use Rattle.domain_store.specs.Splits.{is_idle_in};
 ghost use Rattle.domain_store.specs.Leaves.{IsHoldingLeaf};
 ghost use Rattle.domain_store.specs.States.{open_trees};
-ghost use Rattle.refutation_log.specs.GivenCells.{AreGivenIn};
-ghost use Rattle.refutation_log.specs.FillLog.{given_splits};
-ghost use Rattle.refutation_terms.specs.declared.lines.Opening.TheVariants.{Full};
-ghost use Rattle.roster_search.specs.Behind.{IsBehind, HasRoomBehind};
 ghost use Rattle.roster_search.specs.Written.{IsProgress, IsSplitOff, HasRoom};
 
 use crate::Aim;
 use domain_store::Walk;
-use refutation_log::{GivenCell, GivenCells, put_cited, put_opening_cited, walk_behind};
+use refutation_log::{put_cited, put_opening_cited};
 use refutation_terms::{Line, Opening};
 use rwsp_model::Problem;
-use rwsp_terms::limits::GREATEST_BUDGET;
 use rwsp_terms::{RuleList, Symbol};
 use std::alloc::{AllocError, Global};
 
@@ -44,44 +39,13 @@ impl Progress {
         ensures aim { IfOk result (λ s. s.aim ≡ aim) }
         ensures none { IfOk result (λ s. s.lines.items ≡ []) }
     {
-        let walk = Walk::new(alloc, problem, aim.opening)?;
-        let named = opening_rules(alloc, problem, aim.opening)?;
+        let walk = Walk::new(alloc, problem, &aim.opening)?;
+        let named = opening_rules(alloc, problem, &aim.opening)?;
         Ok(Progress {
             aim,
             walk,
             lines: Vec::new(alloc),
             named,
-        })
-    }
-
-    /// No line yet behind the splits on the given cells, with room for so many.
-    pub fn behind(
-        alloc: Global,
-        problem: &Problem,
-        given: &GivenCells,
-        budget: u32,
-    ) -> Result<Progress, AllocError>
-        requires given { AreGivenIn problem.now given.now }
-        requires budget { budget ≤ GREATEST_BUDGET }
-        ensures written { IfOk result (λ s. IsProgress problem.now s) }
-        ensures behind { IfOk result (λ s. IsBehind problem.now given.now s) }
-        ensures aim { IfOk result (λ s.
-            s.aim ≡ record { opening = Full; goal = None; budget = budget + length given.now }) }
-        ensures lines { IfOk result (λ s. s.lines.items ≡ given_splits given.now) }
-    {
-        problem.prove_limits();
-        let walk = walk_behind(alloc, problem, given)?;
-        let lines = splits_on(alloc, given.cells())?;
-        let aim = Aim {
-            opening: Opening::Full,
-            goal: None,
-            budget: budget + given.len() as u32,
-        };
-        Ok(Progress {
-            aim,
-            walk,
-            lines,
-            named: RuleList::new(alloc),
         })
     }
 
@@ -92,23 +56,18 @@ impl Progress {
         self.lines.len() < self.aim.budget as usize
     }
 
-    /// Whether the tree behind the first `front` splits isn't whole. Takes a step for each split that is open, where
-    /// there are such.
-    pub fn is_open_behind(&self, front: usize) -> bool
-        ensures { IsTrue result ↔ (front < open_trees self.now.walk) }
+    /// Whether the tree isn't whole.
+    pub fn is_open(&self) -> bool
+        ensures { IsTrue result ↔ (self.now.walk.whole ≡ false) }
     {
-        if front == 0 {
-            !self.walk.is_whole()
-        } else {
-            self.walk.open_count() > front
-        }
+        !self.walk.is_whole()
     }
 
-    /// Whether that tree isn't whole and the budget has room for one more line.
-    pub fn goes_on(&self, front: usize) -> bool
-        ensures { IsTrue result ↔ HasRoomBehind front self.now }
+    /// Whether it isn't whole and the budget has room for one more line.
+    pub fn goes_on(&self) -> bool
+        ensures { IsTrue result ↔ HasRoom self.now }
     {
-        self.is_open_behind(front) && self.has_room()
+        self.is_open() && self.has_room()
     }
 
     /// Brings into a proof what holds of the domains at the next line. Does nothing when run.
@@ -188,24 +147,14 @@ impl Progress {
     }
 }
 
-// A split on each of the cells.
-fn splits_on(alloc: Global, given: &[GivenCell]) -> Result<Vec<Line>, AllocError>
-    ensures { IfOk result (λ lines. lines.items ≡ given_splits given.now) }
-{
-    let mut lines = Vec::with_capacity(alloc, given.len())?;
-    for cell in given {
-        lines.push(Line::Split {
-            p: cell.p,
-            x: cell.x,
-        })?;
-    }
-    Ok(lines)
-}
-
 // The rules that an opening rests on.
-fn opening_rules(alloc: Global, problem: &Problem, opening: Opening) -> Result<RuleList, AllocError>
-    requires { OpeningFits problem.now opening }
-    ensures cited { IfOk result (λ R. (r : Rule) → Names problem.now R r ↔ OpeningCites opening r) }
+fn opening_rules(
+    alloc: Global,
+    problem: &Problem,
+    opening: &Opening,
+) -> Result<RuleList, AllocError>
+    requires { OpeningFits problem.now opening.now }
+    ensures cited { IfOk result (λ R. (r : Rule) → Names problem.now R r ↔ OpeningCites opening.now r) }
     ensures numbers { IfOk result (λ R. (k : ℕ) → Contains R k → (r : Rule) × (rule_of problem.now k ≡ Some r)) }
 {
     let mut named = RuleList::new(alloc);

@@ -1,29 +1,26 @@
 // The search.
-ghost use Rattle.std.specs.Prelude.{◌≡◌, ℕ, ◌+◌, ◌*◌, ◌^◌, ◌<◌, ◌≤◌, ◌↔◌, length, Option, None, false, IfOk, IfSome};
+ghost use Rattle.std.specs.Prelude.{◌≡◌, ℕ, ◌+◌, ◌*◌, ◌^◌, ◌<◌, ◌≤◌, ◌↔◌, Option, None, IfOk, IfSome};
 ghost use Rattle.rwsp_terms.specs.Instance.{Instance, cells, shift_count};
 ghost use Rattle.refutation_terms.specs.Log.{OpeningFits, GoalFits, IsAllowed};
-ghost use Rattle.domain_store.specs.Store.{BelongsTo};
 ghost use Rattle.domain_store.specs.Looks.{HasPlainLeaves, IsSame};
 ghost use Rattle.roster_search.specs.Founds.{IsFound, HasSpentBudget};
-ghost use Rattle.refutation_log.specs.GivenCells.{AreGivenIn};
-ghost use Rattle.roster_search.specs.Guides.{AreUnweighed};
-ghost use Rattle.roster_search.specs.Behind.{IsBehind, HasRoomBehind, IsWantedBehind, IsFoundBehind};
-ghost use Rattle.roster_search.specs.Written.{IsSearching, IsLater};
+ghost use Rattle.roster_search.specs.Guides.{AreUnweighed, IsWantedBehind};
+ghost use Rattle.roster_search.specs.Written.{HasRoom, IsSearching, IsLater};
 
-use crate::ending::{end, end_behind};
-use crate::given_roster::asked_roster;
+use crate::ending::end;
 use crate::progress::Progress;
 use crate::search_step::step;
 use crate::sight::Arrival;
 use crate::{Aim, Guide};
 use domain_store::Propagator;
-use refutation_log::{Filled, Found, GivenCell, GivenCells};
+use refutation_log::Found;
 use rwsp_model::{Problem, Roster};
 use rwsp_terms::limits::GREATEST_BUDGET;
 use std::alloc::{AllocError, Global};
 
-/// Looks for a roster by splitting cases, and writes the cases down as the lines of a log (backtracking: S. Golomb and
-/// L. Baumert, 1965). The guide may give a leaf where a case begins, a roster at the start, and a place to split.
+/// Looks for a roster that holds what the opening gives, by splitting cases, and writes the cases down as the lines of a
+/// log (backtracking: S. Golomb and L. Baumert, 1965). The guide may give a leaf where a case begins, a roster at the
+/// start, and a place to split.
 pub fn search<A: Propagator, G: Guide>(
     alloc: Global,
     problem: &Problem,
@@ -47,7 +44,7 @@ pub fn search<A: Propagator, G: Guide>(
 {
     let mut progress = Progress::new(alloc, problem, aim)?;
     propagator.undone(progress.walk.domains());
-    let written = write_lines(alloc, problem, propagator, guide, &[], &mut progress);
+    let written = write_lines(alloc, problem, propagator, guide, &mut progress);
     match written {
         Ok(None) => end(problem, progress),
         Ok(Some(roster)) => {
@@ -61,86 +58,36 @@ pub fn search<A: Propagator, G: Guide>(
     }
 }
 
-/// Looks for a roster that holds the given cells, in the same way. The lines of the fill log are at most the budget's,
-/// and all these cells are named. A roster of the guide that doesn't hold them is ignored.
-pub fn search_given<A: Propagator, G: Guide>(
-    alloc: Global,
-    problem: &Problem,
-    given: &GivenCells,
-    budget: u32,
-    propagator: &mut A,
-    guide: &mut G,
-) -> Result<Filled, AllocError>
-    requires budget { (1 ≤ budget) × (budget ≤ GREATEST_BUDGET) }
-    requires given { AreGivenIn problem.now given.now }
-    requires serves { A.serves propagator.old problem.now }
-    requires plain { HasPlainLeaves problem.now (A.leaves propagator.old) }
-    requires guide { G.serves guide.old problem.now None }
-    ensures found { IfOk result (IsFoundBehind problem.now given.now budget
-        (A.leaves propagator.old) (A.spent propagator.old)) }
-    ensures same { IsSame A.serves A.leaves A.spent propagator.old propagator.new }
-    ensures guide { (P : Instance) (g : Option ℕ) → G.serves guide.old P g ↔ G.serves guide.new P g }
-{
-    let mut progress = Progress::behind(alloc, problem, given, budget)?;
-    propagator.undone(progress.walk.domains());
-    let written = write_lines(
-        alloc,
-        problem,
-        propagator,
-        guide,
-        given.cells(),
-        &mut progress,
-    );
-    match written {
-        Ok(None) => {
-            let found = end_behind(alloc, problem, given, &progress);
-            drop(progress);
-            found
-        }
-        Ok(Some(roster)) => {
-            drop(progress);
-            Ok(Filled::Roster(roster))
-        }
-        Err(error) => {
-            drop(progress);
-            Err(error)
-        }
-    }
-}
-
-// Writes lines until the tree behind the splits on the given cells is whole or the budget is spent, or gives the roster
-// that it meets before. The guide is asked for one behind the first step.
+// Writes lines until they are one whole tree or the budget is spent, or gives the roster that it meets before. The guide
+// is asked for one behind the first step.
 fn write_lines<A: Propagator, G: Guide>(
     alloc: Global,
     problem: &Problem,
     propagator: &mut A,
     guide: &mut G,
-    given: &[GivenCell],
     progress: &mut Progress,
 ) -> Result<Option<Roster>, AllocError>
     requires searching { IsSearching problem.now A.serves A.tracks A.leaves propagator.old progress.old }
-    requires behind { IsBehind problem.now given.now progress.old }
     requires guide { G.serves guide.old problem.now progress.old.aim.goal }
     ensures searching { IfOk result (λ found. found ≡ None
         → IsSearching problem.now A.serves A.tracks A.leaves propagator.new progress.new) }
-    ensures behind { IfOk result (λ found. found ≡ None → IsBehind problem.now given.now progress.new) }
     ensures later { IfOk result (λ found. found ≡ None
         → IsLater problem.now (A.leaves propagator.old) (A.spent propagator.old) progress.old progress.new) }
-    ensures ended { IfOk result (λ found. found ≡ None → HasRoomBehind (length given.now) progress.new → ⊥) }
+    ensures ended { IfOk result (λ found. found ≡ None → HasRoom progress.new → ⊥) }
     ensures roster { IfOk result (λ found.
-        IfSome found (IsWantedBehind problem.now progress.old.aim.goal given.now)) }
+        IfSome found (IsWantedBehind problem.now progress.old.aim.opening progress.old.aim.goal)) }
     ensures same { IsSame A.serves A.leaves A.spent propagator.old propagator.new }
     ensures guide { (P : Instance) (goal : Option ℕ) → G.serves guide.old P goal ↔ G.serves guide.new P goal }
 {
     let mut arrival = Arrival::NewCase;
     let mut is_due = true;
-    while progress.goes_on(given.len()) {
+    while progress.goes_on() {
         progress.prove_domains();
         match step(alloc, problem, propagator, guide, &mut arrival, progress)? {
             Some(roster) => return Ok(Some(roster)),
             None => {}
         }
-        match asked_if_due(alloc, guide, given, progress, is_due)? {
+        match asked_if_due(alloc, guide, progress, is_due)? {
             Some(roster) => return Ok(Some(roster)),
             None => {}
         }
@@ -149,24 +96,21 @@ fn write_lines<A: Propagator, G: Guide>(
     Ok(None)
 }
 
-// The guide's roster that holds the given cells, if it is due and the tree behind the splits on them isn't whole.
+// The guide's roster, if it is due and the tree isn't whole.
 fn asked_if_due<G: Guide>(
     alloc: Global,
     guide: &mut G,
-    given: &[GivenCell],
     progress: &Progress,
     is_due: bool,
 ) -> Result<Option<Roster>, AllocError>
-    requires problem { (P : Instance) × (goal : Option ℕ) × G.serves guide.old P goal × BelongsTo P progress.now.walk.store }
+    requires problem { (P : Instance) × (goal : Option ℕ) × G.serves guide.old P goal
+        × OpeningFits P progress.now.aim.opening × GoalFits P progress.now.aim.opening goal }
     ensures wanted { IfOk result (λ found. (P : Instance) (goal : Option ℕ)
-        → G.serves guide.old P goal → IfSome found (IsWantedBehind P goal given.now)) }
+        → G.serves guide.old P goal → IfSome found (IsWantedBehind P progress.now.aim.opening goal)) }
     ensures guide { (P : Instance) (goal : Option ℕ) → G.serves guide.old P goal ↔ G.serves guide.new P goal }
 {
-    if !is_due {
-        return Ok(None);
-    }
-    if progress.is_open_behind(given.len()) {
-        asked_roster(alloc, guide, given, progress.walk.domains())
+    if is_due && progress.is_open() {
+        guide.roster(alloc, &progress.aim.opening)
     } else {
         Ok(None)
     }

@@ -2,7 +2,10 @@ pub mod Citing
 pub mod Descents
 pub mod InPlace
 pub mod Kept
+pub mod KeptParts
+pub mod Leaving
 pub mod Needs
+pub mod Rounds
 pub mod Stripped
 pub mod Strips
 pub mod Together

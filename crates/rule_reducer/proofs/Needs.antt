@@ -6,8 +6,7 @@ use Rattle.std.proofs.lemmas.List.Elements.{All-head, All-tail, Contains-get_or}
 use Rattle.rwsp_terms.specs.Instance.{Instance}
 use Rattle.rwsp_terms.proofs.Ascending.{Contains-cons}
 use Rattle.refutation_terms.specs.Log.{Log, Passes}
-use Rattle.refutation_terms.specs.Strip.{strip, StripsTo, DescendsTo, ReducesIn, IsReduced}
-use Rattle.refutation_log.specs.Needs.{NeedsEach}
+use Rattle.refutation_terms.specs.Strip.{strip, StripsTo, DescendsTo, ReducesIn, IsReduced, NeedsEachRule}
 use Rattle.rule_reducer.proofs.Kept.{not_longer, shorter}
 
 strips_no_longer : (P : Instance) (list : List ℕ) (g h : Log) → StripsTo P list g h → length h.named ≤ length g.named
@@ -58,12 +57,12 @@ reversed_holds R n c =
 pub descent_drops : (P : Instance) (g h : Log) → DescendsTo P g h → (h ≡ g) ⊎ (length h.named < length g.named)
 descent_drops P g h s = unchanged_or_less P (reverse g.named) g h (reversed_within g.named) s
 
-last_needs : (P : Instance) (g : Log) → DescendsTo P g g → NeedsEach P g
+last_needs : (P : Instance) (g : Log) → DescendsTo P g g → NeedsEachRule P g
 last_needs P g s = λ n c passes. none_to_drop P (reverse g.named) g (reversed_within g.named) s n (reversed_holds g.named n c) passes
 
-steps_need : (P : Instance) (n : ℕ) (g h : Log) → ReducesIn P n g h → NeedsEach P h
-steps_need P zero g h r = subst (NeedsEach P) r.1 (last_needs P g r.0)
+steps_need : (P : Instance) (n : ℕ) (g h : Log) → ReducesIn P n g h → NeedsEachRule P h
+steps_need P zero g h r = subst (NeedsEachRule P) r.1 (last_needs P g r.0)
 steps_need P (suc n) g h r = steps_need P n r.0 h r.3
 
-pub needs_each : (P : Instance) (g h : Log) → IsReduced P g h → NeedsEach P h
+pub needs_each : (P : Instance) (g h : Log) → IsReduced P g h → NeedsEachRule P h
 needs_each P g h r = steps_need P r.0 g h r.1

@@ -135,6 +135,7 @@ fits_still P n g fits = record {
   named = rules_stay P n g.named fits.named;
   opening = fits.opening;
   goal = fits.goal;
+  counts = fits.counts;
   lines = λ k line got.
       let old = line_before P n g.lines k line got in
       subst (LineFits P g.goal g.counts) old.2 (line_fits_still P n g.goal g.counts old.0 (fits.lines k old.0 old.1));

@@ -17,10 +17,10 @@ use Rattle.refutation_terms.specs.WordsLeaf.{IsTooLight}
 use Rattle.refutation_terms.specs.Tree.{IsTree, domains_at}
 use Rattle.refutation_terms.specs.Log.{Log, LineFits, Fits, Holds, Cites, ListsShortOnly, Passes}
 use Rattle.refutation_terms.specs.Ranges.{AreRules, HasWeight}
-use Rattle.refutation_terms.specs.Strip.{without_rule, without_day, strip_line, strip}
+use Rattle.refutation_terms.specs.Strip.{without_rule, without_day, strip_line, strip, NeedsEachRule}
 use Rattle.refutation_terms.proofs.Windows.{clean-fewer}
 use Rattle.refutation_log.proofs.CitedRules.{rule_there}
-use Rattle.refutation_log.specs.Needs.{NeedsEach, NeedsTogether, NamesWindowRule, strip_all}
+use Rattle.refutation_log.specs.Needs.{NeedsTogether, NamesWindowRule, strip_all}
 use Rattle.rule_reducer.proofs.Kept.{was_listed, still_listed}
 use Rattle.rule_reducer.proofs.Strips.{tree_stays, domains_stay, line_after, line_before, fits_still}
 
@@ -132,7 +132,7 @@ passes_with_all P (n ∷ rest) g laid windows passes =
     passes_with P n g laid (All-head (IsWindowRule P) n rest windows)
     (passes_with_all P rest (strip P n g) (laid_out_still P n g laid) (All-tail (IsWindowRule P) n rest windows) passes)
 
-pub needs_together : (P : Instance) (g : Log) → NeedsEach P g → Passes P g → NeedsTogether P g
+pub needs_together : (P : Instance) (g : Log) → NeedsEachRule P g → Passes P g → NeedsTogether P g
 needs_together P g needs passes [] some named stripped = some refl
 needs_together P g needs passes (n ∷ rest) some named stripped =
     let windows : All (IsWindowRule P) (n ∷ rest) = All-weaker (NamesWindowRule P g) (IsWindowRule P) (λ k h. h.1) (n ∷ rest) named in

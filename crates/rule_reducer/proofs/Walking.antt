@@ -20,7 +20,8 @@ use Rattle.refutation_checker.specs.LineTexts.{Judging}
 use Rattle.refutation_checker.proofs.Passing.{no_front, still_part}
 use Rattle.domain_store.specs.States.{State, IsStateOf}
 use Rattle.rule_reducer.specs.Citing.{HasList}
-use Rattle.rule_reducer.specs.Without.{judging, HoldsWithout, TellsWithout}
+use Rattle.refutation_checker.specs.LogVerdicts.{judging_of}
+use Rattle.rule_reducer.specs.Without.{HoldsWithout, TellsWithout}
 use Rattle.rule_reducer.proofs.Stripped.{line_without}
 
 -- the domains behind the first lines
@@ -43,7 +44,7 @@ goal_fits P o None fits = tt
 goal_fits P o (Some goal) fits = (refl, fits.1, fits.2)
 
 -- a judge of the rules and of the terms of a log
-pub same_judging : (P : Instance) (g : Log) (J : Judging) (named : List ℕ) (goal : Option ℕ) (counts : Bool) → J ≡ record { problem = P; named = named; goal = goal; counts = counts } → named ≡ g.named → goal ≡ g.goal → counts ≡ g.counts → J ≡ judging P g
+pub same_judging : (P : Instance) (g : Log) (J : Judging) (named : List ℕ) (goal : Option ℕ) (counts : Bool) → J ≡ record { problem = P; named = named; goal = goal; counts = counts } → named ≡ g.named → goal ≡ g.goal → counts ≡ g.counts → J ≡ judging_of P g
 same_judging P g J named goal counts is rules goals counting =
     let with_rules : List ℕ → Judging = λ R. record { problem = P; named = R; goal = goal; counts = counts } in
     let with_goal : Option ℕ → Judging = λ o. record { problem = P; named = g.named; goal = o; counts = counts } in
@@ -102,14 +103,14 @@ refused_there P n g i line here fails passes =
     fails (subst (λ D. Holds P g.goal D (strip_line P n line)) (sym (behind P g.opening g.lines i)) (line_without P n g i line here passes))
 
 pub tells_refusal : (P : Instance) (n : ℕ) (g : Log) (i : ℕ) (line : Line) (w : State) (b : Bool) → slice_get g.lines i ≡ Some line → Passes P g → IsStateOf P g.opening (take i g.lines) w
-    → TellsWithout (judging P g) n line w b → b ≡ true → Passes P (strip P n g) → ⊥
+    → TellsWithout (judging_of P g) n line w b → b ≡ true → Passes P (strip P n g) → ⊥
 tells_refusal P n g i line w b here passes state tells so =
     let D = domains_at P g.opening (take i g.lines) (length (take i g.lines)) in
     refused_there P n g i line here
     (subst (λ t. MatchBool t (Holds P g.goal D (strip_line P n line) → ⊥) (Holds P g.goal D (strip_line P n line))) so (tells g.opening (take i g.lines) state (line_at P g i line here passes)))
 
 pub tells_hold : (P : Instance) (n : ℕ) (g : Log) (i : ℕ) (line : Line) (w : State) (b : Bool) → slice_get g.lines i ≡ Some line → Passes P g → IsStateOf P g.opening (take i g.lines) w
-    → TellsWithout (judging P g) n line w b → b ≡ false → HoldWithout P n g i → HoldWithout P n g (i + 1)
+    → TellsWithout (judging_of P g) n line w b → b ≡ false → HoldWithout P n g i → HoldWithout P n g (i + 1)
 tells_hold P n g i line w b here passes state tells no_refusal before =
     let D = domains_at P g.opening (take i g.lines) (length (take i g.lines)) in
     holds_more P n g i line here before

@@ -1,2 +1,4 @@
 pub mod Citing
+pub mod Leaving
+pub mod Kept
 pub mod Without

@@ -13,10 +13,6 @@ abbrev pub HoldsWithout : Instance → ℕ → Log → Type 0
 HoldsWithout P number g =
     (k : ℕ) (line : Line) → slice_get g.lines k ≡ Some line → HoldsAt P g k (strip_line P number line)
 
--- what the lines of the log are judged by
-abbrev pub judging : Instance → Log → Judging
-judging P g = record { problem = P; named = g.named; goal = g.goal; counts = g.counts }
-
 -- whether the line, where it holds behind the lines that the walk has read, doesn't hold there without the rule
 abbrev pub TellsWithout : Judging → ℕ → Line → State → Bool → Type 0
 TellsWithout J number line w fails =

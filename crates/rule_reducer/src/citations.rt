@@ -84,10 +84,10 @@ fn put_all(
 fn opening_citation(
     alloc: Global,
     problem: &Problem,
-    opening: Opening,
+    opening: &Opening,
 ) -> Result<RuleList, AllocError>
-    requires { OpeningFits problem.now opening }
-    ensures { IfOk result (λ rules. (r : Rule) → Names problem.now rules r ↔ OpeningCites opening r) }
+    requires { OpeningFits problem.now opening.now }
+    ensures { IfOk result (λ rules. (r : Rule) → Names problem.now rules r ↔ OpeningCites opening.now r) }
 {
     let mut rules = RuleList::new(alloc);
     put_opening_cited(&mut rules, problem, opening)?;

@@ -1,8 +1,10 @@
-//! Logs of refutations without the rules that they can do without.
+//! Logs of refutations without the rules and the given cells that they can do without.
 #![tactic(auto)]
 
+mod cells;
 mod citations;
 mod descent;
+mod fills;
 mod lists;
 mod numbered_rule;
 mod reducing;
@@ -11,5 +13,6 @@ mod shrinking_log;
 mod stripped_lines;
 mod stripping;
 
-pub use reducing::{reduce, reduce_in_place};
+pub use fills::reduce_fill;
+pub use reducing::{reduce, reduce_passing};
 pub use stripping::strip;

@@ -4,7 +4,8 @@ ghost use Rattle.rwsp_terms.specs.Rules.{rule_of};
 ghost use Rattle.refutation_terms.specs.Log.{Fits, LineFits, ListsShortOnly, Passes};
 ghost use Rattle.refutation_terms.specs.Strip.{strip};
 ghost use Rattle.domain_store.specs.States.{IsStateOf, IsWalkOf};
-ghost use Rattle.rule_reducer.specs.Without.{judging, HoldsWithout, TellsWithout};
+ghost use Rattle.refutation_checker.specs.LogVerdicts.{judging_of};
+ghost use Rattle.rule_reducer.specs.Without.{HoldsWithout, TellsWithout};
 
 use crate::numbered_rule::NumberedRule;
 use crate::shrinking_log::ShrinkingLog;
@@ -44,7 +45,7 @@ fn refuses(
 // A judge of the leaves of the log.
 fn judge_of<'a>(problem: &'a Problem, log: &'a ShrinkingLog) -> LeafJudge<'a>
     requires { Fits problem.now log.now }
-    ensures { result ≡ judging problem.now log.now }
+    ensures { result ≡ judging_of problem.now log.now }
 {
     LeafJudge::new(problem, log.named(), log.terms())
 }
@@ -146,7 +147,7 @@ fn first_refusing(
 ) -> Result<Option<usize>, AllocError>
     requires passes { Passes problem.now log.now }
     requires rule { rule_of problem.now dropped.number ≡ Some dropped.rule }
-    requires judge { judge.old ≡ judging problem.now log.now }
+    requires judge { judge.old ≡ judging_of problem.now log.now }
     requires walk { IsStateOf problem.now log.now.opening [] walk.old }
     ensures { IfOk result (λ found. MatchOption found
         (HoldsWithout problem.now dropped.number log.now)

@@ -66,10 +66,10 @@ impl ShrinkingLog {
     }
 
     /// What is known before its first line.
-    pub fn opening(&self) -> Opening
-        ensures { result ≡ self.now.opening }
+    pub fn opening(&self) -> &Opening
+        ensures { result.now ≡ self.now.opening }
     {
-        self.opening
+        &self.opening
     }
 
     /// What its lines may be, by its goal and by whether they may count blocks.

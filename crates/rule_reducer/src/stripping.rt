@@ -12,9 +12,9 @@ use rwsp_model::{Problem, number_of};
 use rwsp_terms::Rule;
 use std::alloc::{AllocError, Global};
 
-/// The log, with a goal or without, without a rule in its header and in the lists of leaves of words; the rule of a day
-/// also loses that day's weights. Leaves that aren't of words and cite the rule stay; so do the turn, the goal, and
-/// whether the log may count.
+/// The log without a rule in its header and in the lists of leaves of words; the rule of a day also loses that day's
+/// weights. Leaves that aren't of words and cite the rule stay; so do the opening, the goal, and whether the log may
+/// count.
 pub fn strip(alloc: Global, log: &Log, rule: Rule, problem: &Problem) -> Result<Log, AllocError>
     requires fits { Fits problem.now log.now }
     requires rule { IsRule problem.now rule }

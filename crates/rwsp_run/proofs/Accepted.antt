@@ -8,35 +8,36 @@ use Rattle.rwsp_terms.specs.declared.data.Symbol.{Symbol}
 use Rattle.rwsp_model.specs.Validity.{KeepsLimits}
 use Rattle.rwsp_model.proofs.Limits.{valid_keeps}
 use Rattle.rwsp_file.specs.Spelling.{SpellsProblem}
-use Rattle.refutation_terms.specs.declared.lines.LogKind.TheVariants.{WithoutGoal}
+use Rattle.refutation_terms.specs.declared.lines.LogKind.{LogKind}
+use Rattle.refutation_terms.specs.declared.lines.LogKind.TheVariants.{WithoutGoal, WithGoal, WithCells}
+use Rattle.refutation_terms.specs.declared.lines.Opening.{Opening}
 use Rattle.refutation_terms.specs.Log.{Log, Passes}
 use Rattle.refutation_terms.specs.LogText.{log_text}
-use Rattle.refutation_terms.specs.Verdict.{kind_by}
+use Rattle.refutation_terms.specs.Verdict.{kind_by, kind_of_log}
+use Rattle.refutation_terms.proofs.LogKinds.{no_goal}
+use Rattle.refutation_checker.specs.Accepted.{shown_by}
+use Rattle.rule_reducer.proofs.KeptParts.{reduced_keeps}
 use Rattle.refutation_terms.specs.FreeWeekends.{free_weekends}
 use Rattle.roster_print.specs.RosterText.{roster_text}
 use Rattle.roster_print.proofs.Printed.{printed_is_short, printed_is_spelled}
 use Rattle.refutation_log.specs.declared.best_found.BestFound.{BestFound}
 use Rattle.refutation_log.specs.declared.best_found.BestFound.TheVariants as Bests
-use Rattle.refutation_log.specs.FillText.{fill_text}
 use Rattle.crew_size.specs.Sizes.{IsSize}
 use Rattle.crew_size.specs.Texts.{staff_text}
 use Rattle.crew_size.proofs.Decided.{printed_accepted, accepted_decide}
 use Rattle.command_line.specs.declared.command.Command.TheVariants.{OnFiles}
 use Rattle.command_line.specs.declared.command.FilesTask.{FilesTask}
 use Rattle.command_line.specs.declared.command.FilesTask.TheVariants.{Check, Verify, CheckFree, CheckStaff, CheckFill}
-use Rattle.ways_out.proofs.Reduced.{reduced_goal}
 use Rattle.commands.specs.Files.{IsWithinLimit}
 use Rattle.commands.specs.Best.{IsBestAnswer}
 use Rattle.commands.specs.declared.second_file.SecondKind.TheVariants as Kinds
 use Rattle.commands.specs.declared.verify.Answer.TheVariants as Verifies
 use Rattle.commands.specs.declared.check.Answer.TheVariants as Checks
 use Rattle.commands.specs.declared.check_staff.Answer.TheVariants as StaffChecks
-use Rattle.commands.specs.declared.check_fill.Answer.TheVariants as FillChecks
-use Rattle.commands.proofs.Logs.{text_accepted}
-use Rattle.commands.proofs.Fills.{accepted, text_passes}
+use Rattle.commands.proofs.Logs.{text_accepted, with_goal}
 use Rattle.commands.proofs.Bests.{best_meets, below_goal}
 use Rattle.rwsp_run.specs.Commands.{IsFilesAnswer, second_kind, SuitsFilesTask}
-use Rattle.rwsp_run.specs.Laws.{RostersMeet, RefutationsAreAccepted, ReductionsAreAccepted, StaffTextsAreAccepted, BestRostersMeet, BestRostersAreBest, BestProofsAreAccepted, FilledRostersMeet, shown_by, FillLogsAreAccepted, IsProofOf, WorkersMakeNoDifference, AgreeInSearch, JobsAgree, IsAnswerOnFiles}
+use Rattle.rwsp_run.specs.Laws.{RostersMeet, RefutationsAreAccepted, ReductionsAreAccepted, StaffTextsAreAccepted, BestRostersMeet, BestRostersAreBest, BestProofsAreAccepted, FilledRostersMeet, FillLogsAreAccepted, IsProofOf, WorkersMakeNoDifference, AgreeInSearch, JobsAgree, IsAnswerOnFiles}
 use Rattle.rwsp_run.specs.declared.jobs.JobAnswer.{JobAnswer}
 use Rattle.rwsp_run.specs.declared.jobs.JobAnswer.TheVariants as Jobs
 use Rattle.rwsp_run.specs.declared.answer.Refusal.TheVariants.{Unfit, TooLong}
@@ -63,27 +64,25 @@ meets : (P : Instance) (file : List ℕ) (s : List Symbol) (a : Answer) → Spel
 meets P file s a spells right h =
     settled Verify P (roster_text P s) (Jobs.Verify Verifies.Meets) a (valid_keeps P spells.valid) refl (printed_is_short P s spells.valid right.is_roster) (λ y h. h) (s, printed_is_spelled P s spells.valid right.is_roster, right) h
 
--- a log without a goal that passes is accepted by `check`
-checks : (P : Instance) (file : List ℕ) (workers : ℕ) (g : Log) (a : Answer) → SpellsProblem file P → Passes P g → g.goal ≡ None → IsWithinLimit Kinds.Log (log_text P g) → IsAnswerOnFiles (Check workers) (Bytes (log_text P g)) P a → a ≡ Job (Jobs.Check (Checks.Accepted None g.named))
-checks P file workers g a spells passes none short h =
-    settled (Check workers) P (log_text P g) (Jobs.Check (Checks.Accepted None g.named)) a (valid_keeps P spells.valid) refl short (λ y h. h) (text_accepted P g None passes none) h
-
--- a log of the kind without a goal has none
-no_goal : (goal : Option ℕ) → kind_by goal ≡ WithoutGoal → goal ≡ None
-no_goal None is = refl
-no_goal (Some goal) is = absurd (cc)
+-- a log without a goal and without given cells that passes is accepted by `check`
+checks : (P : Instance) (file : List ℕ) (workers : ℕ) (g : Log) (a : Answer) → SpellsProblem file P → Passes P g → kind_of_log g ≡ WithoutGoal → IsWithinLimit Kinds.Log (log_text P g) → IsAnswerOnFiles (Check workers) (Bytes (log_text P g)) P a → (g.goal ≡ None) × (a ≡ Job (Jobs.Check (Checks.Accepted (shown_by g))))
+checks P file workers g a spells passes plain short h = (
+  no_goal g.opening g.goal plain,
+  settled (Check workers) P (log_text P g) (Jobs.Check (Checks.Accepted (shown_by g))) a (valid_keeps P spells.valid) refl short (λ y h. h) (text_accepted P WithoutGoal g plain passes) h,
+)
 
 pub rosters_meet : RostersMeet
 rosters_meet file P budget counts s a spells planned h = meets P file s.cells a spells planned.2.1.0.1 h
 
 pub refutations_accepted : RefutationsAreAccepted
-refutations_accepted file P budget workers counts g a spells planned short h = checks P file workers g a spells planned.2.1.0.0 planned.2.1.0.2.no_goal short h
+refutations_accepted file P budget workers counts g a spells planned short h = checks P file workers g a spells planned.2.1.0.0 planned.2.1.0.2.of_kind short h
 
 pub reductions_accepted : ReductionsAreAccepted
 reductions_accepted file P workers told g a spells reduced short h =
     let read = reduced.2.1.2.0 in
-    let none : g.goal ≡ None = reduced_goal P read.0 g read.2 ∙ no_goal read.0.goal read.1.of_kind in
-    checks P file workers g a spells reduced.2.1.2.1.passes none short h
+    let kept = reduced_keeps P read.0 g read.2 in
+    let plain : kind_of_log g ≡ WithoutGoal = ap (λ (o : Opening). kind_by o g.goal) kept.opening ∙ ap (λ (goal : Option ℕ). kind_by read.0.opening goal) kept.goal ∙ read.1.of_kind in
+    checks P file workers g a spells reduced.2.1.2.1.passes plain short h
 
 pub staff_accepted : StaffTextsAreAccepted
 staff_accepted file P low high budget counts run staffed a spells sizes answer decides short h =
@@ -115,7 +114,7 @@ proof_passes P budget goal counts (Bests.Undecided s g) h found proof = absurd p
 pub best_proofs_accepted : BestProofsAreAccepted
 best_proofs_accepted file P budget goal counts found g a spells best proof short h =
     let passes = proof_passes P budget goal counts found g best.2.1 proof in
-    settled CheckFree P (log_text P g) (Jobs.Check (Checks.Accepted (Some goal) g.named)) a (valid_keeps P spells.valid) best.2.0 short (λ y h. h) (text_accepted P g (Some goal) passes.0 passes.1) h
+    (passes.1, settled CheckFree P (log_text P g) (Jobs.Check (Checks.Accepted (shown_by g))) a (valid_keeps P spells.valid) best.2.0 short (λ y h. h) (text_accepted P WithGoal g (with_goal P g goal passes.0.grounded.fits passes.1) passes.0) h)
 
 -- what `fill` writes
 
@@ -124,10 +123,10 @@ filled_rosters_meet file P budget told s a spells filled h = meets P file s.cell
 
 -- what an answer of `fill` says of a refutation is that it passes, behind the cells that the second file gives
 pub fill_logs_accepted : FillLogsAreAccepted
-fill_logs_accepted file P budget told f a spells filled short h =
-    let text = fill_text P f in
-    let passes = filled.2.1.2.2.passes in
-    settled CheckFill P text (Jobs.CheckFill (FillChecks.Accepted (shown_by f))) a (valid_keeps P spells.valid) filled.2.0 short (λ y h. h) (accepted P text (shown_by f) (text_passes P f passes)) h
+fill_logs_accepted file P budget told g a spells filled short h =
+    let proof = filled.2.1.2.2 in
+    let of_kind : kind_of_log g ≡ WithCells = ap (λ (o : Opening). kind_by o g.goal) proof.gives.1 in
+    settled CheckFill P (log_text P g) (Jobs.Check (Checks.Accepted (shown_by g))) a (valid_keeps P spells.valid) filled.2.0 short (λ y h. h) (text_accepted P WithCells g of_kind proof.passes) h
 
 pub same_for_workers : WorkersMakeNoDifference
 same_for_workers m n name second told P (Refused (Unfit why)) h = h

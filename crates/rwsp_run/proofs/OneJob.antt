@@ -3,7 +3,7 @@ use Rattle.std.proofs.Common.{◌≡◌, ℕ, List, ap, refl, inl, inr}
 use Rattle.std.specs.Prelude.{◌⊎◌}
 use Rattle.rwsp_terms.specs.Instance.{Instance}
 use Rattle.rwsp_model.specs.Validity.{KeepsLimits}
-use Rattle.refutation_terms.specs.declared.lines.LogKind.TheVariants.{WithoutGoal, WithGoal}
+use Rattle.refutation_terms.specs.declared.lines.LogKind.TheVariants.{WithoutGoal, WithGoal, WithCells}
 use Rattle.command_line.specs.declared.command.ProblemTask.{ProblemTask}
 use Rattle.command_line.specs.declared.command.ProblemTask.TheVariants as ProblemTasks
 use Rattle.command_line.specs.declared.command.FilesTask.{FilesTask}
@@ -17,7 +17,7 @@ use Rattle.commands.proofs.Mends.{mends_agree}
 use Rattle.commands.proofs.Rests.{one_rest}
 use Rattle.commands.proofs.Pages.{one_page}
 use Rattle.commands.proofs.RosterAnswers.{one_taken}
-use Rattle.commands.proofs.Fills.{fills_agree, one_checked_fill}
+use Rattle.commands.proofs.Fills.{fills_agree}
 use Rattle.rwsp_run.specs.Commands.{IsProblemAnswer, IsFilesAnswer}
 use Rattle.rwsp_run.specs.Laws.{JobsAgree}
 use Rattle.rwsp_run.specs.declared.jobs.JobAnswer.{JobAnswer}
@@ -79,6 +79,6 @@ one_on_files FilesTasks.Roster P bytes a b limits h k = absurd h
 one_on_files (FilesTasks.Fill budget) P bytes (Jobs.Fill x) (Jobs.Fill y) limits h k = inr (fills_agree P bytes budget x y h k)
 one_on_files (FilesTasks.Fill budget) P bytes (Jobs.Fill x) b limits h k = absurd k
 one_on_files (FilesTasks.Fill budget) P bytes a b limits h k = absurd h
-one_on_files FilesTasks.CheckFill P bytes (Jobs.CheckFill x) (Jobs.CheckFill y) limits h k = inl (ap Jobs.CheckFill (one_checked_fill P bytes x y limits h k))
-one_on_files FilesTasks.CheckFill P bytes (Jobs.CheckFill x) b limits h k = absurd k
+one_on_files FilesTasks.CheckFill P bytes (Jobs.Check x) (Jobs.Check y) limits h k = inl (ap Jobs.Check (one_checked P WithCells bytes x y limits h k))
+one_on_files FilesTasks.CheckFill P bytes (Jobs.Check x) b limits h k = absurd k
 one_on_files FilesTasks.CheckFill P bytes a b limits h k = absurd h

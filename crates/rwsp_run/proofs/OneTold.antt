@@ -15,7 +15,7 @@ use Rattle.command_line.specs.declared.command.Command.{Command}
 use Rattle.command_line.proofs.OneForm.{one_form}
 use Rattle.commands.specs.declared.problem_file.Subject.{Subject}
 use Rattle.commands.proofs.ProblemFiles.{one_problem_refusal_told}
-use Rattle.commands.proofs.Told.{one_plan_told, one_best_told, one_staff_told, one_verify_told, one_check_told, one_check_staff_told, one_reduce_told, one_crew_told, one_mend_told, one_rest_told, one_page_told, one_ics_told, one_on_told, one_roster_told, one_fill_told, one_check_fill_told}
+use Rattle.commands.proofs.Told.{one_plan_told, one_best_told, one_staff_told, one_verify_told, one_check_told, one_check_staff_told, one_reduce_told, one_crew_told, one_mend_told, one_rest_told, one_page_told, one_ics_told, one_on_told, one_roster_told, one_fill_told}
 use Rattle.rwsp_run.specs.Commands.{IsJobTold, slips_behind}
 use Rattle.rwsp_run.specs.Told.{slips_told, IsRefusalTold, IsToldBy, IsSubjectFor}
 use Rattle.rwsp_run.specs.Laws.{WordsAreOne}
@@ -44,7 +44,6 @@ one_job P (Jobs.Ics a) text other limits h k = one_ics_told P a text other limit
 one_job P (Jobs.On a) text other limits h k = one_on_told P a text other limits h k
 one_job P (Jobs.Roster a) text other limits h k = one_roster_told P a text other limits h k
 one_job P (Jobs.Fill a) text other limits h k = one_fill_told P a text other limits h k
-one_job P (Jobs.CheckFill a) text other limits h k = one_check_fill_told P a text other limits h k
 
 -- and on a refusal
 one_refusal : (why : Refusal) (text other : List ℕ) → IsRefusalTold why text → IsRefusalTold why other → text ≡ other

@@ -9,13 +9,16 @@ use Rattle.refutation_terms.specs.declared.lines.Line.{Line}
 use Rattle.refutation_terms.specs.declared.lines.Line.TheVariants.{Closing}
 use Rattle.refutation_terms.specs.declared.lines.Leaf.TheVariants.{Blocks, Words}
 use Rattle.refutation_terms.specs.declared.lines.WordClaim.TheVariants.{Light}
+use Rattle.refutation_terms.specs.declared.lines.Opening.{Opening}
+use Rattle.refutation_terms.specs.declared.lines.Opening.TheVariants.{Full, Turned, Given}
 use Rattle.refutation_terms.specs.Log.{Log}
+use Rattle.refutation_checker.specs.declared.verdict.PassedLog.{PassedLog}
 use Rattle.refutation_terms.specs.Strip.{strip, StripsTo, ReducesIn, IsReduced}
 use Rattle.rule_reducer.proofs.Kept.{was_listed}
 use Rattle.plain_words.specs.declared.reason.Rosters.{Rosters}
 use Rattle.plain_words.specs.declared.reason.Rosters.TheVariants.{Every}
 use Rattle.plain_words.specs.Statements.{Statement, Leaves}
-use Rattle.plain_words.specs.LogTold.{IsSaidBy, accepted_statements, end_statement, is_open, rule_statement}
+use Rattle.plain_words.specs.LogTold.{IsSaidBy, accepted_statements, begin_statement, rosters_by, end_statement, is_open, rule_statement}
 use Rattle.plain_words.specs.Laws.{rule_in}
 use Rattle.plain_words.proofs.SaidLaws.{rules_said}
 use Rattle.commands.specs.Plan.{IsSaidShortly}
@@ -93,9 +96,17 @@ rules_in : (P : Instance) (R : List ℕ) → flat_map rule_in (map (rule_stateme
 rules_in P [] = refl
 rules_in P (k ∷ R) = ap (λ (l : List ℕ). k ∷ l) (rules_in P R)
 
-judged_rules : (P : Instance) (goal : Option ℕ) (R : List ℕ) → flat_map rule_in (accepted_statements P goal R) ≡ R
-judged_rules P goal [] = refl
-judged_rules P goal (k ∷ R) = rules_in P (k ∷ R)
+first_none : (o : Opening) (w : Rosters) (R : List ℕ) → rule_in (begin_statement o w R) ≡ []
+first_none (Given given) w R = refl
+first_none Full w [] = refl
+first_none Full w (k ∷ R) = refl
+first_none (Turned t) w [] = refl
+first_none (Turned t) w (k ∷ R) = refl
+
+judged_rules : (P : Instance) (o : Opening) (goal : Option ℕ) (R : List ℕ) → flat_map rule_in (accepted_statements P o goal R) ≡ R
+judged_rules P o goal R =
+    ap (λ (l : List ℕ). l ++ flat_map rule_in (map (rule_statement P None) R ++ [])) (first_none o (rosters_by goal) R) ∙ rules_in P R
 
 pub told_logs_judged : ToldLogsWereJudged
-told_logs_judged P kind bytes goal R is = (is.0.0, is.0.1, judged_rules P goal R ∙ sym is.0.3)
+told_logs_judged P kind bytes passed is =
+    (is.0.0, is.0.1, judged_rules P passed.opening passed.goal passed.named ∙ ap (λ (p : PassedLog). p.named) (sym is.0.2))

@@ -4,11 +4,10 @@ use Rattle.rwsp_terms.specs.declared.limits.TheConstants.{DAYS_OF_WEEK}
 use Rattle.rwsp_terms.specs.Instance.{Instance, symbol_of}
 use Rattle.rwsp_file.specs.Text.{problem_text}
 use Rattle.refutation_terms.specs.Log.{Log}
-use Rattle.refutation_terms.specs.declared.lines.LogKind.TheVariants.{WithoutGoal, WithGoal}
+use Rattle.refutation_terms.specs.declared.lines.LogKind.TheVariants.{WithoutGoal, WithGoal, WithCells}
 use Rattle.roster_print.specs.Said.{open_word}
 use Rattle.refutation_log.specs.declared.found.Found.TheVariants as Founds
 use Rattle.refutation_log.specs.declared.best_found.BestFound.TheVariants as Bests
-use Rattle.refutation_log.specs.declared.filled.Filled.TheVariants as Filleds
 use Rattle.crew_size.specs.declared.run.StaffEnd.{StaffEnd}
 use Rattle.crew_size.specs.declared.run.StaffEnd.TheVariants as Ends
 use Rattle.ways_out.specs.declared.answer.WaysOut.TheVariants as Ways
@@ -39,7 +38,6 @@ use Rattle.commands.specs.Ics.{IsIcsAnswer, ics_text, ics_status, IsIcsAnswerOf,
 use Rattle.commands.specs.On.{IsOnAnswer, on_text, on_status, IsOnAnswerOf, IsOnTold}
 use Rattle.commands.specs.Roster.{IsRosterAnswer, roster_answer_text, roster_status, IsRosterAnswerOf, IsRosterTold}
 use Rattle.commands.specs.Fill.{IsFillAnswer, fill_answer_text, fill_status, IsFillAnswerOf, IsFillTold}
-use Rattle.commands.specs.CheckFill.{IsCheckedFill, check_fill_text, check_fill_status, IsCheckedFillOf, IsCheckFillTold}
 use Rattle.commands.specs.declared.second_file.SecondKind.{SecondKind}
 use Rattle.commands.specs.declared.second_file.SecondKind.TheVariants as Kinds
 use Rattle.rwsp_run.specs.declared.answer.Unfit.{Unfit}
@@ -116,7 +114,7 @@ IsFilesAnswer (FilesTasks.Ics date days employee) P bytes (Jobs.Ics a) = IsIcsAn
 IsFilesAnswer (FilesTasks.On start date) P bytes (Jobs.On a) = IsOnAnswer P bytes start date a
 IsFilesAnswer FilesTasks.Roster P bytes (Jobs.Roster a) = IsRosterAnswer P bytes a
 IsFilesAnswer (FilesTasks.Fill budget) P bytes (Jobs.Fill a) = IsFillAnswer P bytes budget a
-IsFilesAnswer FilesTasks.CheckFill P bytes (Jobs.CheckFill a) = IsCheckedFill P bytes a
+IsFilesAnswer FilesTasks.CheckFill P bytes (Jobs.Check a) = IsChecked P WithCells bytes a
 IsFilesAnswer task P bytes answer = ⊥
 
 -- the text of an answer to a command on a problem
@@ -137,7 +135,6 @@ job_text P (Jobs.Ics a) = ics_text P a
 job_text P (Jobs.On a) = on_text P a
 job_text P (Jobs.Roster a) = roster_answer_text P a
 job_text P (Jobs.Fill a) = fill_answer_text P a
-job_text P (Jobs.CheckFill a) = check_fill_text P a
 
 -- what is told in words of an answer
 abbrev pub IsJobTold : Instance → JobAnswer → List ℕ → Type 0
@@ -157,7 +154,6 @@ IsJobTold P (Jobs.Ics a) text = IsIcsTold P a text
 IsJobTold P (Jobs.On a) text = IsOnTold P a text
 IsJobTold P (Jobs.Roster a) text = IsRosterTold P a text
 IsJobTold P (Jobs.Fill a) text = IsFillTold P a text
-IsJobTold P (Jobs.CheckFill a) text = IsCheckFillTold P a text
 
 -- which sentences about the problem stand behind what is told of a log: a log that counts blocks has shown a count
 abbrev pub slips_behind_log : Log → Telling
@@ -178,8 +174,8 @@ slips_behind (Jobs.Best (Bests.Undecided s g)) = Some WithCounts
 slips_behind (Jobs.Staff (Staffs.Run run)) = Some (slips_behind_run run.end)
 slips_behind (Jobs.Mend (Ways.Undecided g)) = Some WithCounts
 slips_behind (Jobs.Mend (Ways.Changes outcomes)) = Some WithCounts
-slips_behind (Jobs.Fill (Fills.Found (Filleds.NoRoster f))) = Some (slips_behind_log f.log)
-slips_behind (Jobs.Fill (Fills.Found (Filleds.Undecided f))) = Some WithCounts
+slips_behind (Jobs.Fill (Fills.Found (Founds.NoRoster g))) = Some (slips_behind_log g)
+slips_behind (Jobs.Fill (Fills.Found (Founds.Undecided g))) = Some WithCounts
 slips_behind answer = None
 
 -- what the answer names is the problem's
@@ -200,7 +196,6 @@ IsPrintable P (Jobs.Ics a) = IsIcsAnswerOf P a
 IsPrintable P (Jobs.On a) = IsOnAnswerOf P a
 IsPrintable P (Jobs.Roster a) = IsRosterAnswerOf P a
 IsPrintable P (Jobs.Fill a) = IsFillAnswerOf P a
-IsPrintable P (Jobs.CheckFill a) = IsCheckedFillOf P a
 
 -- the status where the text was written
 abbrev pub job_status : JobAnswer → ℕ
@@ -220,4 +215,3 @@ job_status (Jobs.Ics a) = ics_status a
 job_status (Jobs.On a) = on_status a
 job_status (Jobs.Roster a) = roster_status a
 job_status (Jobs.Fill a) = fill_status a
-job_status (Jobs.CheckFill a) = check_fill_status a

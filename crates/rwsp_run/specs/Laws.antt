@@ -19,10 +19,8 @@ use Rattle.roster_print.specs.RosterText.{roster_text}
 use Rattle.refutation_log.specs.declared.found.Found.TheVariants as Founds
 use Rattle.refutation_log.specs.declared.best_found.BestFound.{BestFound}
 use Rattle.refutation_log.specs.declared.best_found.BestFound.TheVariants as Bests
-use Rattle.refutation_log.specs.FillLog.{FillLog}
-use Rattle.refutation_log.specs.FillText.{fill_text}
-use Rattle.refutation_log.specs.declared.filled.Filled.TheVariants as Filleds
-use Rattle.refutation_checker.specs.declared.fill_verdict.PassedFill.{PassedFill}
+use Rattle.refutation_checker.specs.Accepted.{shown_by}
+use Rattle.refutation_checker.specs.declared.verdict.PassedLog.{PassedLog}
 use Rattle.crew_size.specs.Texts.{Staff as StaffRun, staff_text}
 use Rattle.crew_size.specs.Laws.{decision_of}
 use Rattle.crew_size.specs.declared.verdict.Staffed.{Staffed}
@@ -51,7 +49,6 @@ use Rattle.commands.specs.declared.check.Answer.TheVariants as Checks
 use Rattle.commands.specs.declared.check_staff.Answer.TheVariants as StaffChecks
 use Rattle.commands.specs.declared.reduce.Answer.TheVariants as Reductions
 use Rattle.commands.specs.declared.fill.Answer.TheVariants as Fills
-use Rattle.commands.specs.declared.check_fill.Answer.TheVariants as FillChecks
 use Rattle.rwsp_run.specs.Answers.{IsAnswer, IsAnswerOn, IsAnswerTo, IsAsked}
 use Rattle.rwsp_run.specs.Texts.{IsTextOf}
 use Rattle.rwsp_run.specs.Told.{IsToldOf}
@@ -141,23 +138,23 @@ RostersMeet =
     → IsAnswerOnFiles Verify (Bytes (job_text P (Jobs.Plan (Founds.Roster s)))) P a
     → a ≡ Job (Jobs.Verify Verifies.Meets)
 
--- the text of a refutation that `plan` writes is accepted by `check` over the same file, with the rules that it names
+-- the text of a refutation that `plan` writes is accepted by `check` over the same file, with what it shows
 abbrev pub RefutationsAreAccepted : Type 0
 RefutationsAreAccepted =
     (file : List ℕ) (P : Instance) (budget workers : ℕ) (counts : Bool) (g : Log) (a : Answer)
     → SpellsProblem file P → IsAnswerOnProblem (Plan budget counts) P (Job (Jobs.Plan (Founds.NoRoster g)))
     → IsWithinLimit Kinds.Log (job_text P (Jobs.Plan (Founds.NoRoster g)))
     → IsAnswerOnFiles (Check workers) (Bytes (job_text P (Jobs.Plan (Founds.NoRoster g)))) P a
-    → a ≡ Job (Jobs.Check (Checks.Accepted None g.named))
+    → (g.goal ≡ None) × (a ≡ Job (Jobs.Check (Checks.Accepted (shown_by g))))
 
--- the text of what `reduce` writes is accepted by `check`, with the rules that it names
+-- the text of what `reduce` writes is accepted by `check`, with what it shows
 abbrev pub ReductionsAreAccepted : Type 0
 ReductionsAreAccepted =
     (file : List ℕ) (P : Instance) (workers : ℕ) (told : Told) (h : Log) (a : Answer)
     → SpellsProblem file P → IsAnswerOnFiles Reduce told P (Job (Jobs.Reduce (Reductions.Reduced h)))
     → IsWithinLimit Kinds.Log (job_text P (Jobs.Reduce (Reductions.Reduced h)))
     → IsAnswerOnFiles (Check workers) (Bytes (job_text P (Jobs.Reduce (Reductions.Reduced h)))) P a
-    → a ≡ Job (Jobs.Check (Checks.Accepted None h.named))
+    → (h.goal ≡ None) × (a ≡ Job (Jobs.Check (Checks.Accepted (shown_by h))))
 
 -- the text of what `staff` writes with a least crew, or with none up to the last size, is accepted by `check-staff`,
 -- with what it decides
@@ -201,30 +198,26 @@ BestProofsAreAccepted =
     → SpellsProblem file P → IsAnswerOnProblem (Best budget counts) P (Job (Jobs.Best found))
     → IsProofOf found goal g → IsWithinLimit Kinds.Log (log_text P g)
     → IsAnswerOnFiles CheckFree (Bytes (log_text P g)) P a
-    → a ≡ Job (Jobs.Check (Checks.Accepted (Some goal) g.named))
+    → (g.goal ≡ Some goal) × (a ≡ Job (Jobs.Check (Checks.Accepted (shown_by g))))
 
 -- the text of a roster that `fill` writes for what a file spells meets every rule by `verify`
 abbrev pub FilledRostersMeet : Type 0
 FilledRostersMeet =
     (file : List ℕ) (P : Instance) (budget : ℕ) (told : Told) (s : Roster) (a : Answer)
     → SpellsProblem file P
-    → IsAnswerOnFiles (Fill budget) told P (Job (Jobs.Fill (Fills.Found (Filleds.Roster s))))
+    → IsAnswerOnFiles (Fill budget) told P (Job (Jobs.Fill (Fills.Found (Founds.Roster s))))
     → IsAnswerOnFiles Verify (Bytes (roster_text P s.cells)) P a
     → a ≡ Job (Jobs.Verify Verifies.Meets)
-
--- what an accepted fill log shows: its rules and its given cells
-abbrev pub shown_by : FillLog → PassedFill
-shown_by f = record { named = f.log.named; given = f.given }
 
 -- the text of a refutation that `fill` writes is accepted by `check-fill` over the same file, with the rules and the
 -- cells that it names
 abbrev pub FillLogsAreAccepted : Type 0
 FillLogsAreAccepted =
-    (file : List ℕ) (P : Instance) (budget : ℕ) (told : Told) (f : FillLog) (a : Answer)
+    (file : List ℕ) (P : Instance) (budget : ℕ) (told : Told) (g : Log) (a : Answer)
     → SpellsProblem file P
-    → IsAnswerOnFiles (Fill budget) told P (Job (Jobs.Fill (Fills.Found (Filleds.NoRoster f))))
-    → IsWithinLimit Kinds.Log (fill_text P f) → IsAnswerOnFiles CheckFill (Bytes (fill_text P f)) P a
-    → a ≡ Job (Jobs.CheckFill (FillChecks.Accepted (shown_by f)))
+    → IsAnswerOnFiles (Fill budget) told P (Job (Jobs.Fill (Fills.Found (Founds.NoRoster g))))
+    → IsWithinLimit Kinds.Log (log_text P g) → IsAnswerOnFiles CheckFill (Bytes (log_text P g)) P a
+    → a ≡ Job (Jobs.Check (Checks.Accepted (shown_by g)))
 
 -- the number of workers makes no difference to what is said of an answer
 abbrev pub WorkersMakeNoDifference : Type 0
@@ -239,10 +232,9 @@ ToldRulesAreNamed =
     → ArePlanStatements P (Founds.NoRoster g) statements → Contains (flat_map rule_in statements) k
     → Contains g.named k
 
--- what `check` and `check-free` tell as judged was judged: the bytes spell a log that passes, and it names the rules
+-- what `check`, `check-free` and `check-fill` tell as judged was judged: the bytes spell a log that passes, and it names the rules
 abbrev pub ToldLogsWereJudged : Type 0
 ToldLogsWereJudged =
-    (P : Instance) (kind : LogKind) (bytes : List ℕ) (goal : Option ℕ) (R : List ℕ)
-    → IsChecked P kind bytes (Checks.Accepted goal R)
+    (P : Instance) (kind : LogKind) (bytes : List ℕ) (passed : PassedLog) → IsChecked P kind bytes (Checks.Accepted passed)
     → (g : Log) × IsAccepted P kind bytes g
-    × (flat_map rule_in (check_statements P (Checks.Accepted goal R)) ≡ g.named)
+    × (flat_map rule_in (check_statements P (Checks.Accepted passed)) ≡ g.named)

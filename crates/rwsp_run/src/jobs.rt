@@ -16,7 +16,7 @@ use commands::{
 use crew_size::StaffEnd;
 use made_problems::LeastRest;
 use plain_words::Telling;
-use refutation_log::{BestFound, Filled, Found, Log, is_open_word_taken};
+use refutation_log::{BestFound, Found, Log, is_open_word_taken};
 use rwsp_file::print_problem;
 use rwsp_model::Problem;
 use rwsp_terms::limits::DAYS_OF_WEEK;
@@ -45,7 +45,6 @@ pub enum JobAnswer {
     On(on::Answer),
     Roster(roster::Answer),
     Fill(fill::Answer),
-    CheckFill(check_fill::Answer),
 }
 
 /// The kind of the task's second file.
@@ -217,12 +216,12 @@ pub fn answer_on_files<R: Threads + Sync, G: Gate>(
             Ok(JobAnswer::Roster(answer))
         }
         FilesTask::Fill { budget } => {
-            let answer = fill::job(alloc, problem, &bytes, budget)?;
+            let answer = fill::job(rt, alloc, problem, &bytes, budget, gate)?;
             Ok(JobAnswer::Fill(answer))
         }
         FilesTask::CheckFill => {
             let answer = check_fill::job(rt, alloc, problem, &bytes, gate)?;
-            Ok(JobAnswer::CheckFill(answer))
+            Ok(JobAnswer::Check(answer))
         }
     }
 }
@@ -249,7 +248,6 @@ pub fn text_of(alloc: Global, problem: &Problem, answer: &JobAnswer) -> Result<V
         JobAnswer::On(answer) => on::text(alloc, problem, answer),
         JobAnswer::Roster(answer) => roster::text(alloc, problem, answer),
         JobAnswer::Fill(answer) => fill::text(alloc, problem, answer),
-        JobAnswer::CheckFill(answer) => check_fill::text(alloc, problem, answer),
     }
 }
 
@@ -275,7 +273,6 @@ pub fn told_of(alloc: Global, problem: &Problem, answer: &JobAnswer) -> Result<V
         JobAnswer::On(answer) => on::told(alloc, problem, answer),
         JobAnswer::Roster(answer) => roster::told(alloc, problem, answer),
         JobAnswer::Fill(answer) => fill::told(alloc, problem, answer),
-        JobAnswer::CheckFill(answer) => check_fill::told(alloc, problem, answer),
     }
 }
 
@@ -291,10 +288,8 @@ pub fn slips_behind(answer: &JobAnswer) -> Option<Telling>
         JobAnswer::Best(BestFound::Undecided { .. }) => Some(Telling::WithCounts),
         JobAnswer::Staff(staff::Answer::Run(run)) => Some(slips_behind_run(run.end())),
         JobAnswer::Mend(WaysOut::Undecided(_) | WaysOut::Changes(_)) => Some(Telling::WithCounts),
-        JobAnswer::Fill(fill::Answer::Found(Filled::NoRoster(fill))) => {
-            Some(slips_behind_log(&fill.log))
-        }
-        JobAnswer::Fill(fill::Answer::Found(Filled::Undecided(_))) => Some(Telling::WithCounts),
+        JobAnswer::Fill(fill::Answer::Found(Found::NoRoster(log))) => Some(slips_behind_log(log)),
+        JobAnswer::Fill(fill::Answer::Found(Found::Undecided(_))) => Some(Telling::WithCounts),
         _ => None,
     }
 }
@@ -344,7 +339,6 @@ impl JobAnswer {
             JobAnswer::On(answer) => on::status(answer),
             JobAnswer::Roster(answer) => roster::status(answer),
             JobAnswer::Fill(answer) => fill::status(answer),
-            JobAnswer::CheckFill(answer) => check_fill::status(answer),
         }
     }
 }

@@ -1,5 +1,5 @@
 -- Lines of a table are read where they are spelled, and as what they say.
-use Rattle.std.proofs.Common.{◌≡◌, ◌≢◌, ℕ, suc, ◌+◌, ◌/◌, ◌%◌, ◌^◌, ◌<◌, ◌≤◌, List, [], ◌∷◌, ◌++◌, refl, ap, sym, ◌∙◌, subst, arith, inl, inr, Some, None, Bool, true, false, cond}
+use Rattle.std.proofs.Common.{◌≡◌, ◌≢◌, ℕ, suc, ◌+◌, ◌*◌, ◌/◌, ◌%◌, ◌^◌, ◌<◌, ◌≤◌, List, [], ◌∷◌, ◌++◌, refl, ap, sym, ◌∙◌, subst, arith, inl, inr, Some, None, Bool, true, false, cond}
 use Rattle.std.specs.Prelude.{All, ℤ, pos, negsuc}
 use Rattle.std.specs.List.{flat_map, list_all}
 use Rattle.std.specs.Str.{bytes_eq}
@@ -10,11 +10,12 @@ use Rattle.std.proofs.lemmas.Int.{ints}
 use Rattle.std.proofs.lemmas.Bool.{and_parts}
 use Rattle.std.proofs.lemmas.List.{append-nil}
 use Rattle.std.proofs.lemmas.List.Elements.{All-nil, All-cons, All-head, All-tail, All-weaker}
-use Rattle.rwsp_text.specs.Fields.{Words, Field, Word, Number, Name, Choice, Place, Rules, Weights, Values, AreInRange, spell, Says, read, ◌>>=◌, IsName, IsValue, NamedWeight, IsNamedWeight, numbers, week_and_day, either_word, weight_fields, is_visible, is_name, number_at, name_at, word_at, choice_at, place_at, rules_at, weights_at}
-use Rattle.rwsp_text.specs.Kinds.{Kind, IsLine, read_by, read_line, ClosesNumbers, ClosesWeights, AreReadable, IsFree, IsReadable, IsBlankless, AreBlankless, LinesAreRead, LinesSayOne, LinesAreBlankless}
+use Rattle.rwsp_text.specs.Fields.{Words, Field, Word, Number, Name, Choice, Place, Rules, Weights, Cells, Values, AreInRange, spell, Says, read, ◌>>=◌, IsName, IsValue, NamedWeight, IsNamedWeight, NamedCell, numbers, week_and_day, either_word, weight_fields, cell_fields, is_visible, is_name, number_at, name_at, word_at, choice_at, place_at, rules_at, weights_at, cells_at}
+use Rattle.rwsp_text.specs.Kinds.{Kind, IsLine, read_by, read_line, ClosesNumbers, ClosesLine, AreReadable, IsFree, IsReadable, IsBlankless, AreBlankless, LinesAreRead, LinesSayOne, LinesAreBlankless}
 use Rattle.rwsp_text.specs.Lines.{AreWords}
 use Rattle.rwsp_text.proofs.Printed.{ascii_digits_model}
 use Rattle.rwsp_text.proofs.Numerals.{bind_found, bind_only, no_number, if_true}
+use Rattle.rwsp_text.proofs.Cells.{IsNamedCell, cells_found, cells_only}
 use Rattle.rwsp_text.proofs.Words.{Stops, Ascend, ascend, number_at_found, number_at_only, seen_only, name_found, name_at_found, name_at_only, word_at_found, word_at_only, same_bytes, bytes_same, choice_found, choice_only, done_found, place_within, place_found, place_only, rules_found, rules_only, weights_found, weights_only}
 
 -- fields that are read are spelled
@@ -52,6 +53,11 @@ fields_found (Weights days greatest ∷ fields) make ws x e =
     let f = fields_found fields (λ v. make (b.0, v)) [] x b.2 in
     let y = weights_found days greatest ws b.0 b.1 in
     record { values = (b.0, f.values); keeps = (y.1, f.keeps); spelled = y.0 ∙ sym (append-nil (flat_map weight_fields b.0)) ∙ ap (λ us. flat_map weight_fields b.0 ++ us) f.spelled; made = f.made }
+fields_found (Cells weeks days ∷ fields) make ws x e =
+    let b = bind_found (cells_at weeks days ws) (λ c. read fields (λ v. make (c, v)) []) x e in
+    let f = fields_found fields (λ v. make (b.0, v)) [] x b.2 in
+    let c = cells_found weeks days ws b.0 b.1 in
+    record { values = (b.0, f.values); keeps = (c.1, f.keeps); spelled = c.0 ∙ sym (append-nil (flat_map (cell_fields days) b.0)) ∙ ap (λ us. flat_map (cell_fields days) b.0 ++ us) f.spelled; made = f.made }
 
 stops : (fields : List Field) (v : Values fields) → ClosesNumbers fields → Stops (spell fields v)
 stops [] v h = tt
@@ -62,8 +68,9 @@ stops (Choice one other ∷ fields) v h = absurd h
 stops (Place weeks days ∷ fields) v h = absurd h
 stops (Rules greatest ∷ fields) v h = absurd h
 stops (Weights days greatest ∷ fields) v h = absurd h
+stops (Cells weeks days ∷ fields) v h = absurd h
 
-closed : (fields : List Field) (v : Values fields) → ClosesWeights fields → spell fields v ≡ []
+closed : (fields : List Field) (v : Values fields) → ClosesLine fields → spell fields v ≡ []
 closed [] v h = refl
 closed (f ∷ fields) v h = absurd h
 
@@ -91,6 +98,11 @@ fields_only (Weights days greatest ∷ fields) make v s k =
     let none = closed fields v.1 s.0.2 in
     bind_only (weights_at days greatest (flat_map weight_fields v.0 ++ spell fields v.1)) (λ y. read fields (λ u. make (y, u)) []) v.0 (Some (make v))
     (ap (λ us. weights_at days greatest (flat_map weight_fields v.0 ++ us)) none ∙ ap (weights_at days greatest) (append-nil (flat_map weight_fields v.0)) ∙ weights_only days greatest v.0 s.0.0 s.0.1 k.0)
+    (ap (read fields (λ u. make (v.0, u))) (sym none) ∙ fields_only fields (λ u. make (v.0, u)) v.1 s.1 k.1)
+fields_only (Cells weeks days ∷ fields) make v s k =
+    let none = closed fields v.1 s.0.2 in
+    bind_only (cells_at weeks days (flat_map (cell_fields days) v.0 ++ spell fields v.1)) (λ c. read fields (λ u. make (c, u)) []) v.0 (Some (make v))
+    (ap (λ us. cells_at weeks days (flat_map (cell_fields days) v.0 ++ us)) none ∙ ap (cells_at weeks days) (append-nil (flat_map (cell_fields days) v.0)) ∙ cells_only weeks days v.0 s.0.0 s.0.1 k.0)
     (ap (read fields (λ u. make (v.0, u))) (sym none) ∙ fields_only fields (λ u. make (v.0, u)) v.1 s.1 k.1)
 
 -- no blank within
@@ -132,6 +144,18 @@ weights_blankless j g (e ∷ y) ws few some h rest =
       (name_blankless e.name here.1, (value_blankless g e.value some.0 some.1 here.2, weights_blankless j g y ws few some (All-tail (IsNamedWeight j g) e y h) rest)),
     )
 
+place_blankless : (weeks days p : ℕ) (ws : Words) → weeks < 10 ^ 19 → days < 10 ^ 19 → p < weeks * days → AreBlankless ws → AreBlankless (week_and_day days p ++ ws)
+place_blankless weeks days p ws some few less rest =
+    let in' = place_within weeks days p less in
+    (decimal_blankless (p / days + 1) (omega (arith, in'.0, some)), (decimal_blankless (p % days + 1) (omega (arith, in'.1, few)), rest))
+
+cells_blankless : (weeks days : ℕ) (cells : List NamedCell) (ws : Words) → weeks < 10 ^ 19 → days < 10 ^ 19 → All (IsNamedCell (weeks * days)) cells → AreBlankless ws → AreBlankless (flat_map (cell_fields days) cells ++ ws)
+cells_blankless weeks days [] ws some few h rest = rest
+cells_blankless weeks days (c ∷ cells) ws some few h rest =
+    let here = All-head (IsNamedCell (weeks * days)) c cells h in
+    place_blankless weeks days c.p (c.name ∷ (flat_map (cell_fields days) cells ++ ws)) some few here.0
+    (name_blankless c.name here.1, cells_blankless weeks days cells ws some few (All-tail (IsNamedCell (weeks * days)) c cells h) rest)
+
 chosen_blankless : (one other : List ℕ) (c : Bool) → is_name one ≡ true → is_name other ≡ true → IsBlankless (either_word one other c)
 chosen_blankless one other true a b = word_blankless one a
 chosen_blankless one other false a b = word_blankless other b
@@ -142,11 +166,10 @@ fields_blankless (Word word ∷ fields) v s k = (word_blankless word s.0, fields
 fields_blankless (Number least greatest ∷ fields) v s k = (decimal_blankless v.0 (omega (arith, k.0.1, s.0)), fields_blankless fields v.1 s.1 k.1)
 fields_blankless (Name ∷ fields) v s k = (name_blankless v.0 k.0, fields_blankless fields v.1 s k.1)
 fields_blankless (Choice one other ∷ fields) v s k = (chosen_blankless one other v.0 s.0.0 s.0.1, fields_blankless fields v.1 s.1 k)
-fields_blankless (Place weeks days ∷ fields) v s k =
-    let in' = place_within weeks days v.0 k.0 in
-    (decimal_blankless (v.0 / days + 1) (omega (arith, in'.0, s.0.0)), (decimal_blankless (v.0 % days + 1) (omega (arith, in'.1, s.0.1)), fields_blankless fields v.1 s.1 k.1))
+fields_blankless (Place weeks days ∷ fields) v s k = place_blankless weeks days v.0 (spell fields v.1) s.0.0 s.0.1 k.0 (fields_blankless fields v.1 s.1 k.1)
 fields_blankless (Rules greatest ∷ fields) v s k = numbers_blankless 0 greatest v.0 (spell fields v.1) s.0.0 (ascend greatest v.0 k.0) (fields_blankless fields v.1 s.1 k.1)
 fields_blankless (Weights days greatest ∷ fields) v s k = weights_blankless days greatest v.0 (spell fields v.1) s.0.0 s.0.1 k.0 (fields_blankless fields v.1 s.1 k.1)
+fields_blankless (Cells weeks days ∷ fields) v s k = cells_blankless weeks days v.0 (spell fields v.1) s.0.0 s.0.1 k.0.1 (fields_blankless fields v.1 s.1 k.1)
 
 -- tables
 

@@ -3,7 +3,9 @@ pub mod TextSteps
 pub mod TokenSteps
 pub mod Printed
 pub mod Numerals
+pub mod Rising
 pub mod Words
+pub mod Cells
 pub mod KindLaws
 pub mod LineLaws
 pub mod NextLines

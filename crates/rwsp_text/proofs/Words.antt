@@ -1,9 +1,8 @@
 -- What single words of a line are read as.
-use Rattle.std.proofs.Common.{◌≡◌, ◌≢◌, ℕ, zero, suc, ◌+◌, ◌-◌, ◌*◌, ◌/◌, ◌%◌, ◌^◌, ◌<◌, ◌≤◌, List, [], ◌∷◌, ◌++◌, length, get_or, refl, ap, sym, ◌∙◌, subst, arith, Option, Some, None, Bool, true, false, cond, not, ◌||◌, ◌==◌}
+use Rattle.std.proofs.Common.{◌≡◌, ◌≢◌, ℕ, zero, suc, ◌+◌, ◌-◌, ◌*◌, ◌/◌, ◌%◌, ◌^◌, ◌<◌, ◌≤◌, List, [], ◌∷◌, ◌++◌, length, refl, ap, sym, ◌∙◌, subst, arith, Option, Some, None, Bool, true, false, cond, not, ◌||◌, ◌==◌}
 use Rattle.std.specs.Prelude.{ℤ, All}
 use Rattle.std.specs.Option.{option_map}
 use Rattle.std.specs.List.{list_all, flat_map}
-use Rattle.std.specs.List.Sorted.{IsStrictlyIncreasing}
 use Rattle.std.specs.Str.{bytes_eq}
 use Rattle.std.specs.Fmt.{decimal, signed_decimal}
 use Rattle.std.proofs.Math.Nat.{div-lt_iff_lt-mul}
@@ -12,6 +11,7 @@ use Rattle.std.proofs.lemmas.Slice.Eq.{bytes_eq-Decides}
 use Rattle.std.proofs.lemmas.Bool.{ne_eqb, and_parts, and_from}
 use Rattle.std.proofs.lemmas.List.Elements.{All-nil, All-cons, All-head, All-tail}
 use Rattle.rwsp_text.specs.Fields.{Words, ◌>>=◌, IsName, NamedWeight, IsNamedWeight, Ascends, numbers, week_and_day, either_word, weight_fields, number_in, value_in, is_name, is_visible, number_at, name_at, word_at, choice_at, done_at, place_at, front_onto, rules_front, rules_at, weight_from, weight_of_words, weights_at}
+use Rattle.rwsp_text.proofs.Rising.{RisesFrom, increasing, rises}
 use Rattle.rwsp_text.proofs.Numerals.{if_some, if_true, mapped, bind_found, bind_only, number_found, number_only, value_found, value_only}
 
 abbrev pub pair_of : {A B : Type 0} → A → B → A × B
@@ -141,6 +141,16 @@ below_cells weeks days a b la lb =
     let e : (a + 1) * days ≡ a * days + days = omega arith in
     omega (arith, le, e, lb)
 
+-- a week and a day from 1 on write the position that they make
+pub place_spelled : (weeks days i j : ℕ) → 1 ≤ i → i ≤ weeks → 1 ≤ j → j ≤ days → ((i - 1) * days + (j - 1) < weeks * days) × (decimal i ∷ decimal j ∷ [] ≡ week_and_day days ((i - 1) * days + (j - 1)))
+place_spelled weeks days i j i_some i_few j_some j_few =
+    let a = i - 1 in
+    let b = j - 1 in
+    let less : b < days = omega (arith, j_some, j_few) in
+    let text : week_and_day days (a * days + b) ≡ decimal i ∷ decimal j ∷ [] =
+    place_text days a b less ∙ ap (λ n. decimal n ∷ decimal (b + 1) ∷ []) (omega (arith, i_some)) ∙ ap (λ n. decimal i ∷ decimal n ∷ []) (omega (arith, j_some)) in
+    (below_cells weeks days a b (omega (arith, i_some, i_few)) less, sym text)
+
 pub place_found : (weeks days p : ℕ) (ws rest : Words) → place_at weeks days ws ≡ Some (p, rest) → (p < weeks * days) × (ws ≡ week_and_day days p ++ rest)
 unfolding place_at
 place_found weeks days p ws rest h =
@@ -151,14 +161,12 @@ place_found weeks days p ws rest h =
     let a = week.0.0 - 1 in
     let b = day.0.0 - 1 in
     let same = same_pairs (a * days + b) p day.0.1 rest day.2 in
-    let less : b < days = omega (arith, d.0, d.1) in
-    let text : week_and_day days (a * days + b) ≡ decimal week.0.0 ∷ decimal day.0.0 ∷ [] =
-    place_text days a b less ∙ ap (λ n. decimal n ∷ decimal (b + 1) ∷ []) (omega (arith, w.0)) ∙ ap (λ n. decimal week.0.0 ∷ decimal n ∷ []) (omega (arith, d.0)) in (
-      subst (λ n. n < weeks * days) same.0 (below_cells weeks days a b (omega (arith, w.0, w.1)) less),
-      w.2 ∙ ap (λ us. decimal week.0.0 ∷ us) d.2 ∙ ap (λ t. t ++ day.0.1) (sym text) ∙ ap (λ n. week_and_day days n ++ day.0.1) same.0 ∙ ap (λ us. week_and_day days p ++ us) same.1,
+    let s = place_spelled weeks days week.0.0 day.0.0 w.0 w.1 d.0 d.1 in (
+      subst (λ n. n < weeks * days) same.0 s.0,
+      w.2 ∙ ap (λ us. decimal week.0.0 ∷ us) d.2 ∙ ap (λ t. t ++ day.0.1) s.1 ∙ ap (λ n. week_and_day days n ++ day.0.1) same.0 ∙ ap (λ us. week_and_day days p ++ us) same.1,
     )
 
-back_to : (days p : ℕ) → (p / days + 1 - 1) * days + (p % days + 1 - 1) ≡ p
+pub back_to : (days p : ℕ) → (p / days + 1 - 1) * days + (p % days + 1 - 1) ≡ p
 back_to days p =
     let e : p / days + 1 - 1 ≡ p / days = omega arith in
     let f : p % days + 1 - 1 ≡ p % days = omega arith in
@@ -220,38 +228,28 @@ rules_only_by high last (n ∷ R) rest small a s =
     ap (λ o. front_onto o (λ m. rules_front high m (numbers R ++ rest)) (decimal n ∷ (numbers R ++ rest))) (number_only (last + 1) high n a.0 a.1 small)
     ∙ ap (λ r. (n ∷ r.0, r.1)) (rules_only_by high n R rest small a.2 s)
 
-increases : (last high : ℕ) (R : List ℕ) → Ascend last high R → IsStrictlyIncreasing R
-increases last high [] a k less = absurd (omega (arith, less))
-increases last high (n ∷ []) a k less = absurd (omega (arith, less))
-increases last high (n ∷ m ∷ R) a zero less = omega (arith, a.2.0)
-increases last high (n ∷ m ∷ R) a (suc k) less =
-    let e : suc (k + 1) ≡ suc k + 1 = omega arith in
-    subst (λ i. get_or (m ∷ R) k 0 < get_or (n ∷ m ∷ R) i 0) e (increases n high (m ∷ R) a.2 k (omega (arith, less)))
+rise : (last high : ℕ) (R : List ℕ) → Ascend last high R → RisesFrom (last + 1) R
+rise last high [] a = tt
+rise last high (n ∷ R) a = (a.0, rise n high R a.2)
 
 in_range : (last high : ℕ) (R : List ℕ) → Ascend last high R → All (λ k. (0 < k) × (k ≤ high)) R
 in_range last high [] a = All-nil (λ k. (0 < k) × (k ≤ high))
 in_range last high (n ∷ R) a = All-cons (λ k. (0 < k) × (k ≤ high)) n R (omega (arith, a.0), a.1) (in_range n high R a.2)
 
-tail_increases : (n : ℕ) (R : List ℕ) → IsStrictlyIncreasing (n ∷ R) → IsStrictlyIncreasing R
-tail_increases n R h k less =
-    let e : suc k + 1 ≡ suc (k + 1) = omega arith in
-    subst (λ i. get_or R k 0 < get_or (n ∷ R) i 0) e (h (suc k) (omega (arith, less)))
-
-ascend_by : (last high : ℕ) (R : List ℕ) → (0 < length R → last < get_or R 0 0) → IsStrictlyIncreasing R → All (λ k. (0 < k) × (k ≤ high)) R → Ascend last high R
-ascend_by last high [] first up in' = tt
-ascend_by last high (n ∷ R) first up in' =
-    let f : last < n = first (omega arith) in
-    (omega (arith, f), (All-head (λ k. (0 < k) × (k ≤ high)) n R in').1, ascend_by n high R (λ some. up 0 (omega (arith, some))) (tail_increases n R up) (All-tail (λ k. (0 < k) × (k ≤ high)) n R in'))
+ascend_by : (last high : ℕ) (R : List ℕ) → RisesFrom (last + 1) R → All (λ k. (0 < k) × (k ≤ high)) R → Ascend last high R
+ascend_by last high [] up in' = tt
+ascend_by last high (n ∷ R) up in' =
+    (up.0, (All-head (λ k. (0 < k) × (k ≤ high)) n R in').1, ascend_by n high R up.1 (All-tail (λ k. (0 < k) × (k ≤ high)) n R in'))
 
 pub rules_found : (high : ℕ) (ws : Words) → (ws ≡ numbers (rules_at high ws).0 ++ (rules_at high ws).1) × Ascends high (rules_at high ws).0
 unfolding rules_at
 rules_found high ws =
     let f = rules_found_by high 0 ws in
     let R = (rules_front high 0 ws).0 in
-    (f.0, (increases 0 high R f.1, in_range 0 high R f.1))
+    (f.0, (increasing 1 R (rise 0 high R f.1), in_range 0 high R f.1))
 
 pub ascend : (high : ℕ) (R : List ℕ) → Ascends high R → Ascend 0 high R
-ascend high R h = ascend_by 0 high R (λ some. (h.1 0 0 some).0) h.0 h.1
+ascend high R h = ascend_by 0 high R (rises 1 R (λ some. (h.1 0 0 some).0) h.0) h.1
 
 pub rules_only : (high : ℕ) (R : List ℕ) (rest : Words) → high < 10 ^ 19 → Ascends high R → Stops rest → rules_at high (numbers R ++ rest) ≡ (R, rest)
 unfolding rules_at

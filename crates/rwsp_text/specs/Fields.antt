@@ -30,6 +30,11 @@ pub record NamedWeight : Type 0 where
 abbrev pub weight_fields : NamedWeight → Words
 weight_fields e = decimal e.day ∷ e.name ∷ signed_decimal e.value ∷ []
 
+-- a position and a name
+pub record NamedCell : Type 0 where
+  pub p : ℕ
+  pub name : List ℕ
+
 -- what a line may have
 pub data Field : Type 0 where
   -- this word
@@ -46,6 +51,8 @@ pub data Field : Type 0 where
   Rules : (greatest : ℕ) → Field
   -- weights, each on a day and not 0
   Weights : (days greatest : ℕ) → Field
+  -- names at ascending positions, each position written as its week and its day
+  Cells : (weeks days : ℕ) → Field
 
 -- what the fields hold, one behind the other
 abbrev pub Values : List Field → Type 0
@@ -57,6 +64,7 @@ Values (Choice one other ∷ fields) = Bool × Values fields
 Values (Place weeks days ∷ fields) = ℕ × Values fields
 Values (Rules greatest ∷ fields) = List ℕ × Values fields
 Values (Weights days greatest ∷ fields) = List NamedWeight × Values fields
+Values (Cells weeks days ∷ fields) = List NamedCell × Values fields
 
 -- a value of at most this size that isn't 0
 abbrev pub IsValue : ℕ → ℤ → Type 0
@@ -69,6 +77,10 @@ IsNamedWeight days greatest e = ((1 ≤ e.day) × (e.day ≤ days)) × IsName e.
 abbrev pub Ascends : ℕ → List ℕ → Type 0
 Ascends greatest R = IsStrictlyIncreasing R × All (λ k. (0 < k) × (k ≤ greatest)) R
 
+-- ascending positions, each with a name
+abbrev pub AreNamedCells : ℕ → List NamedCell → Type 0
+AreNamedCells count cells = IsStrictlyIncreasing (map (λ c. c.p) cells) × All (λ c. (c.p < count) × IsName c.name) cells
+
 -- each value is in its range
 abbrev pub AreInRange : (fields : List Field) → Values fields → Type 0
 AreInRange [] v = Unit {0}
@@ -79,6 +91,7 @@ AreInRange (Choice one other ∷ fields) v = AreInRange fields v.1
 AreInRange (Place weeks days ∷ fields) v = (v.0 < weeks * days) × AreInRange fields v.1
 AreInRange (Rules greatest ∷ fields) v = Ascends greatest v.0 × AreInRange fields v.1
 AreInRange (Weights days greatest ∷ fields) v = All (IsNamedWeight days greatest) v.0 × AreInRange fields v.1
+AreInRange (Cells weeks days ∷ fields) v = AreNamedCells (weeks * days) v.0 × AreInRange fields v.1
 
 -- one of two words
 abbrev pub either_word : List ℕ → List ℕ → Bool → List ℕ
@@ -88,6 +101,10 @@ either_word one other false = other
 -- the week and the day of a position, both from 1 on
 abbrev pub week_and_day : ℕ → ℕ → Words
 week_and_day days p = decimal (p / days + 1) ∷ decimal (p % days + 1) ∷ []
+
+-- a cell's week, its day and its name
+abbrev pub cell_fields : ℕ → NamedCell → Words
+cell_fields days c = week_and_day days c.p ++ (c.name ∷ [])
 
 abbrev pub numbers : List ℕ → Words
 numbers R = map decimal R
@@ -102,6 +119,7 @@ spell (Choice one other ∷ fields) v = either_word one other v.0 ∷ spell fiel
 spell (Place weeks days ∷ fields) v = week_and_day days v.0 ++ spell fields v.1
 spell (Rules greatest ∷ fields) v = numbers v.0 ++ spell fields v.1
 spell (Weights days greatest ∷ fields) v = flat_map weight_fields v.0 ++ spell fields v.1
+spell (Cells weeks days ∷ fields) v = flat_map (cell_fields days) v.0 ++ spell fields v.1
 
 -- Reading.
 
@@ -213,6 +231,26 @@ weights_at days greatest (d ∷ n ∷ []) = None
 weights_at days greatest (d ∷ n ∷ v ∷ ws) =
     weight_of_words days greatest d n v >>= (λ e. weights_at days greatest ws >>= (λ y. Some (e ∷ y)))
 
+-- the position of a week and a day, from this one on
+abbrev pub position_in : ℕ → ℕ → ℕ → List ℕ → List ℕ → Option ℕ
+position_in weeks days least week day =
+    number_in 1 weeks week >>= (λ i.
+    number_in 1 days day >>= (λ j.
+    within least (weeks * days) ((i - 1) * days + (j - 1))))
+
+-- all words as cells, from a position on
+abbrev pub cells_from : ℕ → ℕ → ℕ → Words → Option (List NamedCell)
+cells_from weeks days least [] = Some []
+cells_from weeks days least (week ∷ []) = None
+cells_from weeks days least (week ∷ day ∷ []) = None
+cells_from weeks days least (week ∷ day ∷ name ∷ ws) =
+    position_in weeks days least week day >>= (λ p.
+    (if is_name name then cells_from weeks days (p + 1) ws else None) >>= (λ later.
+    Some (record { p = p; name = name } ∷ later)))
+
+unfoldable pub cells_at : ℕ → ℕ → Words → Option (List NamedCell)
+cells_at weeks days ws = cells_from weeks days 0 ws
+
 -- what is made of the values of the fields, where the words are these fields
 abbrev pub read : {X : Type 0} → (fields : List Field) → (Values fields → X) → Words → Option X
 read [] make ws = done_at (make tt) ws
@@ -224,6 +262,7 @@ read (Choice one other ∷ fields) make ws = choice_at one other ws >>= (λ c. r
 read (Place weeks days ∷ fields) make ws = place_at weeks days ws >>= (λ p. read fields (λ v. make (p.0, v)) p.1)
 read (Rules greatest ∷ fields) make ws = read fields (λ v. make ((rules_at greatest ws).0, v)) (rules_at greatest ws).1
 read (Weights days greatest ∷ fields) make ws = weights_at days greatest ws >>= (λ y. read fields (λ v. make (y, v)) [])
+read (Cells weeks days ∷ fields) make ws = cells_at weeks days ws >>= (λ c. read fields (λ v. make (c, v)) [])
 
 -- the words write values in their ranges, and this is made of them
 pub record Says {X : Type 0} (fields : List Field) (make : Values fields → X) (ws : Words) (x : X) : Type 0 where

@@ -1,7 +1,7 @@
 -- Kinds of lines. A table lists the kinds of lines of a text.
 use Rattle.std.specs.Prelude.{◌≡◌, ◌⊎◌, ℕ, ◌<◌, ◌≤◌, ◌^◌, List, [], ◌∷◌, All, Option, Some, None, true, false, cond}
 use Rattle.std.specs.Str.{bytes_eq}
-use Rattle.rwsp_text.specs.Fields.{Words, Field, Word, Number, Name, Choice, Place, Rules, Weights, Values, Says, read, numeral, is_name, is_visible}
+use Rattle.rwsp_text.specs.Fields.{Words, Field, Word, Number, Name, Choice, Place, Rules, Weights, Cells, Values, Says, read, numeral, is_name, is_visible}
 
 -- a kind of line: its first word, the fields behind it, and what they say
 pub record Kind (X : Type 0) : Type 0 where
@@ -36,10 +36,10 @@ ClosesNumbers [] = Unit {0}
 ClosesNumbers (Word word ∷ fields) = numeral word ≡ None
 ClosesNumbers fields = ⊥
 
--- weights reach to the end of the line
-abbrev pub ClosesWeights : List Field → Type 0
-ClosesWeights [] = Unit {0}
-ClosesWeights fields = ⊥
+-- weights and cells reach to the end of the line
+abbrev pub ClosesLine : List Field → Type 0
+ClosesLine [] = Unit {0}
+ClosesLine fields = ⊥
 
 abbrev pub AreReadable : List Field → Type 0
 AreReadable [] = Unit {0}
@@ -51,7 +51,9 @@ AreReadable (Choice one other ∷ fields) =
 AreReadable (Place weeks days ∷ fields) = ((weeks < 10 ^ 19) × (days < 10 ^ 19)) × AreReadable fields
 AreReadable (Rules greatest ∷ fields) = ((greatest < 10 ^ 19) × ClosesNumbers fields) × AreReadable fields
 AreReadable (Weights days greatest ∷ fields) =
-    ((days < 10 ^ 19) × ((1 ≤ greatest) × (greatest < 10 ^ 19)) × ClosesWeights fields) × AreReadable fields
+    ((days < 10 ^ 19) × ((1 ≤ greatest) × (greatest < 10 ^ 19)) × ClosesLine fields) × AreReadable fields
+AreReadable (Cells weeks days ∷ fields) =
+    ((weeks < 10 ^ 19) × (days < 10 ^ 19) × ClosesLine fields) × AreReadable fields
 
 -- no kind of the table begins with the word
 abbrev pub IsFree : {X : Type 0} → List ℕ → List (Kind X) → Type 0

@@ -11,6 +11,8 @@ mod clean_words_tests;
 #[cfg(test)]
 mod demand_counts_tests;
 #[cfg(test)]
+mod filling_tests;
+#[cfg(test)]
 mod kept_cycle_tests;
 #[cfg(test)]
 mod nearest_weights_tests;
@@ -18,8 +20,6 @@ mod nearest_weights_tests;
 mod propagators_tests;
 #[cfg(test)]
 mod refutation_checker_tests;
-#[cfg(test)]
-mod roster_filler_tests;
 #[cfg(test)]
 mod roster_finder_tests;
 #[cfg(test)]

@@ -3,6 +3,7 @@ ghost use Rattle.std.specs.Prelude.{◌≡◌, IfOk, ℕ, None};
 ghost use Rattle.std.specs.Option.{IfSome};
 ghost use Rattle.rwsp_terms.specs.Instance.{Instance};
 ghost use Rattle.rwsp_terms.specs.Roster.{MeetsAll};
+ghost use Rattle.refutation_terms.specs.declared.lines.Opening.TheVariants.{Full};
 ghost use Rattle.domain_store.specs.Looks.{HasPlainLeaves};
 
 use clean_words::{Automaton, NoGate};
@@ -18,11 +19,15 @@ use std::thread::Threads;
 use test_helpers::{CROWDED_TWOS_IN_SIX, D_ON_DAY_1, D_ON_EITHER_DAY, problem_of};
 
 // A roster with any number of free weekends, within 100 splits and leaves.
-const ANY_ROSTER: Aim = Aim {
-    opening: Opening::Full,
-    goal: None,
-    budget: 100,
-};
+fn any_roster() -> Aim
+    ensures { result ≡ record { opening = Full; goal = None; budget = 100 } }
+{
+    Aim {
+        opening: Opening::Full,
+        goal: None,
+        budget: 100,
+    }
+}
 
 // A propagator that counts how often it looks, and how often it hears of a change.
 #[derive(Drop)]
@@ -98,7 +103,7 @@ impl<A: Propagator> Guide for ByLook<A> {
         }
     }
 
-    fn roster(&mut self, _alloc: Global, _doms: &Domains) -> Result<Option<Roster>, AllocError> {
+    fn roster(&mut self, _alloc: Global, _opening: &Opening) -> Result<Option<Roster>, AllocError> {
         Ok(None)
     }
 
@@ -118,7 +123,7 @@ fn found_by<A: Propagator>(
     ensures days { IfOk result (λ found. IfSome found (λ s. s.days ≡ problem.now.days)) }
     ensures meets { IfOk result (λ found. IfSome found (λ s. MeetsAll problem.now s.cells)) }
 {
-    match search(alloc, problem, ANY_ROSTER, propagator, &mut NoGuide)? {
+    match search(alloc, problem, any_roster(), propagator, &mut NoGuide)? {
         Found::Roster(roster) => Ok(Some(roster)),
         _ => Ok(None),
     }
@@ -137,7 +142,10 @@ impl Guide for BySearch {
         Ok(None)
     }
 
-    fn roster(&mut self, alloc: Global, _doms: &Domains) -> Result<Option<Roster>, AllocError> {
+    fn roster(&mut self, alloc: Global, opening: &Opening) -> Result<Option<Roster>, AllocError> {
+        if let Opening::Given(_) = opening {
+            return Ok(None);
+        }
         let mut propagator = reasons(alloc, &self.problem)?;
         found_by(alloc, &self.problem, &mut propagator)
     }
@@ -161,7 +169,7 @@ impl Guide for InOrder {
         Ok(None)
     }
 
-    fn roster(&mut self, _alloc: Global, _doms: &Domains) -> Result<Option<Roster>, AllocError> {
+    fn roster(&mut self, _alloc: Global, _opening: &Opening) -> Result<Option<Roster>, AllocError> {
         Ok(None)
     }
 
@@ -208,7 +216,7 @@ fn guided_end<A: Propagator, G: Guide>(
     requires plain { HasPlainLeaves problem.now (A.leaves propagator.old) }
     requires guide { G.serves guide.old problem.now None }
 {
-    let found = search(alloc, problem, ANY_ROSTER, propagator, guide)?;
+    let found = search(alloc, problem, any_roster(), propagator, guide)?;
     Ok(end_of(&found))
 }
 
@@ -232,7 +240,7 @@ fn unguided_end<A: Propagator>(
     requires serves { A.serves propagator.old problem.now }
     requires plain { HasPlainLeaves problem.now (A.leaves propagator.old) }
 {
-    let found = search(alloc, problem, ANY_ROSTER, propagator, &mut NoGuide)?;
+    let found = search(alloc, problem, any_roster(), propagator, &mut NoGuide)?;
     Ok(end_of(&found))
 }
 

@@ -74,8 +74,8 @@ const REDUCED: [(&[u8], &[u8], &[u8]); 4] = [
     ),
 ];
 
-fn reduced_text(alloc: Global, problem: &Problem, log: &Log) -> Result<Vec<u8>, Fail>
-    requires { Fits problem.now log.now }
+fn reduced_text(alloc: Global, problem: &Problem, log: Log) -> Result<Vec<u8>, Fail>
+    requires { Fits problem.now log }
 {
     let kept = reduce(alloc, problem, log)?;
     Ok(print_log(alloc, problem, &kept)?)
@@ -84,7 +84,7 @@ fn reduced_text(alloc: Global, problem: &Problem, log: &Log) -> Result<Vec<u8>, 
 fn reduced(alloc: Global, problem: &[u8], text: &[u8]) -> Result<Vec<u8>, Fail> {
     let problem = problem_of(alloc, problem)?;
     let log = log_of(alloc, &problem, text)?;
-    reduced_text(alloc, &problem, &log)
+    reduced_text(alloc, &problem, log)
 }
 
 #[test]
@@ -99,7 +99,7 @@ fn logs_are_reduced(rt: HostRuntime) -> Result<(), Fail> {
 // The line of an escape, and the word, for which the log isn't reduced.
 fn escape_from(alloc: Global, problem: &Problem, text: &[u8]) -> Result<(u32, Word), Fail> {
     let log = log_of(alloc, problem, text)?;
-    match reduce(alloc, problem, &log) {
+    match reduce(alloc, problem, log) {
         Err(Failure::Refused(LogRefusal::Escape(line, word))) => Ok((line, word)),
         _ => Err(Fail::from("no escape")),
     }

@@ -6,7 +6,7 @@ ghost use Rattle.rwsp_model.specs.RuleNumbers.{IsShortNumber};
 ghost use Rattle.refutation_terms.specs.Log.{Fits};
 ghost use Rattle.refutation_terms.specs.LogText.{log_text};
 ghost use Rattle.refutation_terms.specs.declared.lines.LogKind.TheVariants.{WithoutGoal};
-ghost use Rattle.refutation_terms.specs.Verdict.{kind_by};
+ghost use Rattle.refutation_terms.specs.Verdict.{kind_of_log};
 ghost use Rattle.rwsp_file.specs.Spelling.{SpellsProblem};
 ghost use Rattle.roster_print.specs.RosterText.{SpellsRoster};
 ghost use Rattle.domain_store.specs.Store.{BelongsTo, has_domain};
@@ -128,9 +128,9 @@ pub fn roster_of(alloc: Global, problem: &Problem, text: &[u8]) -> Result<Roster
     Ok(read_roster(alloc, problem, text)?)
 }
 
-/// The log without a goal that a text spells.
+/// The log that a text spells, without a goal and without given cells.
 pub fn log_of(alloc: Global, problem: &Problem, text: &[u8]) -> Result<Log, Fail>
-    ensures kind { IfOk result (λ log. kind_by log.goal ≡ WithoutGoal) }
+    ensures kind { IfOk result (λ log. kind_of_log log ≡ WithoutGoal) }
     ensures text { IfOk result (λ log. text.now ≡ log_text problem.now log) }
     ensures fits { IfOk result (λ log. Fits problem.now log) }
 {
@@ -144,7 +144,7 @@ pub fn log_of_kind(
     kind: LogKind,
     text: &[u8],
 ) -> Result<Log, Fail>
-    ensures kind { IfOk result (λ log. kind_by log.goal ≡ kind) }
+    ensures kind { IfOk result (λ log. kind_of_log log ≡ kind) }
     ensures text { IfOk result (λ log. text.now ≡ log_text problem.now log) }
     ensures fits { IfOk result (λ log. Fits problem.now log) }
 {

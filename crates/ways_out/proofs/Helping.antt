@@ -1,14 +1,13 @@
 -- What helps, and how far a search has come.
-use Rattle.std.proofs.Common.{◌≡◌, ℕ, ◌≤◌, List, Bool, true, false, refl, ap, sym, subst, ◌∙◌, Some, None}
-use Rattle.std.specs.Prelude.{Contains, Option, IsTrue, ◌↔◌}
+use Rattle.std.proofs.Common.{◌≡◌, ℕ, ◌≤◌, List, Bool, true, false, ap, sym, subst, ◌∙◌, Some}
+use Rattle.std.specs.Prelude.{Contains, IsTrue, ◌↔◌}
 use Rattle.rwsp_terms.specs.Instance.{Instance}
 use Rattle.rwsp_terms.specs.Rules.{rule_of}
 use Rattle.rwsp_model.proofs.Numbering.{one_number}
 use Rattle.refutation_terms.specs.Log.{Log, Passes}
-use Rattle.refutation_terms.specs.Laws.{HasGoal}
-use Rattle.refutation_terms.specs.Verdict.{kind_by, IsAccepted}
+use Rattle.refutation_terms.specs.Verdict.{kind_of_log, IsAccepted}
 use Rattle.refutation_terms.specs.declared.lines.LogKind.TheVariants.{WithoutGoal}
-use Rattle.refutation_terms.proofs.Sound.{passing_leaves_none}
+use Rattle.refutation_terms.proofs.LogKinds.{plain_leaves_none}
 use Rattle.refutation_terms.proofs.Named.{named-IsRule}
 use Rattle.roster_planner.specs.declared.effort.Effort.{Effort}
 use Rattle.ways_out.specs.declared.change.Change.{Change}
@@ -23,22 +22,17 @@ use Rattle.ways_out.proofs.Staying.{rosters_stay_further, other_rules_stay, rost
 pub none_nearer : (P : Instance) (change : Change) (m n : ℕ) → IsChange P change → m ≤ n → HasNone (loosened P change n) → HasNone (loosened P change m)
 none_nearer P change m n known le none = λ s meets. none s (rosters_stay_further P change m n s known le meets)
 
--- the rules of a log that passes leave no roster
-pub log_refutes : (P : Instance) (g : Log) → Passes P g → g.goal ≡ None → Refutes P g.named
-log_refutes P g passes none = λ s meets. passing_leaves_none P g s passes meets (subst (λ (o : Option ℕ). HasGoal o s) (sym none) tt)
+-- the rules of a log that passes, without a goal and without given cells, leave no roster
+pub log_refutes : (P : Instance) (g : Log) → Passes P g → kind_of_log g ≡ WithoutGoal → Refutes P g.named
+log_refutes P g passes kind = λ s meets. plain_leaves_none P g s passes kind meets
 
 -- so none meets all rules
 pub none_meets : (P : Instance) (named : List ℕ) → Refutes P named → HasNone P
 none_meets P named refutes = λ s meets. refutes s (record { is_roster = meets.is_roster; rules = λ r name. meets.rules r (named-IsRule P named r name) })
 
--- nor where the text of a log without a goal is accepted
-
-without_goal : (o : Option ℕ) → kind_by o ≡ WithoutGoal → o ≡ None
-without_goal None e = refl
-without_goal (Some n) e = absurd (cc)
-
+-- nor where the text of such a log is accepted
 pub accepted_refutes : (P : Instance) (text : List ℕ) (g : Log) → IsAccepted P WithoutGoal text g → HasNone P
-accepted_refutes P text g h = none_meets P g.named (log_refutes P g h.passes (without_goal g.goal h.of_kind))
+accepted_refutes P text g h = none_meets P g.named (log_refutes P g h.passes h.of_kind)
 
 -- a change of a rule that isn't named gives no roster
 pub unnamed_never : (P : Instance) (named : List ℕ) (change : Change) (number : ℕ) → IsChange P change → Refutes P named → rule_of P number ≡ Some (changed_rule change) → (Contains named number → ⊥) → HelpsNever P change

@@ -11,7 +11,6 @@ pub mod Zips
 pub mod Shares
 pub mod Agreeing
 pub mod AllOutcomes
-pub mod Reduced
 mod StillChanges
 mod OneSymbolEach
 mod Single

@@ -1,8 +1,11 @@
 // The ways out of a problem.
-ghost use Rattle.std.specs.Prelude.{◌≡◌, ◌≤◌, None, IfOk};
+ghost use Rattle.std.specs.Prelude.{◌≡◌, ◌≤◌, IfOk};
 ghost use Rattle.rwsp_terms.specs.declared.limits.TheConstants.{GREATEST_BUDGET, MOST_WORKERS};
 ghost use Rattle.refutation_terms.specs.Log.{Passes};
+ghost use Rattle.refutation_terms.specs.Verdict.{kind_of_log};
+ghost use Rattle.refutation_terms.specs.declared.lines.LogKind.TheVariants.{WithoutGoal};
 ghost use Rattle.ways_out.specs.Answers.{AreWaysOut, AreWaysOf};
+ghost use Rattle.ways_out.specs.Helping.{Refutes};
 
 use crate::answer::WaysOut;
 use crate::listed::changes_in;
@@ -12,27 +15,22 @@ use crate::together::shown_together;
 use clean_words::Gate;
 use refutation_log::{Found, Log};
 use roster_planner::{Effort, FEW_LINES};
-use rule_reducer::reduce_in_place;
-use rwsp_model::{Fail, Problem};
+use rule_reducer::reduce_passing;
+use rwsp_model::Problem;
 use std::alloc::{AllocError, Global};
 use std::thread::Threads;
 
-// A log that passes without the rules that it can do without.
+// What is left of a log that passes, without the rules that it can do without. Its rules show that there is no roster.
 fn reduced(alloc: Global, problem: &Problem, log: Log) -> Result<Log, AllocError>
     requires passes { Passes problem.now log }
-    requires no_goal { log.goal ≡ None }
-    ensures passes { IfOk result (Passes problem.now) }
-    ensures no_goal { IfOk result (λ g. g.goal ≡ None) }
+    requires kind { kind_of_log log ≡ WithoutGoal }
+    ensures { IfOk result (λ left. Refutes problem.now left.named) }
 {
-    problem.prove_limits();
-    match reduce_in_place(alloc, problem, log) {
-        Ok(reduced) => Ok(reduced),
-        Err(Fail::Refused(_)) => unreachable!(),
-        Err(Fail::Memory) => Err(AllocError),
-    }
+    let left = reduce_passing(alloc, problem, log)?;
+    Ok(left)
 }
 
-// The outcome of each change where the log shows that there is no roster.
+// The outcome of each change where the rules of the log show that there is no roster.
 fn outcomes_by_log<R: Threads + Sync, G: Gate>(
     rt: &R,
     alloc: Global,
@@ -40,8 +38,7 @@ fn outcomes_by_log<R: Threads + Sync, G: Gate>(
     log: &Log,
     workers: u32,
 ) -> Result<WaysOut, AllocError>
-    requires passes { Passes asked.problem.now log.now }
-    requires no_goal { log.now.goal ≡ None }
+    requires refutes { Refutes asked.problem.now log.now.named }
     requires budget { (1 ≤ asked.effort.budget) × (asked.effort.budget ≤ GREATEST_BUDGET) }
     requires workers { (1 ≤ workers) × (workers ≤ MOST_WORKERS) }
     ensures says { IfOk result (AreWaysOut asked.entry.problem.now asked.entry.effort) }

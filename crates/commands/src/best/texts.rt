@@ -6,7 +6,7 @@ ghost use Rattle.refutation_log.specs.declared.best_found.BestFound.TheVariants.
 ghost use Rattle.commands.specs.Best.{IsBestTold, counted_text, found_text, IsWeeklyRoster, IsRosterFound};
 
 use crate::telling::put_refuted;
-use plain_words::{put_log_told, put_weekends_told, rosters_by};
+use plain_words::{put_log_told, put_weekends_told, rosters_of};
 use refutation_log::{Log, print_log};
 use roster_checker::free_weekends;
 use roster_print::print_roster;
@@ -85,7 +85,7 @@ pub fn best_told(
 {
     let mut out = Vec::new(alloc);
     put_weekends_told(&mut out, problem, free_weekends(problem, roster))?;
-    put_log_told(&mut out, problem, rosters_by(proof.goal()), proof)?;
+    put_log_told(&mut out, problem, rosters_of(proof), proof)?;
     Ok(out)
 }
 
@@ -96,6 +96,6 @@ pub fn none_told(alloc: Global, problem: &Problem, log: &Log) -> Result<Vec<u8>,
 {
     let mut out = Vec::new(alloc);
     put_refuted(&mut out, problem, log)?;
-    put_log_told(&mut out, problem, rosters_by(log.goal()), log)?;
+    put_log_told(&mut out, problem, rosters_of(log), log)?;
     Ok(out)
 }

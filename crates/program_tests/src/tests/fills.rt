@@ -84,7 +84,7 @@ fn second_files_of_fill(rt: HostRuntime) -> Result<(), Fail> {
 }
 
 #[test]
-fn fill_logs(rt: HostRuntime) -> Result<(), Fail> {
+fn fill_logs_and_their_forms(rt: HostRuntime) -> Result<(), Fail> {
     let cases = [
         (TWO_DAYS, DAY_OFF, 0, "accepted: rules 7 cells 1 1 -\n"),
         (
@@ -118,6 +118,20 @@ fn fill_logs(rt: HostRuntime) -> Result<(), Fail> {
             5,
             FORM,
         ),
+    ];
+    for (problem, log, status, text) in cases {
+        let files = [("F", problem), ("G", log)];
+        assert!(rt;
+            line_ends(&rt, rt.alloc(), "check-fill F G", &files, status, text)?,
+            "{log}"
+        );
+    }
+    Ok(())
+}
+
+#[test]
+fn fill_logs_and_their_faults(rt: HostRuntime) -> Result<(), Fail> {
+    let cases = [
         (
             TWO_DAYS,
             "rwsp-fill 1\nrules 7\ncells 1 1 Q\nday 1 - over\n",

@@ -5,8 +5,7 @@ use Rattle.commands.proofs.check.checked.Goals as goal
 pub returns-in-Ok-clause-says : goal.returns-in-Ok-clause-says
 returns-in-Ok-clause-says g c =
     let passed = c.in-Ok.passed in
-    let log = c.in-Ok.ensures in
-    accepted c.args.problem.now c.args.log.kind c.args.log.bytes.now log.0 passed.goal passed.named log.1 log.3 log.2
+    accepted c.args.problem.now c.args.log.kind c.args.log.bytes.now passed c.in-Ok.ensures
 
 pub returns-in-Err-Refused-clause-own : goal.returns-in-Err-Refused-clause-own
 returns-in-Err-Refused-clause-own g c =

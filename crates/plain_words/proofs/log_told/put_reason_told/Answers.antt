@@ -7,6 +7,6 @@ lone_turn-requires-clause-fits c = (c.args.log.now.goal, c.args.log.now.counts, 
 
 pub returns : goal.returns
 returns c =
-    reason_told c.args.problem.now c.args.rosters c.args.log.now c.in_ok-lone.lone c.opening.result c.numbers-rules.result.now c.lines.result.now c.lines-2.result.now c.args.out.now.items _ _ _
-    c.opening.ensures (c.numbers-rules.ensures.value ∙ c.named.ensures) c.lines.ensures.value c.lines-2.ensures.value c.in_ok-lone.ensures.turn
-    c.in_ok-put_first_line.ensures c.in_ok-put_rules_told.ensures c.in_ok-put_counts_told.ensures
+    reason_told c.args.problem.now c.args.rosters c.args.log.now c.in_ok-lone.lone c.opening-opening.result.now c.numbers-rules.result.now c.lines.result.now c.lines-2.result.now c.args.out.now.items _ _ _
+    c.opening-opening.ensures (c.numbers-rules.ensures.value ∙ c.named.ensures) c.lines.ensures.value c.lines-2.ensures.value c.in_ok-lone.ensures.turn
+    c.in_ok-put_begin_line.ensures c.in_ok-put_rules_told.ensures c.in_ok-put_counts_told.ensures

@@ -18,6 +18,9 @@ put_logs_told-requires-clause-few c =
     let few = few_sizes c.args.problem.now c.args.run.now c.requires in
     omega (arith, few, ap length c.logs-logs.ensures, c.low-3.ensures)
 
+pub put_logs_told-requires-clause-fits : goal.put_logs_told-requires-clause-fits
+put_logs_told-requires-clause-fits c = rw (c.logs-logs.ensures, c.low-3.ensures) c.requires.logs
+
 pub returns : goal.returns
 returns c =
     staff_told c.args.problem.now c.args.run.now c.low-2.result c.low.result c.low-3.result c.logs-logs.result.now c.end.result.now c.args.out.now.items c.put_staff_end_told.new.out.items c.put_logs_told.new.out.items

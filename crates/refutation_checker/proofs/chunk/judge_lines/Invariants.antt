@@ -6,7 +6,7 @@ abbrev pub invariant-loop-bytes : goal.invariant-loop-bytes
 invariant-loop-bytes l = record {
   judge : l.judge ≡ l.fn.judge;
   state : IsSomewhere l.fn.judge.problem l.walk;
-  judged : JudgedSoFar l.fn.judge (record { walk = l.fn.walk; bytes = l.fn.bytes; first = l.fn.first; missing = l.fn.missing }) l.reader l.walk l.number l.left;
+  judged : JudgedSoFar l.fn.judge (record { walk = l.fn.walk; bytes = l.fn.bytes; first = l.fn.first }) l.reader l.walk l.number;
 }
 
 abbrev pub decreases-loop-bytes : goal.decreases-loop-bytes

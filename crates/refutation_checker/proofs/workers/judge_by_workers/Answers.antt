@@ -21,7 +21,7 @@ returns-in-Ok-answers g c o st =
     let are = answers_to J chunks answers c.args.all (Ok false) count
     (λ i less. let given = (c.in-Ok-answers.ensures.each i (Ok false) less).1 in subst (λ (s : Start). IsAnswerTo J s (get_or answers i (Ok false))) (sym (given.job_is c.args.all)) given.call.met) in
     let size = div_ceil (line_count c.args.all.bytes) c.args.workers in
-    let cut = subst (λ (K : Judging). StandsBehind K.problem o [] c.args.all → AreChunks K.problem K.goal K.counts o size [] c.args.all.bytes chunks) c.judging.view_is (c.in-Ok.ensures.chunks o) in
+    let cut = subst (λ (K : Judging). StandsBehind K.problem K.goal K.counts o [] c.args.all → AreChunks K.problem K.goal K.counts o size [] c.args.all.bytes chunks) c.judging.view_is (c.in-Ok.ensures.chunks o) in
     let some = some_left c.args.all.bytes c.all.inside.bytes.now c.if-is_empty.ensures (ap (λ (s : Start). s.bytes) c.all.view_is) in
     subst (λ (a : Answer). IsJudged J o [] c.args.all.bytes a) (sym c.joined.ensures)
     (joined J o size chunks answers [] c.args.all.bytes false are (cut st) some)

@@ -11,5 +11,5 @@ returns-in-Turned-clause-ok c =
 pub returns-in-Turned-clause-names : goal.returns-in-Turned-clause-names
 returns-in-Turned-clause-names c =
     let P = c.args.problem.now in
-    on_ok c.put_day_rule.result _ _ (names_added P _ _ (OpeningCites c.args.opening) (opening_numbered P c.args.opening c.requires))
+    on_ok c.put_day_rule.result _ _ (names_added P _ _ (OpeningCites c.args.opening.now) (opening_numbered P c.args.opening.now c.requires))
     (rw c.in-Turned.is (adds_cited P _ _ c.put_day_rule.result _ _ (day_cited P c.in-Turned.turn.day) c.put_day_rule.ensures.ok))

@@ -14,4 +14,4 @@ pub returns-clause-passes : goal.returns-clause-passes
 returns-clause-passes c =
     let g = c.new.ensures in
     log_passes c.args.problem.now c.in_ok-named.named c.args.opening c.args.terms.goal c.args.terms.counts c.args.leaf c.new.result
-    c.in_ok-named.ensures.rules c.in_ok-named.ensures.names c.requires.opening c.requires.leaf g.named g.opening g.goal g.counts (g.lines ∙ c.in_ok-lines.ensures)
+    c.in_ok-named.ensures.rules c.in_ok-named.ensures.names c.requires.opening c.requires.counts c.requires.leaf g.named g.opening g.goal g.counts (g.lines ∙ c.in_ok-lines.ensures)

@@ -9,7 +9,7 @@ pub returns-in_default : goal.returns-in_default
 returns-in_default c =
     let h = c.args.header.now in
     lines_end c.args.problem.now h.named h.opening h.goal h.counts _ _ c.loop-count.lines.items c.loop-count.count
-    (record { rules = c.requires.named; opening = c.requires.opening; goal_fits = c.requires.goal }) c.loop-count.invariant (omega arith) c.in_default.ensures.line
+    (record { rules = c.requires.named; opening = c.requires.opening; goal_fits = c.requires.goal; may_count = c.requires.counts }) c.loop-count.invariant (omega arith) c.in_default.ensures.line
 
 pub returns-in-Err : goal.returns-in-Err
 returns-in-Err c =
@@ -17,9 +17,9 @@ returns-in-Err c =
     let h = c.args.header.now in
     let terms = c.terms-terms.ensures in
     let first = rw (terms.goal, terms.counts) at c.lines_of_header-first.ensures.value in
-    fail_along c.in-Err.fail _ _ (IsTreeLineRefused P h.goal h.counts c.in-Some.bytes.now (c.lines_of_header-first.result + 1 + c.len.result)) (IsUnread P (kind_by h.goal) (header_text P h.named h.opening h.goal h.counts ++ c.args.reader.now))
+    fail_along c.in-Err.fail _ _ (IsTreeLineRefused P h.goal h.counts c.in-Some.bytes.now (c.lines_of_header-first.result + 1 + c.len.result)) (IsUnread P (kind_by h.opening h.goal) (header_text P h.named h.opening h.goal h.counts ++ c.args.reader.now))
     (λ why refused. line_unread P h.named h.opening h.goal h.counts _ _ c.in-Some.bytes.now _ c.loop-count.lines.items c.loop-count.count _ why
-    (record { rules = c.requires.named; opening = c.requires.opening; goal_fits = c.requires.goal }) c.loop-count.invariant (omega arith) c.in-Some.ensures.line.1 c.in-Some.ensures.end (omega (arith, first)) refused)
+    (record { rules = c.requires.named; opening = c.requires.opening; goal_fits = c.requires.goal; may_count = c.requires.counts }) c.loop-count.invariant (omega arith) c.in-Some.ensures.line.1 c.in-Some.ensures.end (omega (arith, first)) refused)
     (rw (terms.goal, terms.counts) at c.in-Err.ensures)
 
 pub loop-count-preserved : goal.loop-count-preserved
@@ -31,7 +31,7 @@ returns c =
     let h = c.args.header.now in
     record {
       tree = tree_read c.loop-count.lines.items c.loop-count.count c.loop-count.invariant.walk (omega arith);
-      read = is_read c.args.problem.now h.named h.opening h.goal h.counts _ _ c.loop-count.lines.items c.loop-count.count (record { rules = c.requires.named; opening = c.requires.opening; goal_fits = c.requires.goal }) c.loop-count.invariant;
+      read = is_read c.args.problem.now h.named h.opening h.goal h.counts _ _ c.loop-count.lines.items c.loop-count.count (record { rules = c.requires.named; opening = c.requires.opening; goal_fits = c.requires.goal; may_count = c.requires.counts }) c.loop-count.invariant;
       whole = c.loop-count.invariant.text;
       few = omega (arith, c.loop-count.invariant.short, c.requires.few);
     }

@@ -1,5 +1,5 @@
 use Rattle.refutation_log.proofs.HeaderLines.{goal_fits}
-use Rattle.refutation_log.proofs.FillRead.{answer_behind}
+use Rattle.refutation_log.proofs.LogLines.{answer_behind}
 use Rattle.refutation_log.proofs.read.read_log.Goals as goal
 
 pub log_behind-requires-clause-goal : goal.log_behind-requires-clause-goal

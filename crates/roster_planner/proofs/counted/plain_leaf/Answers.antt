@@ -11,7 +11,7 @@ use Rattle.roster_planner.proofs.counted.plain_leaf.Goals as goal
 pub returns : goal.returns
 returns c =
     let P = c.args.problem.now in
-    let o = c.args.opening in
+    let o = c.args.opening.now in
     let S = c.domains.result.now in
     let same : AreSame P (has_domain S) (opening P o) = at_first P o [] (has_domain S) (c.domains.ensures.has P o [] c.in_ok-walk.ensures.starts) in
     leaf_at_start P S o c.closing_leaf.result (some_cells P c.prove_limits.ensures) same (c.closing_leaf.ensures P S c.in_ok-look.ensures)

@@ -16,7 +16,7 @@ returns-then-is_whole c =
     let up : IsStrictlyIncreasing s.named = subst IsStrictlyIncreasing c.numbers.ensures.value c.numbers.ensures.ascends in
     passing_end P s c.new.result c.requires.written c.requires.allowed up
     ((c.is_whole-is_whole.ensures.tree P s.aim.opening s.lines.items c.requires.written.state).0 c.if-is_whole.true)
-    c.requires.few c.new.ensures.named c.new.ensures.opening c.new.ensures.goal c.new.ensures.counts c.new.ensures.lines
+    c.requires.few c.new.ensures.named c.new.ensures.opening c.new.ensures.goal (c.new.ensures.counts ∙ c.gives_cells-counts.ensures) c.new.ensures.lines
 
 pub new-requires-2-clause-tree : goal.new-requires-2-clause-tree
 new-requires-2-clause-tree c =
@@ -35,7 +35,7 @@ returns c =
     let some : 1 ≤ open_trees s.walk = some_open s.walk part in
     spent_end P s n c.new-2.result c.requires.written c.requires.allowed up
     (rest_ends s.lines.items n (c.open_count-count.ensures.trees (replicate n Unfinished) P s.aim.opening s.lines.items c.requires.written.state))
-    c.requires.few (c.requires.spent part) (omega (arith, some, c.open_count-count.ensures.value)) c.new-2.ensures.named c.new-2.ensures.opening c.new-2.ensures.goal c.new-2.ensures.counts (c.new-2.ensures.lines ∙ c.in_ok-leave_open.ensures)
+    c.requires.few (c.requires.spent part) (omega (arith, some, c.open_count-count.ensures.value)) c.new-2.ensures.named c.new-2.ensures.opening c.new-2.ensures.goal (c.new-2.ensures.counts ∙ c.gives_cells-counts.ensures) (c.new-2.ensures.lines ∙ c.in_ok-leave_open.ensures)
 
 pub new-requires-2-clause-few : goal.new-requires-2-clause-few
 new-requires-2-clause-few c =

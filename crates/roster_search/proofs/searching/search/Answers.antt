@@ -7,8 +7,7 @@ use Rattle.refutation_log.specs.declared.found.Found.{Found}
 use Rattle.roster_search.specs.declared.aim.Aim.{Aim}
 use Rattle.roster_search.specs.Founds.{IsFound, HasSpentBudget}
 use Rattle.roster_search.specs.Written.{IsEnded}
-use Rattle.roster_search.proofs.Finding.{IsBegun, found_by, undecided_small, begins_under_way}
-use Rattle.roster_search.proofs.Behind.{begins_behind, ended_whole}
+use Rattle.roster_search.proofs.Finding.{IsBegun, found_by, undecided_small, begins_under_way, ended_whole}
 use Rattle.roster_search.proofs.Reasons.{same_on, later_by, searching_on}
 use Rattle.roster_search.proofs.searching.search.Goals as goal
 
@@ -18,9 +17,6 @@ write_lines-written-requires-clause-searching g c =
     let begun = c.in_ok-progress.ensures in
     searching_on c.args.problem.now _ _ _ _ _ _ a a c.requires.serves c.requires.plain (rw (sym begun.aim) at c.requires.unweighed) c.undone.ensures.same refl
     (subst (g.A.Propagator.tracks c.undone.new.self) c.domains.ensures.value c.undone.ensures.tracks) (begins_under_way c.args.problem.now a begun.written begun.none)
-
-pub write_lines-written-requires-clause-behind : goal.write_lines-written-requires-clause-behind
-write_lines-written-requires-clause-behind g c = begins_behind c.args.problem.now c.in_ok-progress.progress c.in_ok-progress.ensures.written c.in_ok-progress.ensures.none
 
 pub returns-in-Ok-None-clause-found : goal.returns-in-Ok-None-clause-found
 returns-in-Ok-None-clause-found g c =

@@ -1,7 +1,6 @@
 use Rattle.std.proofs.Common.{ℕ, Option, ◌↔◌, ◌-◌, length}
 use Rattle.rwsp_terms.specs.Instance.{Instance}
 use Rattle.domain_store.specs.Looks.{IsSame}
-use Rattle.roster_search.specs.Behind.{IsBehind}
 use Rattle.roster_search.specs.Written.{IsSearching, IsLater}
 use Rattle.roster_search.proofs.searching.write_lines.Given as goal
 
@@ -10,7 +9,6 @@ invariant-loop-alloc g l =
     let A = g.A.Propagator in
     record {
       searching : IsSearching l.problem A.serves A.tracks A.leaves l.propagator l.progress;
-      behind : IsBehind l.problem l.given l.progress;
       later : IsLater l.problem (A.leaves l.fn.propagator) (A.spent l.fn.propagator) l.fn.progress l.progress;
       same : IsSame A.serves A.leaves A.spent l.fn.propagator l.propagator;
       guide : (P : Instance) (h : Option ℕ) → g.G.Guide.serves l.fn.guide P h ↔ g.G.Guide.serves l.guide P h;

@@ -3,7 +3,7 @@ use Rattle.rwsp_terms.specs.Rules.{rule_of}
 use Rattle.refutation_terms.specs.Log.{LineFits, ListsShortOnly}
 use Rattle.domain_store.specs.States.{IsStateOf}
 use Rattle.refutation_checker.specs.LineTexts.{Judging}
-use Rattle.rule_reducer.specs.Without.{judging}
+use Rattle.refutation_checker.specs.LogVerdicts.{judging_of}
 use Rattle.rule_reducer.proofs.Walking.{not_whole, line_at, line_read, walked_more, told_of, tells_refusal, tells_hold, holds_all}
 use Rattle.rule_reducer.proofs.refusing_lines.first_refusing.Goals as goal
 
@@ -39,7 +39,7 @@ returns-then-refused c =
     let refused = c.in_ok-refused.refused in
     let here = line_read g.lines _ i line c.lines-lines.ensures (omega (arith, ap length c.lines-lines.ensures)) c.index-lines-i.is in
     tells_refusal P c.args.dropped.number g i line c.loop-i.walk refused here c.requires.passes c.loop-i.invariant.walked
-    (told_of (judging P g) c.loop-i.judge c.args.dropped.number line c.loop-i.walk refused c.loop-i.invariant.same c.in_ok-refused.ensures.refuses) c.if-refused.true
+    (told_of (judging_of P g) c.loop-i.judge c.args.dropped.number line c.loop-i.walk refused c.loop-i.invariant.same c.in_ok-refused.ensures.refuses) c.if-refused.true
 
 pub go_past-requires-clause-part : goal.go_past-requires-clause-part
 go_past-requires-clause-part c =
@@ -69,7 +69,7 @@ loop-i-preserved c =
       same = c.refuses.ensures.same ∙ c.loop-i.invariant.same;
       walked = walked_more P g.opening g.lines i line c.go_past.new.walk here (c.in_ok-go_past.ensures P g.opening (take i g.lines) c.loop-i.invariant.walked);
       held = tells_hold P c.args.dropped.number g i line c.loop-i.walk refused here c.requires.passes c.loop-i.invariant.walked
-          (told_of (judging P g) c.loop-i.judge c.args.dropped.number line c.loop-i.walk refused c.loop-i.invariant.same c.in_ok-refused.ensures.refuses) c.if-refused.false c.loop-i.invariant.held;
+          (told_of (judging_of P g) c.loop-i.judge c.args.dropped.number line c.loop-i.walk refused c.loop-i.invariant.same c.in_ok-refused.ensures.refuses) c.if-refused.false c.loop-i.invariant.held;
     }
 
 pub returns : goal.returns

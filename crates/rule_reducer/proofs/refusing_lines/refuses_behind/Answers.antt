@@ -4,7 +4,8 @@ use Rattle.refutation_terms.specs.Log.{LineFits, ListsShortOnly, Passes}
 use Rattle.refutation_terms.specs.Strip.{strip}
 use Rattle.domain_store.specs.States.{IsStateOf}
 use Rattle.refutation_checker.specs.LineTexts.{Judging}
-use Rattle.rule_reducer.specs.Without.{judging, TellsWithout}
+use Rattle.refutation_checker.specs.LogVerdicts.{judging_of}
+use Rattle.rule_reducer.specs.Without.{TellsWithout}
 use Rattle.rule_reducer.proofs.Walking.{line_read, told_of, tells_refusal}
 use Rattle.rule_reducer.proofs.refusing_lines.refuses_behind.Goals as goal
 
@@ -40,5 +41,5 @@ returns c =
     IfOk-weaker c.refuses-refused.result
     (TellsWithout c.judge_of-judge.result n line walk)
     (λ yes. IsTrue yes → Passes P (strip P n g) → ⊥)
-    (λ yes told. tells_refusal P n g c.args.place line walk yes here c.requires.passes c.in_ok-walk.ensures (told_of (judging P g) c.judge_of-judge.result n line walk yes c.judge_of-judge.ensures told))
+    (λ yes told. tells_refusal P n g c.args.place line walk yes here c.requires.passes c.in_ok-walk.ensures (told_of (judging_of P g) c.judge_of-judge.result n line walk yes c.judge_of-judge.ensures told))
     c.refuses-refused.ensures.refuses

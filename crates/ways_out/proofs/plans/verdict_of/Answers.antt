@@ -7,4 +7,4 @@ returns-in-NoRoster g c =
     let P = loosened c.args.asked.now.problem.now c.args.change c.args.steps in
     let log = c.in-NoRoster.field-0 in
     let is = rw c.in-NoRoster.is at c.requires.plan in
-    none_meets P log.named (log_refutes P log is.0.0 is.0.2.no_goal)
+    none_meets P log.named (log_refutes P log is.0.0 is.0.2.of_kind)

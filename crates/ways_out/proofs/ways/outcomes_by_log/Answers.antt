@@ -6,19 +6,19 @@ use Rattle.ways_out.specs.Helping.{IsOutcome}
 use Rattle.ways_out.specs.Answers.{HasSteps}
 use Rattle.ways_out.specs.Changes.{changes}
 use Rattle.ways_out.proofs.Zips.{zip_weaker}
-use Rattle.ways_out.proofs.Helping.{log_refutes, none_meets, outcome_steps}
+use Rattle.ways_out.proofs.Helping.{none_meets, outcome_steps}
 use Rattle.ways_out.proofs.ways.outcomes_by_log.Goals as goal
 
 pub outcomes_of-requires-clause-refutes : goal.outcomes_of-requires-clause-refutes
 outcomes_of-requires-clause-refutes g c = λ world lifetimes s meets.
-    log_refutes c.args.asked.problem.now c.args.log.now c.requires.passes c.requires.no_goal s
+    c.requires.refutes s
     (subst (λ (named : List ℕ). Meets c.args.asked.problem.now named s) c.named.ensures meets)
 
 pub returns-clause-says : goal.returns-clause-says
 returns-clause-says g c =
     let P = c.args.asked.problem.now in
     let log = c.args.log.now in (
-      none_meets P log.named (log_refutes P log c.requires.passes c.requires.no_goal),
+      none_meets P log.named c.requires.refutes,
       subst (λ (cs : List Change). AllZip (IsOutcome P c.args.asked.effort) cs c.in_ok-outcomes.outcomes.items) (c.deref-3.ensures.value ∙ c.in_ok-changes.ensures.value) c.in_ok-outcomes.ensures,
     )
 

@@ -1,4 +1,0 @@
-pub mod Counting
-pub mod Kept
-pub mod Rounds
-pub mod Sharp
