@@ -14,7 +14,7 @@ pub record IsWindowOf (walk : Walk) (window : Window) : Type 0 where
   pub few : window.len ≤ LONGEST_WINDOW
   pub within : window.len ≤ walk.cells
 
--- its window is one of the walk, and its domains have the walk's days, symbols and nodes
+-- its window is one of the walk, and its domains have the walk's days and symbols
 pub record IsRewritingOf (walk : Walk) (rewriting : Rewriting) : Type 0 where
   pub window : IsWindowOf walk rewriting.window
   pub domains : AreDomainsFor walk rewriting.domains.now

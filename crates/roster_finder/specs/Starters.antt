@@ -11,6 +11,7 @@ pub record IsStarterOf (layer : SteadyLayer) (walk : Walk) (starter : Starter) :
   pub nodes : starter.closes.columns ≡ layer.nodes
   pub weekdays : starter.taken.rows ≡ walk.days
   pub steps : starter.taken.columns ≡ length layer.steps.items
+  pub begins : length starter.begins.items ≡ layer.nodes
 
 -- they have a share for each of the layer's steps on each day of the walk's weeks
 pub record AreSharesOf (layer : SteadyLayer) (walk : Walk) (shares : Shares) : Type 0 where

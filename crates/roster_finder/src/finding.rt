@@ -15,7 +15,6 @@ use crate::counters::Change;
 use crate::day_domains::DayDomains;
 use crate::demand::Demand;
 use crate::draft::Draft;
-use crate::given_narrowing::narrow;
 use crate::random::Random;
 use crate::rewriting::drawn_rewriting;
 use crate::setting::Setting;
@@ -23,6 +22,7 @@ use crate::shares::Shares;
 use crate::start::{Lead, Starter};
 use crate::steady_layer::SteadyLayer;
 use crate::window::Mover;
+use domain_store::Domains;
 use refutation_terms::{GivenCell, GivenCells};
 use roster_checker::{first_broken, free_weekends};
 use rwsp_model::{Problem, Roster};
@@ -137,7 +137,7 @@ struct Search<'a> {
 }
 
 impl<'a> Search<'a> {
-    // A search without a word yet. None where no walk can begin, or there are no shares.
+    // A search without a word yet. None where there is no walk, or there are no shares.
     fn new(
         setting: Setting<'a>,
         domains: &'a DayDomains,
@@ -146,9 +146,6 @@ impl<'a> Search<'a> {
         requires { AreDomainsOf setting domains.now }
     {
         if setting.layer.nodes == 0 || setting.layer.step_count() == 0 {
-            return Ok(None);
-        }
-        if !domains.has_beginning() {
             return Ok(None);
         }
         let mut random = Random::new();
@@ -409,12 +406,15 @@ fn roster_of(problem: &Problem, cells: Vec<Symbol>) -> Option<Roster>
 ///
 /// A fractional flow is found first, that is, how often each step of clean words is taken on each weekday in the mean
 /// (G. Dantzig and P. Wolfe's generation of columns, 1960). It is rounded to words that meet the demand nearly; windows
-/// of them are then rewritten, each by the clean word that fits best, until the demand is met. The same problem gives
+/// of them are then rewritten, each by the clean word that fits best, until the demand is met. Words are made within
+/// domains: the fewer symbols propagation has left there, the sooner one is a roster. The same problem and domains give
 /// the same answer each time.
 #[derive(Drop)]
 pub struct RosterFinder<'a> {
     problem: &'a Problem,
     layer: &'a SteadyLayer,
+    // None where it is known that there is no roster.
+    domains: Option<&'a Domains>,
     // No search goes on for longer.
     most: Patience,
 }
@@ -424,29 +424,59 @@ impl<'a> Model for RosterFinder<'a> {
 
     ghost Value = { Instance };
 
-    ghost use Rattle.std.specs.Prelude.{◌≡◌, ◌+◌};
+    ghost use Rattle.std.specs.Prelude.{◌≡◌, ◌+◌, IfSome};
     ghost use Rattle.rwsp_terms.specs.Instance.{shift_count};
+    ghost use Rattle.domain_store.specs.Store.{BelongsTo};
 
     ghost view = { λ f. f.problem.now };
 
-    ghost invariant = { λ f. f.layer.now.symbols ≡ shift_count f.problem.now + 1 };
+    ghost invariant = { λ f. (f.layer.now.symbols ≡ shift_count f.problem.now + 1)
+        × IfSome f.domains (λ d. BelongsTo f.problem.now d.now) };
 }
 
 impl<'a> RosterFinder<'a> {
     ghost use Rattle.std.specs.Prelude.{◌+◌};
     ghost use Rattle.rwsp_terms.specs.Instance.{shift_count};
+    ghost use Rattle.domain_store.specs.Store.{BelongsTo};
 
-    /// A search for rosters of the problem, over the layer of its words. No search goes on for longer than `most`,
-    /// whatever is asked for: a problem that is likely to have no roster gets little patience.
-    pub fn over(problem: &'a Problem, layer: &'a SteadyLayer, most: Patience) -> RosterFinder<'a>
-        requires { layer.now.symbols ≡ shift_count problem.now + 1 }
+    /// A search for rosters of the problem within the domains, over the layer of its words; without domains none is
+    /// found. No search goes on for longer than `most`, whatever is asked for: a problem that is likely to have no
+    /// roster gets little patience.
+    pub fn over(
+        problem: &'a Problem,
+        layer: &'a SteadyLayer,
+        domains: Option<&'a Domains>,
+        most: Patience,
+    ) -> RosterFinder<'a>
+        requires symbols { layer.now.symbols ≡ shift_count problem.now + 1 }
+        requires domains { IfSome domains (λ d. BelongsTo problem.now d.now) }
         ensures { result ≡ problem.now }
     {
         RosterFinder {
             problem,
             layer,
+            domains,
             most,
         }
+    }
+
+    /// The same search with at most this patience.
+    pub fn at_most(&self, most: Patience) -> RosterFinder<'a>
+        ensures { result ≡ self.now }
+    {
+        RosterFinder::over(
+            self.problem,
+            self.layer,
+            self.domains,
+            most.up_to(self.most),
+        )
+    }
+
+    /// The layer of the problem's words.
+    pub fn layer(&self) -> &SteadyLayer
+        ensures { result.now.symbols ≡ shift_count self.now + 1 }
+    {
+        self.layer
     }
 
     /// The problem.
@@ -467,6 +497,9 @@ impl<'a> RosterFinder<'a> {
         requires { 0 < free → self.now.days ≡ 7 }
         ensures { IfOk result (λ found. IfSome found (IsRosterWith self.now free)) }
     {
+        let Some(domains) = self.domains else {
+            return Ok(None);
+        };
         if self.problem.cells() < FEWEST_CELLS {
             return Ok(None);
         }
@@ -476,15 +509,15 @@ impl<'a> RosterFinder<'a> {
             layer: self.layer,
             demand: &demand,
         };
-        let domains = DayDomains::all(setting)?;
-        let Some(mut search) = Search::new(setting, &domains, self.most.cutting_turns())? else {
+        let days = DayDomains::of(setting, domains)?;
+        let Some(mut search) = Search::new(setting, &days, self.most.cutting_turns())? else {
             return Ok(None);
         };
         search.run(self.problem, free, patience.up_to(self.most))
     }
 
     /// A roster that meets every rule and holds each given cell, or None. None says nothing: another search may find
-    /// one. Costs at most some seconds.
+    /// one. It looks within the domains alone, so these had best leave the given cells nothing else.
     pub fn find_given(
         &self,
         alloc: Global,
@@ -494,35 +527,7 @@ impl<'a> RosterFinder<'a> {
         requires { AreGivenIn self.now given.now }
         ensures { IfOk result (λ found. IfSome found (IsRosterHolding self.now given.now)) }
     {
-        let found = self.search_behind(alloc, given, patience)?;
+        let found = self.find(alloc, 0, patience)?;
         Ok(holding(self.problem, given, found))
-    }
-
-    // What is found behind given cells.
-    fn search_behind(
-        &self,
-        alloc: Global,
-        given: &GivenCells,
-        patience: Patience,
-    ) -> Result<Option<Roster>, AllocError>
-        requires { AreGivenIn self.now given.now }
-        ensures { IfOk result (λ found. IfSome found (IsRosterWith self.now 0)) }
-    {
-        if self.problem.cells() < FEWEST_CELLS {
-            return Ok(None);
-        }
-        let demand = Demand::of(alloc, self.problem, 0)?;
-        let setting = Setting {
-            alloc,
-            layer: self.layer,
-            demand: &demand,
-        };
-        let mut domains = DayDomains::all(setting)?;
-        domains.give(given.cells());
-        narrow(setting, &mut domains)?;
-        let Some(mut search) = Search::new(setting, &domains, self.most.cutting_turns())? else {
-            return Ok(None);
-        };
-        search.run(self.problem, 0, patience.up_to(self.most))
     }
 }

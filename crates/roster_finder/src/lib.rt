@@ -10,8 +10,6 @@ mod day_domains;
 mod demand;
 mod draft;
 mod finding;
-mod given_narrowing;
-mod given_ways;
 mod heavy_word;
 mod laws;
 mod led_states;

@@ -4,7 +4,6 @@ ghost use Rattle.std.specs.Prelude.{◌≡◌, ◌+◌, ◌*◌, ◌<◌, ◌≤
 use crate::cost::{minus, plus, times};
 use crate::day_domains::DayDomains;
 use crate::draft::Draft;
-use crate::given_ways::mark_before;
 use crate::random::Random;
 use crate::setting::Setting;
 use crate::shares::{ONE_USE, Shares};
@@ -36,6 +35,9 @@ pub(crate) struct Starter {
     closes: Table<bool>,
     // By weekday and step: how often it was taken.
     taken: Table<i64>,
+    // By node: whether a walk may begin there. Where some days are settled, none begins again at a node from which none
+    // could be closed, since most can't then.
+    begins: Vec<bool>,
     ghost some_days: { 0 < closes.rows },
 }
 
@@ -52,6 +54,7 @@ impl Starter {
         Ok(Starter {
             closes: Table::new(alloc, walk.cells + 1, layer.nodes, false)?,
             taken: Table::new(alloc, walk.days, layer.step_count(), 0)?,
+            begins: vec![in alloc; true; layer.nodes]?,
         })
     }
 
@@ -73,35 +76,18 @@ impl Starter {
         ensures starter { IsStarterOf layer.now draft.new.walk self.new }
     {
         for _ in 0..DRAWS {
-            let first = drawn_node(layer, lead, random);
-            self.mark_closing(layer, lead.domains, first);
+            let first = drawn_node(layer, lead.shares, &self.begins, random);
+            mark_closing(&mut self.closes, layer, lead.domains, first);
             if self.closes.at(0, first) {
                 self.write(layer, lead, draft, random, first);
                 draft.count_all();
                 return true;
             }
+            if lead.domains.open().len() < draft.walk.cells {
+                self.begins[first] = false;
+            }
         }
         false
-    }
-
-    // Marks on each day the nodes from which the first node is reached in the end.
-    // Costs a look at each step on each day.
-    fn mark_closing(&mut self, layer: &SteadyLayer, domains: &DayDomains, first: usize)
-        requires first { first < layer.now.nodes }
-        requires days { self.old.closes.rows ≡ domains.now.left.rows + 1 }
-        requires symbols { domains.now.left.columns ≡ layer.now.symbols }
-        requires nodes { self.old.closes.columns ≡ layer.now.nodes }
-        ensures closes { (self.new.closes.rows ≡ self.old.closes.rows)
-            × (self.new.closes.columns ≡ self.old.closes.columns) }
-        ensures taken { (self.new.taken.rows ≡ self.old.taken.rows)
-            × (self.new.taken.columns ≡ self.old.taken.columns) }
-    {
-        let cells = self.closes.rows - 1;
-        self.closes.fill_row(cells, false);
-        self.closes.set(cells, first, true);
-        for day in (0..cells).rev() {
-            mark_before(&mut self.closes, layer, domains, day);
-        }
     }
 
     // Writes the word day by day from its first node. Costs a look at each symbol on each day.
@@ -202,64 +188,97 @@ struct Place {
     node: usize,
 }
 
-// A node to begin with: that of a step on the first weekday, drawn by the shares, or else any where a walk may begin.
-fn drawn_node(layer: &SteadyLayer, lead: Lead<'_>, random: &mut Random) -> usize
+// Marks on each day the nodes from which the first node is reached in the end. Costs a look at each step on each day.
+fn mark_closing(closes: &mut Table<bool>, layer: &SteadyLayer, domains: &DayDomains, first: usize)
+    requires first { first < layer.now.nodes }
+    requires days { closes.old.rows ≡ domains.now.left.rows + 1 }
+    requires symbols { domains.now.left.columns ≡ layer.now.symbols }
+    requires nodes { closes.old.columns ≡ layer.now.nodes }
+    ensures rows { closes.new.rows ≡ closes.old.rows }
+    ensures columns { closes.new.columns ≡ closes.old.columns }
+{
+    let cells = closes.rows - 1;
+    closes.fill_row(cells, false);
+    closes.set(cells, first, true);
+    for day in (0..cells).rev() {
+        mark_before(closes, layer, domains, day);
+    }
+}
+
+// Marks on a day the nodes from which a step leads on it to a node that is marked behind it.
+fn mark_before(marks: &mut Table<bool>, layer: &SteadyLayer, domains: &DayDomains, day: usize)
+    requires day { (day + 1 < marks.old.rows) × (day < domains.now.left.rows) }
+    requires nodes { marks.old.columns ≡ layer.now.nodes }
+    requires symbols { domains.now.left.columns ≡ layer.now.symbols }
+    ensures rows { marks.new.rows ≡ marks.old.rows }
+    ensures columns { marks.new.columns ≡ marks.old.columns }
+{
+    marks.fill_row(day, false);
+    for number in 0..layer.step_count() {
+        let step = layer.step(number);
+        if marks.at(day + 1, step.to) && domains.may_have(day, step.symbol) {
+            marks.set(day, step.from, true);
+        }
+    }
+}
+
+// A node to begin with: that of a step on the first weekday, drawn by the shares, or else any, of those at which a walk
+// may begin.
+fn drawn_node(layer: &SteadyLayer, shares: &Shares, begins: &[bool], random: &mut Random) -> usize
     requires nodes { 0 < layer.now.nodes }
-    requires weekdays { 0 < lead.shares.now.uses.rows }
-    requires steps { lead.shares.now.uses.columns ≡ length layer.now.steps.items }
-    requires begins { length lead.domains.now.begins.items ≡ layer.now.nodes }
+    requires weekdays { 0 < shares.now.uses.rows }
+    requires steps { shares.now.uses.columns ≡ length layer.now.steps.items }
+    requires begins { length begins.now ≡ layer.now.nodes }
     ensures { result < layer.now.nodes }
 {
     // The shares of a weekday are some hundred uses at most, so that their sum is less than 2^31.
-    let mut drawn = random.cost_below(first_shares(layer, lead));
+    let mut drawn = random.cost_below(first_shares(layer, shares, begins));
     for number in 0..layer.step_count() {
-        let share = first_share(layer, lead, number);
+        let share = first_share(layer, shares, begins, number);
         if drawn < share {
             return layer.step(number).from;
         }
         drawn = minus(drawn, share);
     }
     let from = random.below(layer.nodes);
-    let later = beginning_within(lead.domains, from, layer.nodes);
-    later
-        .or(beginning_within(lead.domains, 0, from))
-        .unwrap_or(from)
+    let later = beginning_within(begins, from, layer.nodes);
+    later.or(beginning_within(begins, 0, from)).unwrap_or(from)
 }
 
 // The share of a step on the first weekday, if a walk may begin with it.
-fn first_share(layer: &SteadyLayer, lead: Lead<'_>, number: usize) -> i64
-    requires weekdays { 0 < lead.shares.now.uses.rows }
+fn first_share(layer: &SteadyLayer, shares: &Shares, begins: &[bool], number: usize) -> i64
+    requires weekdays { 0 < shares.now.uses.rows }
     requires number { number < length layer.now.steps.items }
-    requires steps { lead.shares.now.uses.columns ≡ length layer.now.steps.items }
-    requires begins { length lead.domains.now.begins.items ≡ layer.now.nodes }
+    requires steps { shares.now.uses.columns ≡ length layer.now.steps.items }
+    requires begins { length begins.now ≡ layer.now.nodes }
 {
-    if lead.domains.may_begin(layer.step(number).from) {
-        lead.shares.uses.at(0, number)
+    if begins[layer.step(number).from] {
+        shares.uses.at(0, number)
     } else {
         0
     }
 }
 
 // The sum of these shares.
-fn first_shares(layer: &SteadyLayer, lead: Lead<'_>) -> i64
-    requires weekdays { 0 < lead.shares.now.uses.rows }
-    requires steps { lead.shares.now.uses.columns ≡ length layer.now.steps.items }
-    requires begins { length lead.domains.now.begins.items ≡ layer.now.nodes }
+fn first_shares(layer: &SteadyLayer, shares: &Shares, begins: &[bool]) -> i64
+    requires weekdays { 0 < shares.now.uses.rows }
+    requires steps { shares.now.uses.columns ≡ length layer.now.steps.items }
+    requires begins { length begins.now ≡ layer.now.nodes }
 {
     let mut sum = 0;
     for number in 0..layer.step_count() {
-        sum = plus(sum, first_share(layer, lead, number));
+        sum = plus(sum, first_share(layer, shares, begins, number));
     }
     sum
 }
 
 // The first node within this range at which a walk may begin.
-fn beginning_within(domains: &DayDomains, from: usize, end: usize) -> Option<usize>
-    requires { end ≤ length domains.now.begins.items }
+fn beginning_within(begins: &[bool], from: usize, end: usize) -> Option<usize>
+    requires { end ≤ length begins.now }
     ensures { IfSome result (λ n. n < end) }
 {
     for node in from..end {
-        if domains.may_begin(node) {
+        if begins[node] {
             return Some(node);
         }
     }

@@ -88,19 +88,6 @@ impl<T: Copy + Drop> Table<T> {
         }
     }
 
-    /// Writes the values of a row into another one.
-    pub fn copy_row(&mut self, from: usize, to: usize)
-        requires from { from < self.old.rows }
-        requires to { to < self.old.rows }
-        ensures rows { self.new.rows ≡ self.old.rows }
-        ensures columns { self.new.columns ≡ self.old.columns }
-    {
-        for column in 0..self.columns {
-            let value = self.at(from, column);
-            self.set(to, column, value);
-        }
-    }
-
     /// Writes one value everywhere.
     pub fn fill(&mut self, value: T)
         ensures rows { self.new.rows ≡ self.old.rows }

@@ -28,7 +28,8 @@ pub record IsCountedProof (P : Instance) (o : Opening) (goal : Option ℕ) (g : 
   pub one_leaf : IsOneLeaf g
   pub counted : IsCountedLog P true g
 
--- a log of a search, from this opening, for this goal or none, that passes and whose tree is a window leaf or a day leaf
+-- a log of a search, from this opening, for this goal or none, that passes, and whose tree is a window leaf or a day
+-- leaf
 pub record IsPlainProof (P : Instance) (start : Opening) (goal : Option ℕ) (g : Log) : Type 0 where
   pub passes : Passes P g
   pub is_log : IsLogOf P start goal g

@@ -39,7 +39,8 @@ pub fn counted_log(
     }
 }
 
-/// The log with this opening whose tree is a window leaf or a day leaf that holds before the first line, where one does.
+/// The log with this opening whose tree is a window leaf or a day leaf that holds before the first line, where one
+/// does.
 pub fn log_at_once(
     alloc: Global,
     problem: &Problem,
@@ -54,8 +55,8 @@ pub fn log_at_once(
     }
 }
 
-/// The log that gives no cells, whose tree is the first leaf of blocks, where one holds: then there is no roster, whatever
-/// cells are given.
+/// The log that gives no cells, whose tree is the first leaf of blocks, where one holds: then there is no roster,
+/// whatever cells are given.
 pub fn counted_fill(alloc: Global, problem: &Problem) -> Result<Option<Log>, AllocError>
     ensures { let P = problem.now in
         IfOk result (λ found. MatchOption found (NoBlocksHold P) (IsCountedFill P)) }

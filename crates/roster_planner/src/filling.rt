@@ -17,9 +17,9 @@ use std::alloc::{AllocError, Global};
 use std::thread::Threads;
 
 /// A roster that meets every rule and holds the given cells, or a log of why there is none, within the budget, which
-/// needs each cell and each rule that it names; or a sharp one that has spent the budget and names all cells. Blocks are
-/// counted first: where a leaf of blocks holds, it is the whole log, and names no cell. Else the search is that of a plan
-/// with the given cells in place of a turn.
+/// needs each cell and each rule that it names; or a sharp one that has spent the budget and names all cells. Blocks
+/// are counted first: where a leaf of blocks holds, it is the whole log, and names no cell. Else the search is that of
+/// a plan with the given cells in place of a turn.
 pub fn fill<R: Threads + Sync, G: Gate>(
     rt: &R,
     alloc: Global,

@@ -34,7 +34,8 @@ pub enum Order {
 }
 
 // The guide of a planner. It closes cases by weights, looks for a roster by other means before the first split, and
-// splits in the order of the days, from the turn on round the cycle, but first on days off alone where the order says so.
+// splits in the order of the days, from the turn on round the cycle, but first on days off alone where the order says
+// so.
 #[derive(Drop)]
 pub struct PlannerGuide<'a> {
     automaton: &'a Automaton,
@@ -97,7 +98,8 @@ impl<'a> PlannerGuide<'a> {
 
     // A leaf at the top.
     fn top_leaf(&mut self, alloc: Global, doms: &Domains) -> Result<Option<Line>, AllocError>
-        requires problem { (P : Instance) × (goal : Option ℕ) × ⟦<PlannerGuide<'a> as Guide>⟧.serves self.old P goal × BelongsTo P doms.now }
+        requires problem { (P : Instance) × (goal : Option ℕ)
+            × ⟦<PlannerGuide<'a> as Guide>⟧.serves self.old P goal × BelongsTo P doms.now }
         ensures leaf { IfOk result (λ line. (P : Instance) (goal : Option ℕ)
             → ⟦<PlannerGuide<'a> as Guide>⟧.serves self.old P goal → IsLeafGiven P goal doms.now line) }
         ensures serves { (P : Instance) (goal : Option ℕ) → ⟦<PlannerGuide<'a> as Guide>⟧.serves self.old P goal
@@ -113,7 +115,8 @@ impl<'a> PlannerGuide<'a> {
 
     // A leaf within the tree: where it isn't decided yet which days are off, one that goes by these alone.
     fn leaf_within(&mut self, alloc: Global, doms: &Domains) -> Result<Option<Line>, AllocError>
-        requires problem { (P : Instance) × (goal : Option ℕ) × ⟦<PlannerGuide<'a> as Guide>⟧.serves self.old P goal × BelongsTo P doms.now }
+        requires problem { (P : Instance) × (goal : Option ℕ)
+            × ⟦<PlannerGuide<'a> as Guide>⟧.serves self.old P goal × BelongsTo P doms.now }
         ensures leaf { IfOk result (λ line. (P : Instance) (goal : Option ℕ)
             → ⟦<PlannerGuide<'a> as Guide>⟧.serves self.old P goal → IsLeafGiven P goal doms.now line) }
         ensures serves { (P : Instance) (goal : Option ℕ) → ⟦<PlannerGuide<'a> as Guide>⟧.serves self.old P goal

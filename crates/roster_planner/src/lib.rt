@@ -1,6 +1,6 @@
-//! Plans of problems: a roster, or a log of why there is none, whose splits are forced where anything forces them. Plans
-//! behind given cells. The least crew: plans for one number of weeks after the other. And the most free weekends: plans
-//! for one goal after the other.
+//! Plans of problems: a roster, or a log of why there is none, whose splits are forced where anything forces them.
+//! Plans behind given cells. The least crew: plans for one number of weeks after the other. And the most free weekends:
+//! plans for one goal after the other.
 #![tactic(auto)]
 
 mod cases;
@@ -9,11 +9,13 @@ mod effort;
 mod filling;
 mod guide;
 mod likely_most;
+mod narrowed;
 mod of_cases;
 mod off_weights;
 mod one_goal;
 mod one_shift;
 mod planning;
+mod propagation;
 mod raising;
 mod reasons;
 mod rosters;

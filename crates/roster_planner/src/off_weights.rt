@@ -41,8 +41,8 @@ impl<'a> OffWeights<'a> {
         }
     }
 
-    /// A leaf that holds under the domains, where one is found; at the top of a tree its words may have many turns. None
-    /// says nothing.
+    /// A leaf that holds under the domains, where one is found; at the top of a tree its words may have many turns.
+    /// None says nothing.
     pub fn leaf(
         &mut self,
         alloc: Global,

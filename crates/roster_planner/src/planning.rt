@@ -8,17 +8,21 @@ ghost use Rattle.refutation_terms.specs.Sharp.{IsFirstTurn};
 ghost use Rattle.domain_store.specs.Cycles.{AreShortRules};
 ghost use Rattle.refutation_log.specs.Planned.{IsCounted, IsPlanned};
 ghost use Rattle.roster_planner.specs.FoundFrom.{IsFoundFrom};
+ghost use Rattle.roster_search.specs.Guides.{IsWantedBehind};
 
 use crate::Effort;
 use crate::cases::search_cases;
 use crate::counted::{counted_log, log_at_once};
 use crate::effort::FEW_LINES;
+use crate::narrowed::narrowed_roster;
+use crate::propagation::domains_behind;
 use crate::rosters::roster_behind;
 use clean_words::{Automaton, Gate, Told};
+use domain_store::Domains;
 use refutation_log::{Found, first_turn};
 use refutation_terms::Opening;
 use roster_finder::{Patience, RosterFinder, SteadyLayer};
-use rwsp_model::Problem;
+use rwsp_model::{Problem, Roster};
 use rwsp_terms::limits::GREATEST_BUDGET;
 use std::alloc::{AllocError, Global};
 use std::thread::Threads;
@@ -45,8 +49,8 @@ pub fn plan_roster<R: Threads + Sync, G: Gate>(
 }
 
 /// A plan of a problem that is likely to have no roster: reasons come before rosters are looked for, and the finder has
-/// fewer moves, in a short plan the fewest. Only where the budget is spent a roster is looked for with patience, unless the
-/// plan is a short one. What it promises is what `plan_roster` does.
+/// fewer moves, in a short plan the fewest. Only where the budget is spent a roster is looked for with patience, unless
+/// the plan is a short one. What it promises is what `plan_roster` does.
 pub fn plan_refutable<R: Threads + Sync, G: Gate>(
     rt: &R,
     alloc: Global,
@@ -109,8 +113,11 @@ pub(crate) fn plan_over<R: Threads + Sync, G: Gate>(
     match counted_plan(alloc, automaton.problem(), effort)? {
         Some(found) => Ok(found),
         None => {
-            let opening = first_turn(automaton.problem());
-            rosters_first(rt, alloc, automaton, layer, &opening, effort.budget, gate)
+            let problem = automaton.problem();
+            let doms = Domains::new(alloc, problem)?;
+            let finder = RosterFinder::over(problem, layer, Some(&doms), Patience::Long);
+            let opening = first_turn(problem);
+            rosters_first(rt, alloc, automaton, &finder, &opening, effort.budget, gate)
         }
     }
 }
@@ -176,12 +183,17 @@ fn search_by<R: Threads + Sync, G: Gate>(
     requires budget { (1 ≤ budget) × (budget ≤ GREATEST_BUDGET) }
     ensures { IfOk result (IsFoundFrom automaton.now.problem opening.now budget) }
 {
-    let layer = SteadyLayer::of(alloc, automaton.problem())?;
+    let problem = automaton.problem();
+    let doms = domains_behind(alloc, automaton, opening)?;
+    let layer = SteadyLayer::of(alloc, problem)?;
+    let finder = RosterFinder::over(problem, &layer, doms.as_ref(), Patience::Long);
     let found = match first {
-        First::Rosters => rosters_first(rt, alloc, automaton, &layer, opening, budget, gate),
-        First::Reasons => reasons_first(rt, alloc, automaton, &layer, opening, budget, gate),
+        First::Rosters => rosters_first(rt, alloc, automaton, &finder, opening, budget, gate),
+        First::Reasons => reasons_first(rt, alloc, automaton, &finder, opening, budget, gate),
     };
+    drop(finder);
     drop(layer);
+    drop(doms);
     found
 }
 
@@ -190,38 +202,37 @@ fn rosters_first<R: Threads + Sync, G: Gate>(
     rt: &R,
     alloc: Global,
     automaton: &Automaton,
-    layer: &SteadyLayer,
+    finder: &RosterFinder<'_>,
     opening: &Opening,
     budget: u32,
     gate: &G,
 ) -> Result<Found, AllocError>
     requires short { AreShortRules automaton.now.problem automaton.now.rules }
-    requires symbols { layer.now.symbols ≡ shift_count automaton.now.problem + 1 }
+    requires same { finder.now ≡ automaton.now.problem }
     requires opening { let P = automaton.now.problem in
         OpeningFits P opening.now × IsAllowed P opening.now × IsFirstTurn P opening.now }
     requires budget { (1 ≤ budget) × (budget ≤ GREATEST_BUDGET) }
     ensures { IfOk result (IsFoundFrom automaton.now.problem opening.now budget) }
 {
-    let finder = RosterFinder::over(automaton.problem(), layer, Patience::Long);
-    if let Some(roster) = roster_behind(alloc, &finder, opening, Patience::Short)? {
+    if let Some(roster) = roster_behind(alloc, finder, opening, Patience::Short)? {
         return Ok(Found::Roster(roster));
     }
-    search_cases(rt, alloc, automaton, &finder, opening, budget, gate)
+    let found = search_cases(rt, alloc, automaton, finder, opening, budget, gate)?;
+    or_late(alloc, finder, opening, budget, First::Rosters, found)
 }
 
-// What a search finds that looks for rosters for a shorter time. Where it has spent its budget, and this isn't that of a
-// short plan, a roster is looked for with more patience.
+// What a search finds that looks for rosters for a shorter time.
 fn reasons_first<R: Threads + Sync, G: Gate>(
     rt: &R,
     alloc: Global,
     automaton: &Automaton,
-    layer: &SteadyLayer,
+    finder: &RosterFinder<'_>,
     opening: &Opening,
     budget: u32,
     gate: &G,
 ) -> Result<Found, AllocError>
     requires short { AreShortRules automaton.now.problem automaton.now.rules }
-    requires symbols { layer.now.symbols ≡ shift_count automaton.now.problem + 1 }
+    requires same { finder.now ≡ automaton.now.problem }
     requires opening { let P = automaton.now.problem in
         OpeningFits P opening.now × IsAllowed P opening.now × IsFirstTurn P opening.now }
     requires budget { (1 ≤ budget) × (budget ≤ GREATEST_BUDGET) }
@@ -232,13 +243,9 @@ fn reasons_first<R: Threads + Sync, G: Gate>(
     } else {
         Patience::Short
     };
-    let finder = RosterFinder::over(automaton.problem(), layer, most);
-    let found = search_cases(rt, alloc, automaton, &finder, opening, budget, gate)?;
-    if budget > FEW_LINES && is_undecided(&found) {
-        or_patiently(alloc, automaton.problem(), layer, opening, budget, found)
-    } else {
-        Ok(found)
-    }
+    let hasty = finder.at_most(most);
+    let found = search_cases(rt, alloc, automaton, &hasty, opening, budget, gate)?;
+    or_late(alloc, finder, opening, budget, First::Reasons, found)
 }
 
 // Whether the budget was spent.
@@ -246,22 +253,24 @@ fn is_undecided(found: &Found) -> bool {
     matches!(found, Found::Undecided(_))
 }
 
-// The roster that is found with patience, or else what was found.
-fn or_patiently(
+// What was found; or where a search has spent its budget, and this isn't that of a short plan, a roster that is found
+// late.
+fn or_late(
     alloc: Global,
-    problem: &Problem,
-    layer: &SteadyLayer,
+    finder: &RosterFinder<'_>,
     opening: &Opening,
     budget: u32,
+    first: First,
     found: Found,
 ) -> Result<Found, AllocError>
-    requires symbols { layer.now.symbols ≡ shift_count problem.now + 1 }
-    requires opening { OpeningFits problem.now opening.now }
-    requires found { IsFoundFrom problem.now opening.now budget found }
-    ensures { IfOk result (IsFoundFrom problem.now opening.now budget) }
+    requires opening { OpeningFits finder.now opening.now }
+    requires found { IsFoundFrom finder.now opening.now budget found }
+    ensures { IfOk result (IsFoundFrom finder.now opening.now budget) }
 {
-    let finder = RosterFinder::over(problem, layer, Patience::Long);
-    match roster_behind(alloc, &finder, opening, Patience::Long) {
+    if budget <= FEW_LINES || !is_undecided(&found) {
+        return Ok(found);
+    }
+    match late_roster(alloc, finder, opening, first) {
         Ok(None) => Ok(found),
         Ok(Some(roster)) => {
             drop(found);
@@ -271,5 +280,30 @@ fn or_patiently(
             drop(found);
             Err(error)
         }
+    }
+}
+
+// A roster that is looked for with the patience that the search didn't have. One that was patient goes on with narrower
+// demands, where no cells are given.
+fn late_roster(
+    alloc: Global,
+    finder: &RosterFinder<'_>,
+    opening: &Opening,
+    first: First,
+) -> Result<Option<Roster>, AllocError>
+    requires opening { OpeningFits finder.now opening.now }
+    ensures { IfOk result (λ found. IfSome found (IsWantedBehind finder.now opening.now None)) }
+{
+    let patience = match first {
+        First::Rosters => Patience::Middle,
+        First::Reasons => Patience::Long,
+    };
+    let found = roster_behind(alloc, &finder.at_most(patience), opening, patience)?;
+    if found.is_some() || matches!(first, First::Reasons) {
+        return Ok(found);
+    }
+    match opening {
+        Opening::Given(_) => Ok(None),
+        Opening::Full | Opening::Turned(_) => narrowed_roster(alloc, finder),
     }
 }

@@ -4,13 +4,15 @@ ghost use Rattle.std.specs.Option.{IfSome};
 ghost use Rattle.rwsp_terms.specs.declared.limits.TheConstants.{DAYS_OF_WEEK};
 ghost use Rattle.rwsp_terms.specs.Instance.{Instance, cells, shift_count};
 ghost use Rattle.domain_store.specs.Cycles.{AreShortRules};
-ghost use Rattle.refutation_log.specs.Bests.{IsMeeting, IsFreeProof, IsBestFound, IsBestCounted, IsUndecided, goal_above, goal_of};
+ghost use Rattle.refutation_log.specs.Bests.{IsMeeting, IsFreeProof, IsBestFound, IsBestCounted, IsUndecided};
+ghost use Rattle.refutation_log.specs.Bests.{goal_above, goal_of};
 
 use crate::Effort;
 use crate::counted::counted_log;
 use crate::likely_most::likely_most;
 use crate::one_goal::RisingGoal;
 use clean_words::{Automaton, Told};
+use domain_store::Domains;
 use refutation_log::{BestFound, Found, Log, Opening};
 use roster_finder::{Patience, RosterFinder, SteadyLayer};
 use rwsp_model::{Problem, Roster};
@@ -64,12 +66,15 @@ fn best_over(alloc: Global, automaton: &Automaton, budget: u32) -> Result<BestFo
     ensures complete { IfOk result (λ found. IsUndecided found
         → budget + 1 < 2 * (shift_count automaton.now.problem + 1) ^ cells automaton.now.problem) }
 {
-    let layer = SteadyLayer::of(alloc, automaton.problem())?;
-    let finder = RosterFinder::over(automaton.problem(), &layer, Patience::Long);
+    let problem = automaton.problem();
+    let doms = Domains::new(alloc, problem)?;
+    let layer = SteadyLayer::of(alloc, problem)?;
+    let finder = RosterFinder::over(problem, &layer, Some(&doms), Patience::Long);
     let mut rising = RisingGoal::new();
     let found = best_by(alloc, automaton, &finder, &mut rising, budget);
     drop(finder);
     drop(layer);
+    drop(doms);
     found
 }
 

@@ -18,9 +18,10 @@ use roster_search::Aim;
 use rwsp_terms::limits::GREATEST_BUDGET;
 use std::alloc::{AllocError, Global};
 
-/// What a search of the automaton's problem finds by these reasons. Cases are also closed by weights. A roster is looked
-/// for by other means before the first split, with a goal first one with `wish` free weekends, where these are more.
-/// Short searches that split on days off alone come first; then splits are in the order of the days, from the turn on.
+/// What a search of the automaton's problem finds by these reasons. Cases are also closed by weights. A roster is
+/// looked for by other means before the first split, with a goal first one with `wish` free weekends, where these are
+/// more. Short searches that split on days off alone come first; then splits are in the order of the days, from the
+/// turn on.
 #[tactic(auto, using(roster_search::proofs::Reaching::goal_fits_full))]
 pub fn planner_search<A: Propagator>(
     alloc: Global,

@@ -24,8 +24,9 @@ const FEWEST_LINES: u32 = 500;
 // Rosters with more cells have no starts, since weights are looked for within no tree of theirs.
 const MOST_CELLS: u32 = 700;
 
-// What a search finds that begins with short ones (restarts, C. Gomes, B. Selman and H. Kautz, 1998): which days are off
-// is decided before anything else. The first that decides gives the answer; where none does, the last search is long.
+// What a search finds that begins with short ones (restarts, C. Gomes, B. Selman and H. Kautz, 1998): which days are
+// off is decided before anything else. The first that decides gives the answer; where none does, the last search is
+// long.
 pub fn search_by_starts<'a, A: Propagator>(
     alloc: Global,
     problem: &Problem,

@@ -1,7 +1,9 @@
 ghost use Rattle.std.specs.Prelude.{◌≤◌, length};
 ghost use Rattle.rwsp_terms.specs.declared.limits.TheConstants.{LONGEST_FILE};
 
+use domain_store::{Domains, Walk};
 use refutation_log::read_cells;
+use refutation_terms::Opening;
 use roster_finder::{Patience, RosterFinder, SteadyLayer};
 use rwsp_model::{Problem, Roster};
 use rwsp_terms::Symbol;
@@ -19,8 +21,9 @@ fn working(cells: &[Symbol], day: usize) -> usize {
 }
 
 fn find_roster(alloc: Global, problem: &Problem) -> Result<Option<Roster>, AllocError> {
+    let doms = Domains::new(alloc, problem)?;
     let layer = SteadyLayer::of(alloc, problem)?;
-    let finder = RosterFinder::over(problem, &layer, Patience::Long);
+    let finder = RosterFinder::over(problem, &layer, Some(&doms), Patience::Long);
     finder.find(alloc, 0, Patience::Long)
 }
 
@@ -55,11 +58,21 @@ fn none_is_found_where_there_is_none(rt: HostRuntime) -> Result<(), Fail> {
 }
 
 #[test]
+fn none_is_found_without_domains(rt: HostRuntime) -> Result<(), Fail> {
+    let problem = problem_of(rt.alloc(), MOST_OF_FOUR_WEEKS)?;
+    let layer = SteadyLayer::of(rt.alloc(), &problem)?;
+    let finder = RosterFinder::over(&problem, &layer, None, Patience::Long);
+    assert!(rt; finder.find(rt.alloc(), 0, Patience::Long)?.is_none());
+    Ok(())
+}
+
+#[test]
 fn weekends_are_free_where_the_demand_lets_them(rt: HostRuntime) -> Result<(), Fail> {
     let problem = problem_of(rt.alloc(), MOST_OF_FOUR_WEEKS)?;
     assert!(rt; problem.days() == 7);
+    let doms = Domains::new(rt.alloc(), &problem)?;
     let layer = SteadyLayer::of(rt.alloc(), &problem)?;
-    let finder = RosterFinder::over(&problem, &layer, Patience::Long);
+    let finder = RosterFinder::over(&problem, &layer, Some(&doms), Patience::Long);
     // at most two weeks have a day off
     for (free, is_found) in [(0, true), (1, true), (2, true), (3, false)] {
         let found = finder.find(rt.alloc(), free, Patience::Long)?;
@@ -75,8 +88,10 @@ fn filled(alloc: Global, problem: &Problem, text: &[u8]) -> Result<Option<Roster
     let Ok(given) = read_cells(alloc, problem, text) else {
         return Ok(None);
     };
+    let opening = Opening::Given(given.copy()?);
+    let walk = Walk::new(alloc, problem, &opening)?;
     let layer = SteadyLayer::of(alloc, problem)?;
-    let finder = RosterFinder::over(problem, &layer, Patience::Long);
+    let finder = RosterFinder::over(problem, &layer, Some(walk.domains()), Patience::Long);
     finder.find_given(alloc, &given, Patience::Long)
 }
 

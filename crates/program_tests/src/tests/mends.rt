@@ -1,7 +1,9 @@
 // Which numbers to change, to the byte. What the answers should be was counted by hand, and by listing all rosters.
-use super::plans::THREE_OF_FIVE;
+use super::plans::{THREE_OF_FIVE, printed};
 use super::{NINE_WEEKS, USAGE, line_ends, ran, verifies};
+use std::alloc::{AllocError, Global};
 use std::test::Fail;
+use std::thread::Threads;
 
 // Two rows of weeks, and both work from Monday to Friday, but at most four days in a row.
 const CLINIC: &str = "7\n2\n1\n2 2 2 2 2 0 0\nD 420 480 2 5\n2 3\n2 4\n0 0\n";
@@ -89,5 +91,51 @@ fn a_spent_budget_gives_the_log_of_the_plan(rt: HostRuntime) -> Result<(), Fail>
             planned.text.as_str()
         )?
     );
+    Ok(())
+}
+
+// A ward of twelve whose nights come in blocks of exactly four.
+fn ward(alloc: Global, nights: &str) -> Result<String, AllocError> {
+    format!(in alloc;
+        "7\n12\n3\n4..5 4..5 4..5 4..5 4..5 2..3 2..3\n3..4 3..4 3..4 3..4 3..4 2 2\n{nights}\nEarly 360 480 2 5\nLate 840 480 2 5\nNight 1320 480 4 4\n2 4\n3 6\n3 0\nLate Early\nNight Early\nNight Late\n"
+    )
+}
+
+// The nights of a week: two on each day, but two to four on one.
+fn nights_with(alloc: Global, widened: u32) -> Result<String, AllocError> {
+    let mut nights = String::new(alloc);
+    for day in 1..8 {
+        nights.push_str(if day == widened { " 2..4" } else { " 2" })?;
+    }
+    Ok(nights)
+}
+
+// Whether the words, which plan, find a roster of the ward where a day may have four nights.
+fn is_planned<R: Threads + Sync>(
+    rt: &R,
+    alloc: Global,
+    words: &[&str],
+    day: u32,
+) -> Result<bool, Fail> {
+    let nights = nights_with(alloc, day)?;
+    let problem = ward(alloc, nights.as_str())?;
+    let roster = printed(rt, alloc, words, problem.as_str(), 0)?;
+    Ok(verifies(rt, alloc, problem.as_str(), roster.as_str(), 0, "meets\n")?)
+}
+
+// Fourteen nights are no blocks of four, and sixteen are: with four of them on one day, whichever it is. They are
+// planned with a small budget too, which soon ends the search by cases.
+#[test]
+fn a_way_out_can_be_planned(rt: HostRuntime) -> Result<(), Fail> {
+    let alloc = rt.alloc();
+    let problem = ward(alloc, "2 2 2 2 2 2 2")?;
+    let ways = printed(&rt, alloc, &["mend", "F"], problem.as_str(), 0)?;
+    for day in 1..8 {
+        let way = format!(in alloc; " day {day} Night: 2 to 2..4\n")?;
+        assert!(rt; ways.as_str().contains(way.as_str()), "{way}");
+        let words = ["plan", "F", "--budget", "100"];
+        assert!(rt; is_planned(&rt, alloc, &words, day)?, "{day}");
+    }
+    assert!(rt; is_planned(&rt, alloc, &["plan", "F"], 1)?);
     Ok(())
 }
