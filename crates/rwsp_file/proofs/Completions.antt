@@ -14,9 +14,9 @@ use Rattle.rwsp_file.specs.declared.misfit.Place.{Place}
 use Rattle.rwsp_file.proofs.Readers.{one_word, then_ok}
 use Rattle.rwsp_file.proofs.Lines.{unread}
 use Rattle.rwsp_file.proofs.RowReader.{IsGoodRow}
-use Rattle.rwsp_file.proofs.Awaited.{Awaited, read_on}
+use Rattle.rwsp_file.proofs.Awaited.{Awaited, read_on, IsSound}
 use Rattle.rwsp_file.proofs.Awaited.Awaited.{End, Word, Row}
-use Rattle.rwsp_file.proofs.SoundParts.{lexeme_on, IsSound, zero_word, zero_is_word}
+use Rattle.rwsp_file.proofs.Forms.{lexeme_on, zero_word, zero_is_word}
 use Rattle.rwsp_file.proofs.FreshName.{fresh_name, fresh_is_word, fresh_is_new}
 use Rattle.rwsp_file.proofs.RowLines.{AllOn, Off, row_in_front}
 
@@ -103,16 +103,16 @@ pub record Completion (p : Awaited) (line : ℕ) : Type 0 where
 pub complete : (p : Awaited) → IsSound p → (line : ℕ) → Completion p line
 unfolding read_on
 complete (End P) s line = record { lines = []; words = tt; P = P; reads = λ end. refl }
-complete (Word X awaited give next) s line =
-    let x : (y : X) × (give (lexeme_on (line + 1) s.0.text) ≡ Ok y) = s.0.gives (line + 1) in
+complete (Word form next) s line =
+    let x : (y : form.X) × (form.give (lexeme_on (line + 1) s.0.text) ≡ Ok y) = s.0.gives (line + 1) in
     let more : Completion (next x.0) (line + 1) = complete (next x.0) (s.2 (lexeme_on (line + 1) s.0.text) x.0 x.1) (line + 1) in
     record {
       lines = (s.0.text ∷ []) ∷ more.lines;
       words = ((s.0.word, tt), more.words);
       P = more.P;
       reads = λ end.
-          then_ok (one_word awaited give (unread (lexeme_on (line + 1) s.0.text ∷ on_fresh (line + 1) more.lines) end)) (λ p. read_on (next p.0) p.1) (x.0, unread (on_fresh (line + 1) more.lines) end) more.P
-          (word_reads awaited give (lexeme_on (line + 1) s.0.text) (on_fresh (line + 1) more.lines) end x.0 x.1) (more.reads end);
+          then_ok (one_word form.awaited form.give (unread (lexeme_on (line + 1) s.0.text ∷ on_fresh (line + 1) more.lines) end)) (λ p. read_on (next p.0) p.1) (x.0, unread (on_fresh (line + 1) more.lines) end) more.P
+          (word_reads form.awaited form.give (lexeme_on (line + 1) s.0.text) (on_fresh (line + 1) more.lines) end x.0 x.1) (more.reads end);
     }
 complete (Row earlier next) s line =
     let row : GoodRow earlier (on_one (line + 1) (fresh_row earlier)) = fresh_row_good earlier (line + 1) s.0 in

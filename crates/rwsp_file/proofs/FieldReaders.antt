@@ -1,4 +1,4 @@
--- Readers of the single fields.
+-- What single words give.
 use Rattle.std.proofs.Common.{◌≡◌, ℕ, suc, ◌+◌, ◌*◌, ◌<◌, ◌≤◌, List, [], ◌∷◌, ◌++◌, length, Bool, true, false, not, ◌&&◌, ◌==◌, cond, Option, Some, None, Ok, Err, refl, ap, sym, ◌∙◌, arith, take, drop, inl, inr, nat_le, length-drop}
 use Rattle.std.specs.Prelude.{if◌then◌else◌}
 use Rattle.std.specs.Bool.{Decides}
@@ -15,9 +15,8 @@ use Rattle.rwsp_terms.specs.declared.data.Bounds.{Bounds}
 use Rattle.rwsp_model.specs.Validity.{IsSmallRange, is_between, is_small_range}
 use Rattle.rwsp_model.proofs.Limits.{Decides-leb, Decides-between, Decides-small_range}
 use Rattle.rwsp_file.specs.Spelling.{IsDemand, IsRange}
-use Rattle.rwsp_file.specs.Spelling.FileField.{NumberField, DemandField}
-use Rattle.rwsp_file.specs.Reading.{◌>>=◌, or_refuse, limit_of, limited, number_at, limited_weeks, weeks_at, limited_demand, demand_at, written_demand, range_or, range_of, range_from, is_dot}
-use Rattle.rwsp_file.proofs.Readers.{IsReader, Gives, gives_like, gives_some, gives_tested, then_gives, word_reader}
+use Rattle.rwsp_file.specs.Reading.{◌>>=◌, or_refuse, limit_of, limited, limited_weeks, limited_demand, written_demand, range_or, range_of, range_from, is_dot}
+use Rattle.rwsp_file.proofs.Readers.{Gives, gives_like, gives_some, gives_tested, then_gives}
 use Rattle.rwsp_file.specs.declared.misfit.Misfit.{Misfit}
 use Rattle.rwsp_file.specs.declared.misfit.Misfit.TheVariants.{BadWord}
 use Rattle.rwsp_file.specs.declared.misfit.Fault.TheVariants.{NoNumber, Beyond, TooManyDays}
@@ -42,10 +41,6 @@ unfolding limited
 limited_gives awaited limit w =
     gives_checked (λ n. (limit.least ≤ n) × (n ≤ limit.greatest)) (number_of w.text) (is_between limit.least limit.greatest) (BadWord awaited w NoNumber) (BadWord awaited w (Beyond limit)) (Decides-between limit.least limit.greatest)
 
-pub number_reader : (awaited : Place) (limit : Limit) → IsReader (λ n. (limit.least ≤ n) × (n ≤ limit.greatest)) (λ n. NumberField n ∷ []) (number_at awaited limit)
-unfolding number_at
-number_reader awaited limit = word_reader awaited NumberField (limited_gives awaited limit) (λ n w fs ws is s. (is, s)) (λ n w fs ws s. s)
-
 -- weeks that keep both limits
 abbrev pub AreWeeks : ℕ → ℕ → Type 0
 AreWeeks days n = ((1 ≤ n) × (n ≤ MOST_WEEKS)) × (n * days ≤ MOST_CELLS)
@@ -55,10 +50,6 @@ unfolding limited_weeks
 weeks_gives days w =
     gives_like (λ n h. ((h.0.0, (Decides-leb (n * days) MOST_CELLS).0 h.1.0), h.0.1)) (λ n h. ((h.0.0, h.1), ((Decides-leb (n * days) MOST_CELLS).1 h.0.1, refl)))
     (then_gives (λ n. n) (limited_gives Weeks (limit_of 2 1 MOST_WEEKS) w) (λ m _. gives_tested (nat_le (m * days) MOST_CELLS) m (BadWord Weeks w (TooManyDays m days))) (λ m n c. c.1))
-
-pub weeks_reader : (days : ℕ) → IsReader (AreWeeks days) (λ n. NumberField n ∷ []) (weeks_at days)
-unfolding weeks_at
-weeks_reader days = word_reader Weeks NumberField (weeks_gives days) (λ n w fs ws is s. (is, s)) (λ n w fs ws s. s)
 
 -- numbers have no dot
 
@@ -158,7 +149,3 @@ unfolding limited_demand
 demand_gives awaited w =
     gives_like (λ b h. (h.0, demand_found w.text b h.1)) (λ b h. (h.0, demand_only w.text b h.1))
     (gives_checked IsSmallRange (written_demand w.text) is_small_range (BadWord awaited w NoNumber) (BadWord awaited w (Beyond (limit_of 5 0 MOST_WEEKS))) Decides-small_range)
-
-pub demand_reader : (awaited : Place) → IsReader IsSmallRange (λ b. DemandField b ∷ []) (demand_at awaited)
-unfolding demand_at
-demand_reader awaited = word_reader awaited DemandField (demand_gives awaited) (λ b w fs ws is s. (is, s)) (λ b w fs ws s. s)

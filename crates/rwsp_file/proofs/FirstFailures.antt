@@ -12,9 +12,10 @@ use Rattle.rwsp_file.specs.declared.misfit.Fault.{Fault}
 use Rattle.rwsp_file.specs.declared.misfit.Place.{Place}
 use Rattle.rwsp_file.proofs.Lines.{unread}
 use Rattle.rwsp_file.proofs.TextLaws.{reading_spells, spells_reading}
-use Rattle.rwsp_file.proofs.Awaited.{Awaited, read_on, whole_text, whole_read}
+use Rattle.rwsp_file.proofs.Readers.{failed}
+use Rattle.rwsp_file.proofs.Awaited.{Awaited, read_on, IsSound}
 use Rattle.rwsp_file.proofs.Awaited.Awaited.{End, Word, Row}
-use Rattle.rwsp_file.proofs.SoundParts.{IsSound, failed}
+use Rattle.rwsp_file.proofs.Parts.{whole_text, whole_read}
 use Rattle.rwsp_file.proofs.SoundText.{sound_text}
 use Rattle.rwsp_file.proofs.Completions.{on_one, on_fresh}
 use Rattle.rwsp_file.proofs.Reached.{Rising, Stuck, Found, find}
@@ -25,7 +26,7 @@ use Rattle.rwsp_file.proofs.TextSplits.{Split, split_text, spread, spread_lines,
 -- what is stuck fails there
 stuck_fails : (q : Awaited) (vs : List Lexeme) (end : ℕ) (why : Misfit) → IsSound q → Stuck q vs end why → Fails q vs end why
 stuck_fails (End P) vs end why sound e = end_fails P vs end why e
-stuck_fails (Word X awaited give next) vs end why sound e = word_fails X awaited give next vs end why sound e
+stuck_fails (Word form next) vs end why sound e = word_fails form next vs end why sound e
 stuck_fails (Row earlier next) vs end why sound e = row_fails earlier next vs end why sound e
 
 -- the first failure among lexemes

@@ -3,10 +3,9 @@ use Rattle.std.proofs.Common.{◌≡◌, ℕ, ◌+◌, List, [], ◌∷◌, ◌+
 use Rattle.std.specs.List.{AllByRecursion}
 use Rattle.rwsp_text.specs.Lexemes.{Lexeme}
 use Rattle.rwsp_terms.specs.Instance.{Instance}
-use Rattle.rwsp_terms.specs.declared.data.ShiftRow.{ShiftRow}
 use Rattle.rwsp_model.proofs.Names.{IsWord}
-use Rattle.rwsp_file.specs.Spelling.{SpellsProblem, on_line}
-use Rattle.rwsp_file.specs.Reading.{Unread, ◌>>=◌, next_at, shift_at, nothing_of}
+use Rattle.rwsp_file.specs.Spelling.{FileField, Spell, SpellsProblem, on_line}
+use Rattle.rwsp_file.specs.Reading.{Unread, ◌>>=◌, next_at, nothing_of}
 use Rattle.rwsp_file.specs.FirstFailures.{RestsOn, HasFault}
 use Rattle.rwsp_file.specs.declared.misfit.Misfit.{Misfit}
 use Rattle.rwsp_file.specs.declared.misfit.Misfit.TheVariants.{TextEnds, BadWord}
@@ -14,11 +13,11 @@ use Rattle.rwsp_file.specs.declared.misfit.Fault.{Fault}
 use Rattle.rwsp_file.specs.declared.misfit.Fault.TheVariants.{NotEnd}
 use Rattle.rwsp_file.specs.declared.misfit.Place.{Place}
 use Rattle.rwsp_file.specs.declared.misfit.Place.TheVariants.{TextEnd}
-use Rattle.rwsp_file.proofs.Readers.{one_word, bind_ok, then_ok, ok_same, given}
+use Rattle.rwsp_file.proofs.Readers.{one_word, bind_ok, then_ok, given, failed, err_same}
 use Rattle.rwsp_file.proofs.Lines.{unread}
-use Rattle.rwsp_file.proofs.Awaited.{Awaited, read_on}
-use Rattle.rwsp_file.proofs.Awaited.Awaited.{End, Word, Row}
-use Rattle.rwsp_file.proofs.SoundParts.{lexeme_on, Leads, IsSound, IsRefused, failed, err_same}
+use Rattle.rwsp_file.proofs.Awaited.{Awaited, read_on, Makes, IsSound, read_makes}
+use Rattle.rwsp_file.proofs.Awaited.Awaited.{End, Word}
+use Rattle.rwsp_file.proofs.Forms.{lexeme_on, WordForm, IsRefused}
 use Rattle.rwsp_file.proofs.Completions.{on_one, on_fresh, StartsFrom, starts_fresh, AreLines, Completion, complete, word_reads}
 use Rattle.rwsp_file.proofs.Reached.{line_of_next, Reach}
 
@@ -54,19 +53,6 @@ abbrev pub Fails : Awaited → List Lexeme → ℕ → Misfit → Type 0
 Fails p us end (TextEnds awaited line) = (line ≡ end) × CanEnd p us end
 Fails p us end (BadWord awaited w fault) = FailsAt p us awaited w fault
 
--- what is read is an instance with which it may end
-pub reads_lead : (p : Awaited) (u : Unread) (P : Instance) → read_on p u ≡ Ok P → Leads p P
-unfolding read_on
-reads_lead (End Q) u P e =
-    let a : (x : Unit {0}) × (nothing_of u.lexemes ≡ Ok x) × (Ok Q ≡ Ok P) = bind_ok (nothing_of u.lexemes) (λ _. Ok Q) P e in
-    sym (ok_same Q P a.2)
-reads_lead (Word X awaited give next) u P e =
-    let a : (x : X × Unread) × (one_word awaited give u ≡ Ok x) × (read_on (next x.0) x.1 ≡ Ok P) = bind_ok (one_word awaited give u) (λ p. read_on (next p.0) p.1) P e in
-    (a.0.0, reads_lead (next a.0.0) a.0.1 P a.2)
-reads_lead (Row earlier next) u P e =
-    let a : (x : ShiftRow × Unread) × (shift_at earlier u ≡ Ok x) × (read_on (next x.0) x.1 ≡ Ok P) = bind_ok (shift_at earlier u) (λ p. read_on (next p.0) p.1) P e in
-    (a.0.0, reads_lead (next a.0.0) a.0.1 P a.2)
-
 -- a failure at the end of a text, and one of a word
 
 pub ends_clash : (X : Type 0) (x : X) (why : Misfit) → failed {X = X} why ≡ Ok x → ⊥
@@ -83,7 +69,7 @@ end_fails P (w ∷ ws) end why e =
       rests = tt;
       can = record { words = []; lines = []; are_words = tt; are_lines = tt; P = P; reads = λ g. refl };
       cannot = λ more g Q _ h. ends_clash Instance Q (BadWord TextEnd w NotEnd) h;
-      broken = λ more g Q _ h front spells. spells (λ k. ap given (sym (reads_lead (End P) (unread more g) Q h)));
+      broken = λ more g Q _ h front spells. spells (λ k. ap given (sym (read_makes (End P) (unread more g) Q h).1.1));
     })
 
 word_refused : (X : Type 0) (awaited : Place) (give : Lexeme → Result X Misfit) (w : Lexeme) (ws : List Lexeme) (end : ℕ) (why : Misfit) → one_word awaited give (unread (w ∷ ws) end) ≡ Err why → give w ≡ Err why
@@ -100,17 +86,17 @@ word_taken X awaited give w ws end p e = at (give w) refl e where
   at (Ok x) g h = (x, g)
   at (Err a) g h = absurd (ends_clash (X × Unread) p a h)
 
-pub word_fails : (X : Type 0) (awaited : Place) (give : Lexeme → Result X Misfit) (next : X → Awaited) (vs : List Lexeme) (end : ℕ) (why : Misfit) → IsSound (Word X awaited give next) → one_word awaited give (unread vs end) ≡ Err why → Fails (Word X awaited give next) vs end why
+pub word_fails : (form : WordForm) (next : form.X → Awaited) (vs : List Lexeme) (end : ℕ) (why : Misfit) → IsSound (Word form next) → one_word form.awaited form.give (unread vs end) ≡ Err why → Fails (Word form next) vs end why
 unfolding read_on next_at
-word_fails X awaited give next [] end why sound e =
-    let c : Completion (Word X awaited give next) end = complete (Word X awaited give next) sound end in
-    subst (Fails (Word X awaited give next) [] end) (err_same {X = X × Unread} (TextEnds awaited end) why e) (refl, record { lines = c.lines; are_lines = c.words; P = c.P; reads = c.reads })
-word_fails X awaited give next (w ∷ ws) end why sound e =
-    let bad : give w ≡ Err why = word_refused X awaited give w ws end why e in
-    let r : IsRefused awaited w why (λ P. (x : X) × Leads (next x) P) = sound.1 w why bad in
-    let x : (y : X) × (give (lexeme_on w.line sound.0.text) ≡ Ok y) = sound.0.gives w.line in
+word_fails form next [] end why sound e =
+    let c : Completion (Word form next) end = complete (Word form next) sound end in
+    subst (Fails (Word form next) [] end) (err_same {X = form.X × Unread} (TextEnds form.awaited end) why e) (refl, record { lines = c.lines; are_lines = c.words; P = c.P; reads = c.reads })
+word_fails form next (w ∷ ws) end why sound e =
+    let bad : form.give w ≡ Err why = word_refused form.X form.awaited form.give w ws end why e in
+    let r : IsRefused form.awaited w why form.Here = form.refused w why bad in
+    let x : (y : form.X) × (form.give (lexeme_on w.line sound.0.text) ≡ Ok y) = sound.0.gives w.line in
     let c : Completion (next x.0) w.line = complete (next x.0) (sound.2 (lexeme_on w.line sound.0.text) x.0 x.1) w.line in
-    subst (Fails (Word X awaited give next) (w ∷ ws) end) (sym r.same) (record {
+    subst (Fails (Word form next) (w ∷ ws) end) (sym r.same) (record {
       before = [];
       after = ws;
       whole = refl;
@@ -122,14 +108,14 @@ word_fails X awaited give next (w ∷ ws) end why sound e =
         are_lines = c.words;
         P = c.P;
         reads = λ g.
-            then_ok (one_word awaited give (unread (lexeme_on w.line sound.0.text ∷ on_fresh w.line c.lines) g)) (λ p. read_on (next p.0) p.1) (x.0, unread (on_fresh w.line c.lines) g) c.P
-            (word_reads awaited give (lexeme_on w.line sound.0.text) (on_fresh w.line c.lines) g x.0 x.1) (c.reads g);
+            then_ok (one_word form.awaited form.give (unread (lexeme_on w.line sound.0.text ∷ on_fresh w.line c.lines) g)) (λ p. read_on (next p.0) p.1) (x.0, unread (on_fresh w.line c.lines) g) c.P
+            (word_reads form.awaited form.give (lexeme_on w.line sound.0.text) (on_fresh w.line c.lines) g x.0 x.1) (c.reads g);
       };
       cannot = λ more g P _ h.
-          let a : (p : X × Unread) × (one_word awaited give (unread (w ∷ more) g) ≡ Ok p) × (read_on (next p.0) p.1 ≡ Ok P) = bind_ok (one_word awaited give (unread (w ∷ more) g)) (λ p. read_on (next p.0) p.1) P h in
-          let t : (y : X) × (give w ≡ Ok y) = word_taken X awaited give w more g a.0 a.1 in
-          ends_clash X t.0 why (sym bad ∙ t.1);
-      broken = λ more g P _ h front _. r.broken front P (reads_lead (Word X awaited give next) (unread more g) P h);
+          let a : (p : form.X × Unread) × (one_word form.awaited form.give (unread (w ∷ more) g) ≡ Ok p) × (read_on (next p.0) p.1 ≡ Ok P) = bind_ok (one_word form.awaited form.give (unread (w ∷ more) g)) (λ p. read_on (next p.0) p.1) P h in
+          let t : (y : form.X) × (form.give w ≡ Ok y) = word_taken form.X form.awaited form.give w more g a.0 a.1 in
+          ends_clash form.X t.0 why (sym bad ∙ t.1);
+      broken = λ more g P _ h front _. let m : (fs : List FileField) × Makes (Word form next) fs P × Spell fs more = read_makes (Word form next) (unread more g) P h in r.broken front P (sound.1 P m.0 m.1);
     })
 
 -- a failure where reading goes on is one of the whole

@@ -1,5 +1,5 @@
 -- One step of reading many things.
-use Rattle.std.proofs.Common.{◌≡◌, ℕ, length, suc, ◌+◌, ◌-◌, ◌<◌, ◌≤◌, sym, List, [], ◌∷◌, ◌++◌, Result, Ok, Err, ap, ◌∙◌, arith, refl, subst}
+use Rattle.std.proofs.Common.{◌≡◌, ℕ, length, length-append, suc, ◌+◌, ◌-◌, ◌<◌, ◌≤◌, sym, List, [], ◌∷◌, ◌++◌, Result, Ok, Err, ap, ◌∙◌, arith, refl, subst}
 use Rattle.rwsp_file.specs.Reading.{Unread, many, each, ◌>>=◌}
 use Rattle.std.specs.Result.{MatchResult, IsErrAnd}
 use Rattle.rwsp_file.specs.Reads.{ReadsTokens, ReadsUnless}
@@ -88,3 +88,21 @@ each_reads read k all u r long h = ap (λ n. read (n + 1) u) long ∙ h
 
 pub each_fails : {X Z : Type 0} (view : Z → X) (read : ℕ → Unread → Result (X × Unread) Misfit) (k : ℕ) (all : List X) (u left : Unread) (r : Result Z (Fail Misfit)) → length all ≡ k → ReadsUnless {X = Z} {Y = X} view (read (k + 1) u) r left → ReadsUnless {X = Z} {Y = X} view (each read all u) r left
 each_fails {X} {Z} view read k all u left r long h = subst (λ n. ReadsUnless {X = Z} {Y = X} view (read (n + 1) u) r left) (sym long) h
+
+-- a loop has read as many as it has gone round
+
+abbrev pub HasRead : {X : Type 0} → (ℕ → Unread → Result (X × Unread) Misfit) → (n i : ℕ) → List X → (left start : Unread) → Type 0
+HasRead read n i all u start = (many (each read) (n - i) all u ≡ many (each read) n [] start) × (length all ≡ i)
+
+pub read_none : {X : Type 0} (read : ℕ → Unread → Result (X × Unread) Misfit) (n : ℕ) (all : List X) (u : Unread) → all ≡ [] → HasRead read n 0 all u u
+read_none read n all u none = (many_start (each read) n all u none, ap length none)
+
+pub read_more : {X : Type 0} (read : ℕ → Unread → Result (X × Unread) Misfit) (n i : ℕ) (all new : List X) (x : X) (u v start : Unread) → HasRead read n i all u start → i < n → read (i + 1) u ≡ Ok (x, v) → new ≡ all ++ x ∷ [] → HasRead read n (i + 1) new v start
+read_more read n i all new x u v start h lt e step = (
+  ap (λ xs. many (each read) (n - (i + 1)) xs v) step ∙ sym (many_ok (each read) n i all u x v lt (each_reads read i all u (Ok (x, v)) h.1 e)) ∙ h.0,
+  omega (arith, ap length step, length-append all (x ∷ []), h.1),
+)
+
+pub read_stops : {X Y Z : Type 0} (view : Z → X) (views : Y → List X) (read : ℕ → Unread → Result (X × Unread) Misfit) (n i : ℕ) (all : List X) (u start left after : Unread) (why : Fail Misfit) → HasRead read n i all u start → i < n → ReadsUnless {X = Z} {Y = X} view (read (i + 1) u) (Err why) left →
+    ReadsUnless {X = Y} {Y = List X} views (many (each read) n [] start) (Err why) after
+read_stops view views read n i all u start left after why h lt fails = loop_fails view views (each read) n i all u start left after why h.0 lt (each_fails view read i all u left (Err why) h.1 fails)

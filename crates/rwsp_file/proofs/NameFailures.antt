@@ -18,7 +18,8 @@ use Rattle.rwsp_file.specs.declared.misfit.Misfit.TheVariants.{BadWord}
 use Rattle.rwsp_file.specs.declared.misfit.Fault.TheVariants.{LongName, OffName, TakenName}
 use Rattle.rwsp_file.specs.declared.misfit.Place.TheVariants.{ShiftName}
 use Rattle.rwsp_file.proofs.Lines.{is_some-position}
-use Rattle.rwsp_file.proofs.SoundParts.{IsRefused, failed, err_same}
+use Rattle.rwsp_file.proofs.Readers.{failed, err_same}
+use Rattle.rwsp_file.proofs.Forms.{IsRefused}
 
 -- the shifts of the instance begin with the earlier ones
 abbrev pub BeginsWith : List ShiftRow → Instance → Type 0

@@ -4,17 +4,17 @@ use Rattle.std.proofs.lemmas.Bool.Decides.{nat_tests}
 use Rattle.rwsp_text.specs.Lexemes.{Lexeme}
 use Rattle.rwsp_terms.specs.Instance.{Instance}
 use Rattle.rwsp_terms.specs.declared.data.ShiftRow.{ShiftRow}
-use Rattle.rwsp_file.specs.Spelling.{is_on_line, on_line, past_line}
+use Rattle.rwsp_file.specs.Spelling.{IsRow, is_on_line, on_line, past_line}
 use Rattle.rwsp_file.specs.Reading.{Unread, ◌>>=◌, next_at, shift_at, nothing_of}
 use Rattle.rwsp_file.specs.declared.misfit.Misfit.{Misfit}
 use Rattle.rwsp_file.specs.declared.misfit.Misfit.TheVariants.{TextEnds}
-use Rattle.rwsp_file.specs.declared.misfit.Place.{Place}
-use Rattle.rwsp_file.proofs.Readers.{one_word}
+use Rattle.rwsp_file.proofs.Readers.{one_word, failed, err_same}
 use Rattle.rwsp_file.proofs.Lines.{unread}
-use Rattle.rwsp_file.proofs.Awaited.{Awaited, read_on}
+use Rattle.rwsp_file.proofs.Awaited.{Awaited, read_on, IsSound}
 use Rattle.rwsp_file.proofs.Awaited.Awaited.{End, Word, Row}
-use Rattle.rwsp_file.proofs.SoundParts.{IsSound, failed, err_same}
-use Rattle.rwsp_file.proofs.RowLines.{AllOn, Off, cut_line, ReadRow, shift_read, shift_left, row_in_front}
+use Rattle.rwsp_file.proofs.Forms.{WordForm}
+use Rattle.rwsp_file.proofs.RowReader.{IsGoodRow, row_gives}
+use Rattle.rwsp_file.proofs.RowLines.{AllOn, Off, cut_line, row_in_front}
 use Rattle.rwsp_file.proofs.Completions.{StartsFrom, off_later, word_reads}
 
 -- the lines of the lexemes rise from a first one on up to a last one
@@ -63,7 +63,7 @@ pub record Reach (p q : Awaited) (us vs : List Lexeme) (from : ℕ) : Type 0 whe
 -- what is awaited first is not there
 abbrev pub Stuck : Awaited → List Lexeme → ℕ → Misfit → Type 0
 Stuck (End P) vs end why = nothing_of vs ≡ Err why
-Stuck (Word X awaited give next) vs end why = one_word awaited give (unread vs end) ≡ Err why
+Stuck (Word form next) vs end why = one_word form.awaited form.give (unread vs end) ≡ Err why
 Stuck (Row earlier next) vs end why = shift_at earlier (unread vs end) ≡ Err why
 
 -- where reading fails
@@ -77,19 +77,19 @@ pub record Found (p : Awaited) (us : List Lexeme) (end : ℕ) (why : Misfit) : T
 here : (p : Awaited) (us : List Lexeme) (end : ℕ) (why : Misfit) → IsSound p → Stuck p us end why → Found p us end why
 here p us end why sound stuck = record { q = p; vs = us; sound = sound; reach = record { before = []; whole = refl; same = λ more e from. refl }; stuck = stuck }
 
-read_word : (X : Type 0) (awaited : Place) (give : Lexeme → Result X Misfit) (next : X → Awaited) (w : Lexeme) (ws : List Lexeme) (end : ℕ) (x : X) → give w ≡ Ok x → read_on (Word X awaited give next) (unread (w ∷ ws) end) ≡ read_on (next x) (unread ws end)
+read_word : (form : WordForm) (next : form.X → Awaited) (w : Lexeme) (ws : List Lexeme) (end : ℕ) (x : form.X) → form.give w ≡ Ok x → read_on (Word form next) (unread (w ∷ ws) end) ≡ read_on (next x) (unread ws end)
 unfolding read_on
-read_word X awaited give next w ws end x e = ap (λ (r : Result (X × Unread) Misfit). r >>= (λ p. read_on (next p.0) p.1)) (word_reads awaited give w ws end x e)
+read_word form next w ws end x e = ap (λ (r : Result (form.X × Unread) Misfit). r >>= (λ p. read_on (next p.0) p.1)) (word_reads form.awaited form.give w ws end x e)
 
-behind_word : (X : Type 0) (awaited : Place) (give : Lexeme → Result X Misfit) (next : X → Awaited) (w : Lexeme) (ws : List Lexeme) (end : ℕ) (why : Misfit) (x : X) → give w ≡ Ok x → Found (next x) ws end why → Found (Word X awaited give next) (w ∷ ws) end why
-behind_word X awaited give next w ws end why x e f = record {
+behind_word : (form : WordForm) (next : form.X → Awaited) (w : Lexeme) (ws : List Lexeme) (end : ℕ) (why : Misfit) (x : form.X) → form.give w ≡ Ok x → Found (next x) ws end why → Found (Word form next) (w ∷ ws) end why
+behind_word form next w ws end why x e f = record {
   q = f.q;
   vs = f.vs;
   sound = f.sound;
   reach = record {
     before = w ∷ f.reach.before;
     whole = ap (λ (zs : List Lexeme). w ∷ zs) f.reach.whole;
-    same = λ more g from. read_word X awaited give next w (f.reach.before ++ more) g x e ∙ f.reach.same more g from;
+    same = λ more g from. read_word form next w (f.reach.before ++ more) g x e ∙ f.reach.same more g from;
   };
   stuck = f.stuck;
 }
@@ -98,7 +98,7 @@ pub read_row : (earlier : List ShiftRow) (next : ShiftRow → Awaited) (us : Lis
 unfolding read_on
 read_row earlier next us end row v e = ap (λ (r : Result (ShiftRow × Unread) Misfit). r >>= (λ p. read_on (next p.0) p.1)) e
 
-behind_row : (earlier : List ShiftRow) (next : ShiftRow → Awaited) (w : Lexeme) (ws : List Lexeme) (end : ℕ) (why : Misfit) (row : ShiftRow) → ReadRow earlier (w ∷ ws) row → Rising w.line end ws → Found (next row) (past_line w.line ws) end why →
+behind_row : (earlier : List ShiftRow) (next : ShiftRow → Awaited) (w : Lexeme) (ws : List Lexeme) (end : ℕ) (why : Misfit) (row : ShiftRow) → IsGoodRow earlier row × IsRow row (w ∷ on_line w.line ws) → Rising w.line end ws → Found (next row) (past_line w.line ws) end why →
     Found (Row earlier next) (w ∷ ws) end why
 behind_row earlier next w ws end why row r rising f =
     let cut : AllOn w.line (on_line w.line ws) × Off w.line (past_line w.line ws) × (ws ≡ on_line w.line ws ++ past_line w.line ws) = cut_line w.line ws in
@@ -113,7 +113,7 @@ behind_row earlier next w ws end why row r rising f =
         same = λ more g from.
             ap (λ (zs : List Lexeme). read_on (Row earlier next) (unread zs g)) (append_assoc (w ∷ on_line w.line ws) f.reach.before more)
             ∙ read_row earlier next ((w ∷ on_line w.line ws) ++ (f.reach.before ++ more)) g row (unread (f.reach.before ++ more) g)
-            (row_in_front earlier w.line (w ∷ on_line w.line ws) (f.reach.before ++ more) g row (refl, cut.0) (off_joined w.line end f.reach.before f.vs (past_line w.line ws) more f.reach.whole cut.1 up from) r.good r.text)
+            (row_in_front earlier w.line (w ∷ on_line w.line ws) (f.reach.before ++ more) g row (refl, cut.0) (off_joined w.line end f.reach.before f.vs (past_line w.line ws) more f.reach.whole cut.1 up from) r.0 r.1)
             ∙ f.reach.same more g from;
       };
       stuck = f.stuck;
@@ -126,22 +126,23 @@ find (End P) sound from end us rising why e = at (nothing_of us) refl e where
   at : (r : Result (Unit {0}) Misfit) → nothing_of us ≡ r → (r >>= (λ _. Ok P)) ≡ Err why → Found (End P) us end why
   at (Ok t) h g = absurd (cc)
   at (Err x) h g = here (End P) us end why sound (h ∙ ap failed (err_same {X = Instance} x why g))
-find (Word X awaited give next) sound from end [] rising why e = here (Word X awaited give next) [] end why sound (ap failed (err_same {X = Instance} (TextEnds awaited end) why e))
-find (Word X awaited give next) sound from end (w ∷ ws) rising why e =
-    at (λ x g. find (next x) (sound.2 w x g) w.line end ws rising.1 why) (give w) refl e where
-      at : ((x : X) → give w ≡ Ok x → read_on (next x) (unread ws end) ≡ Err why → Found (next x) ws end why) → (r : Result X Misfit) → give w ≡ r →
-          (◌>>=◌ {A = X × Unread} {B = Instance} (◌>>=◌ {A = X} {B = X × Unread} r (λ x. Ok (x, unread ws end))) (λ p. read_on (next p.0) p.1)) ≡ Err why → Found (Word X awaited give next) (w ∷ ws) end why
-      at more (Ok x) g h = behind_word X awaited give next w ws end why x g (more x g h)
-      at more (Err x) g h = here (Word X awaited give next) (w ∷ ws) end why sound
-          (ap (λ (r : Result X Misfit). ◌>>=◌ {A = X} {B = X × Unread} r (λ y. Ok (y, unread ws end))) g ∙ ap (failed {X = X × Unread}) (err_same {X = Instance} x why h))
+find (Word form next) sound from end [] rising why e = here (Word form next) [] end why sound (ap failed (err_same {X = Instance} (TextEnds form.awaited end) why e))
+find (Word form next) sound from end (w ∷ ws) rising why e =
+    at (λ x g. find (next x) (sound.2 w x g) w.line end ws rising.1 why) (form.give w) refl e where
+      at : ((x : form.X) → form.give w ≡ Ok x → read_on (next x) (unread ws end) ≡ Err why → Found (next x) ws end why) → (r : Result form.X Misfit) → form.give w ≡ r →
+          (◌>>=◌ {A = form.X × Unread} {B = Instance} (◌>>=◌ {A = form.X} {B = form.X × Unread} r (λ x. Ok (x, unread ws end))) (λ p. read_on (next p.0) p.1)) ≡ Err why → Found (Word form next) (w ∷ ws) end why
+      at more (Ok x) g h = behind_word form next w ws end why x g (more x g h)
+      at more (Err x) g h = here (Word form next) (w ∷ ws) end why sound
+          (ap (λ (r : Result form.X Misfit). ◌>>=◌ {A = form.X} {B = form.X × Unread} r (λ y. Ok (y, unread ws end))) g ∙ ap (failed {X = form.X × Unread}) (err_same {X = Instance} x why h))
 find (Row earlier next) sound from end [] rising why e = at (shift_at earlier (unread [] end)) refl e where
   at : (r : Result (ShiftRow × Unread) Misfit) → shift_at earlier (unread [] end) ≡ r → (r >>= (λ p. read_on (next p.0) p.1)) ≡ Err why → Found (Row earlier next) [] end why
-  at (Ok (row, v)) g h = absurd (shift_read earlier [] end row v g).text
+  at (Ok p) g h = absurd ((row_gives earlier [] end).found p g).0.1
   at (Err x) g h = here (Row earlier next) [] end why sound (g ∙ ap failed (err_same {X = Instance} x why h))
 find (Row earlier next) sound from end (w ∷ ws) rising why e =
     at (λ row. find (next row) (sound.2 row) w.line end (past_line w.line ws) (rising_past w.line end ws rising.1) why) (shift_at earlier (unread (w ∷ ws) end)) refl e where
       at : ((row : ShiftRow) → read_on (next row) (unread (past_line w.line ws) end) ≡ Err why → Found (next row) (past_line w.line ws) end why) → (r : Result (ShiftRow × Unread) Misfit) → shift_at earlier (unread (w ∷ ws) end) ≡ r →
           (r >>= (λ p. read_on (next p.0) p.1)) ≡ Err why → Found (Row earlier next) (w ∷ ws) end why
       at more (Ok (row, v)) g h =
-          behind_row earlier next w ws end why row (shift_read earlier (w ∷ ws) end row v g) rising.1 (more row (ap (read_on (next row)) (sym (shift_left earlier w ws end row v g)) ∙ h))
+          let r = (row_gives earlier (w ∷ ws) end).found (row, v) g in
+          behind_row earlier next w ws end why row r.0 rising.1 (more row (ap (read_on (next row)) (sym r.1) ∙ h))
       at more (Err x) g h = here (Row earlier next) (w ∷ ws) end why sound (g ∙ ap failed (err_same {X = Instance} x why h))

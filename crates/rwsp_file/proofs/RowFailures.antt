@@ -9,7 +9,7 @@ use Rattle.rwsp_terms.specs.declared.data.Bounds.{Bounds}
 use Rattle.rwsp_terms.specs.declared.data.ShiftRow.{ShiftRow}
 use Rattle.rwsp_terms.proofs.Elements.{all_joined}
 use Rattle.rwsp_model.proofs.Names.{IsWord}
-use Rattle.rwsp_file.specs.Spelling.{IsRow, on_line, past_line}
+use Rattle.rwsp_file.specs.Spelling.{FileField, Spell, IsRow, on_line, past_line}
 use Rattle.rwsp_file.specs.Reading.{Unread, ◌>>=◌, or_refuse, next_at, limit_of, limited, words_of_row, row_words, row_words_at, is_new_name, new_name, numbers_of_row, shift_of, shift_at}
 use Rattle.rwsp_file.specs.FirstFailures.{IsNoLongName, RestsOn, HasFault}
 use Rattle.rwsp_file.specs.declared.row.RowWords.{RowWords}
@@ -19,18 +19,18 @@ use Rattle.rwsp_file.specs.declared.misfit.Fault.{Fault}
 use Rattle.rwsp_file.specs.declared.misfit.Fault.TheVariants.{WordCount}
 use Rattle.rwsp_file.specs.declared.misfit.Place.{Place}
 use Rattle.rwsp_file.specs.declared.misfit.Place.TheVariants.{ShiftLine, ShiftName, Start, Minutes, LeastBlock, GreatestBlock}
-use Rattle.rwsp_file.proofs.Readers.{bind_ok}
+use Rattle.rwsp_file.proofs.Readers.{bind_ok, bind_err, err_same}
 use Rattle.rwsp_file.proofs.FieldReaders.{limited_gives}
 use Rattle.rwsp_file.proofs.Lines.{unread}
-use Rattle.rwsp_file.proofs.RowReader.{IsGoodRow, name_gives}
+use Rattle.rwsp_file.proofs.RowReader.{IsGoodRow, name_gives, odd_row, row_step, row_gives}
 use Rattle.rwsp_file.proofs.WordForms.{all_front, first_word}
-use Rattle.rwsp_file.proofs.Awaited.{Awaited, read_on}
+use Rattle.rwsp_file.proofs.Awaited.{Awaited, read_on, Makes, IsSound, read_makes}
 use Rattle.rwsp_file.proofs.Awaited.Awaited.{Row}
-use Rattle.rwsp_file.proofs.SoundParts.{lexeme_on, IsSound, IsRefused, IsNumberPlace, IsRefusedAt, limited_refused, failed, err_same, bind_err, zero_word, zero_is_word}
-use Rattle.rwsp_file.proofs.RowLines.{AllOn, Off, cut_line, off_line, joined_line, first_joined, ReadRow, shift_read, row_in_front}
+use Rattle.rwsp_file.proofs.Forms.{lexeme_on, IsRefused, IsNumberPlace, IsRefusedAt, limited_refused, zero_word, zero_is_word}
+use Rattle.rwsp_file.proofs.RowLines.{AllOn, Off, cut_line, off_line, joined_line, first_joined, row_in_front}
 use Rattle.rwsp_file.proofs.Completions.{on_one, on_fresh, starts_fresh, off_later, on_one_line, Numbered, zero_numbered, GoodRow, five_words, six_words, fresh_row, fresh_row_words, fresh_row_good, Completion, complete}
 use Rattle.rwsp_file.proofs.Reached.{read_row}
-use Rattle.rwsp_file.proofs.LexemeFailures.{GoesOn, FailsAt, Fails, reads_lead, ends_clash}
+use Rattle.rwsp_file.proofs.LexemeFailures.{GoesOn, FailsAt, Fails, ends_clash}
 use Rattle.rwsp_file.proofs.NameFailures.{BeginsWith, name_refused}
 
 -- what the words of a row are
@@ -111,29 +111,23 @@ numbered : (awaited : Place) (k : ℕ) (w : Lexeme) (n : ℕ) → limited awaite
 numbered awaited k w n e = let f = (limited_gives awaited (limit_of k 0 10000) w).found n e in (n, f.0.1, f.1)
 
 -- what is wrong with a row: its count of words, or one of its words
-row_stuck : (earlier : List ShiftRow) (v : Lexeme) (vs : List Lexeme) (end : ℕ) (why : Misfit) → shift_at earlier (unread (v ∷ vs) end) ≡ Err why →
-    ((words_of_row (v ∷ on_line v.line vs) ≡ None) × (why ≡ BadWord (ShiftLine (length earlier + 1)) v (WordCount (length (on_line v.line vs) + 1)))) ⊎ ((r : RowWords) × (words_of_row (v ∷ on_line v.line vs) ≡ Some r) × (shift_of earlier r ≡ Err why))
-unfolding shift_at row_words_at next_at
-row_stuck earlier v vs end why e = at (words_of_row (v ∷ on_line v.line vs)) refl e where
-  of_row : (r : RowWords) (x : Result ShiftRow Misfit) → words_of_row (v ∷ on_line v.line vs) ≡ Some r → shift_of earlier r ≡ x → ◌>>=◌ {A = ShiftRow} {B = ShiftRow × Unread} x (λ row. Ok (row, unread (past_line v.line vs) end)) ≡ Err why →
-      ((words_of_row (v ∷ on_line v.line vs) ≡ None) × (why ≡ BadWord (ShiftLine (length earlier + 1)) v (WordCount (length (on_line v.line vs) + 1)))) ⊎ ((r : RowWords) × (words_of_row (v ∷ on_line v.line vs) ≡ Some r) × (shift_of earlier r ≡ Err why))
-  of_row r (Ok row) h g i = absurd (ends_clash (ShiftRow × Unread) (row, unread (past_line v.line vs) end) why (sym i))
-  of_row r (Err a) h g i = inr (r, h, g ∙ ap failed (err_same {X = ShiftRow × Unread} a why i))
+abbrev RowStuck : List ShiftRow → Lexeme → List Lexeme → Misfit → Type 0
+RowStuck earlier v vs why =
+    ((words_of_row (v ∷ on_line v.line vs) ≡ None) × (why ≡ odd_row earlier v vs)) ⊎ ((r : RowWords) × (words_of_row (v ∷ on_line v.line vs) ≡ Some r) × (shift_of earlier r ≡ Err why))
 
-  at : (o : Option RowWords) → words_of_row (v ∷ on_line v.line vs) ≡ o →
-      ◌>>=◌ {A = RowWords × Unread} {B = ShiftRow × Unread} (◌>>=◌ {A = RowWords} {B = RowWords × Unread} (or_refuse o (BadWord (ShiftLine (length earlier + 1)) v (WordCount (length (on_line v.line vs) + 1)))) (λ words. Ok (words, unread (past_line v.line vs) end)))
-      (λ words. shift_of earlier words.0 >>= (λ row. Ok (row, words.1))) ≡ Err why →
-      ((words_of_row (v ∷ on_line v.line vs) ≡ None) × (why ≡ BadWord (ShiftLine (length earlier + 1)) v (WordCount (length (on_line v.line vs) + 1)))) ⊎ ((r : RowWords) × (words_of_row (v ∷ on_line v.line vs) ≡ Some r) × (shift_of earlier r ≡ Err why))
-  at None h g = inl (h, sym (err_same {X = ShiftRow × Unread} (BadWord (ShiftLine (length earlier + 1)) v (WordCount (length (on_line v.line vs) + 1))) why g))
-  at (Some r) h g = of_row r (shift_of earlier r) h refl g
+-- a row, with what is left behind its line
+abbrev with_left : Lexeme → List Lexeme → ℕ → ShiftRow → Result (ShiftRow × Unread) Misfit
+with_left v vs end row = Ok (row, unread (past_line v.line vs) end)
 
--- which number of a row is the first that fails
-abbrev NumbersStuck : ℕ → RowWords → Misfit → Type 0
-NumbersStuck shift r why =
-    (limited (Start shift) (limit_of 6 0 10000) r.start ≡ Err why)
-    ⊎ (Numbered r.start × ((limited (Minutes shift) (limit_of 6 0 10000) r.minutes ≡ Err why)
-    ⊎ (Numbered r.minutes × ((limited (LeastBlock shift) (limit_of 7 0 10000) r.least ≡ Err why)
-    ⊎ (Numbered r.least × (limited (GreatestBlock shift) (limit_of 7 0 10000) r.greatest ≡ Err why))))))
+row_stuck : (earlier : List ShiftRow) (v : Lexeme) (vs : List Lexeme) (end : ℕ) (why : Misfit) → shift_at earlier (unread (v ∷ vs) end) ≡ Err why → RowStuck earlier v vs why
+row_stuck earlier v vs end why e = at (words_of_row (v ∷ on_line v.line vs)) refl (sym (row_step earlier v vs end) ∙ e) where
+  of_row : (r : RowWords) → words_of_row (v ∷ on_line v.line vs) ≡ Some r → (shift_of earlier r ≡ Err why) ⊎ ((row : ShiftRow) × (shift_of earlier r ≡ Ok row) × (with_left v vs end row ≡ Err why)) → RowStuck earlier v vs why
+  of_row r h (inl f) = inr (r, h, f)
+  of_row r h (inr f) = absurd (ends_clash (ShiftRow × Unread) (f.0, unread (past_line v.line vs) end) why (sym f.2))
+
+  at : (o : Option RowWords) → words_of_row (v ∷ on_line v.line vs) ≡ o → (or_refuse o (odd_row earlier v vs) >>= (λ words. shift_of earlier words >>= with_left v vs end)) ≡ Err why → RowStuck earlier v vs why
+  at None h g = inl (h, sym (err_same {X = ShiftRow × Unread} (odd_row earlier v vs) why g))
+  at (Some r) h g = of_row r h (bind_err (shift_of earlier r) (with_left v vs end) why g)
 
 -- the numbers of a row: its start, its length and the bounds of its blocks
 abbrev Numbers : Type 0
@@ -155,49 +149,9 @@ after_minutes shift r start minutes = limited (LeastBlock shift) (limit_of 7 0 1
 abbrev after_start : ℕ → RowWords → ℕ → Result Numbers Misfit
 after_start shift r start = limited (Minutes shift) (limit_of 6 0 10000) r.minutes >>= (λ minutes. after_minutes shift r start minutes)
 
-numbers_stuck : (shift : ℕ) (r : RowWords) (why : Misfit) → numbers_of_row shift r ≡ Err why → NumbersStuck shift r why
-unfolding numbers_of_row
-numbers_stuck shift r why e =
-    of_start (bind_err (limited (Start shift) (limit_of 6 0 10000) r.start) (after_start shift r) why e) where
-      of_greatest : (start minutes least : ℕ) → Numbered r.least → (limited (GreatestBlock shift) (limit_of 7 0 10000) r.greatest ≡ Err why) ⊎ ((n : ℕ) × (limited (GreatestBlock shift) (limit_of 7 0 10000) r.greatest ≡ Ok n) × (Ok (numbers start minutes least n) ≡ Err why)) →
-          Numbered r.least × (limited (GreatestBlock shift) (limit_of 7 0 10000) r.greatest ≡ Err why)
-      of_greatest start minutes least h (inl f) = (h, f)
-      of_greatest start minutes least h (inr f) = absurd (ends_clash Numbers (numbers start minutes least f.0) why (sym f.2))
-
-      of_least : (start minutes : ℕ) → Numbered r.minutes → (limited (LeastBlock shift) (limit_of 7 0 10000) r.least ≡ Err why) ⊎ ((n : ℕ) × (limited (LeastBlock shift) (limit_of 7 0 10000) r.least ≡ Ok n) × (after_least shift r start minutes n ≡ Err why)) →
-          Numbered r.minutes × ((limited (LeastBlock shift) (limit_of 7 0 10000) r.least ≡ Err why) ⊎ (Numbered r.least × (limited (GreatestBlock shift) (limit_of 7 0 10000) r.greatest ≡ Err why)))
-      of_least start minutes h (inl f) = (h, inl f)
-      of_least start minutes h (inr f) =
-          (h, inr (of_greatest start minutes f.0 (numbered (LeastBlock shift) 7 r.least f.0 f.1) (bind_err (limited (GreatestBlock shift) (limit_of 7 0 10000) r.greatest) (λ greatest. Ok (numbers start minutes f.0 greatest)) why f.2)))
-
-      of_minutes : (start : ℕ) → Numbered r.start → (limited (Minutes shift) (limit_of 6 0 10000) r.minutes ≡ Err why) ⊎ ((n : ℕ) × (limited (Minutes shift) (limit_of 6 0 10000) r.minutes ≡ Ok n) × (after_minutes shift r start n ≡ Err why)) →
-          Numbered r.start × ((limited (Minutes shift) (limit_of 6 0 10000) r.minutes ≡ Err why) ⊎ (Numbered r.minutes × ((limited (LeastBlock shift) (limit_of 7 0 10000) r.least ≡ Err why) ⊎ (Numbered r.least × (limited (GreatestBlock shift) (limit_of 7 0 10000) r.greatest ≡ Err why)))))
-      of_minutes start h (inl f) = (h, inl f)
-      of_minutes start h (inr f) = (h, inr (of_least start f.0 (numbered (Minutes shift) 6 r.minutes f.0 f.1) (bind_err (limited (LeastBlock shift) (limit_of 7 0 10000) r.least) (λ least. after_least shift r start f.0 least) why f.2)))
-
-      of_start : (limited (Start shift) (limit_of 6 0 10000) r.start ≡ Err why) ⊎ ((n : ℕ) × (limited (Start shift) (limit_of 6 0 10000) r.start ≡ Ok n) × (after_start shift r n ≡ Err why)) → NumbersStuck shift r why
-      of_start (inl f) = inl f
-      of_start (inr f) = inr (of_minutes f.0 (numbered (Start shift) 6 r.start f.0 f.1) (bind_err (limited (Minutes shift) (limit_of 6 0 10000) r.minutes) (λ minutes. after_minutes shift r f.0 minutes) why f.2))
-
 -- the row with the name and the numbers
 abbrev row_of : List ℕ → Numbers → ShiftRow
 row_of name n = record { name = name; start = n.0; length = n.1; bounds = n.2 }
-
--- a shift is refused for its name, or for one of its numbers
-shift_stuck : (earlier : List ShiftRow) (r : RowWords) (why : Misfit) → shift_of earlier r ≡ Err why → (new_name earlier r.name ≡ Err why) ⊎ ((is_new_name earlier r.name.text ≡ true) × NumbersStuck (length earlier + 1) r why)
-unfolding shift_of
-shift_stuck earlier r why e =
-    of_name (bind_err (new_name earlier r.name) (λ name. numbers_of_row (length earlier + 1) r >>= (λ n. Ok (row_of name n))) why e) where
-      of_numbers : (name : List ℕ) → (numbers_of_row (length earlier + 1) r ≡ Err why) ⊎ ((n : Numbers) × (numbers_of_row (length earlier + 1) r ≡ Ok n) × (Ok (row_of name n) ≡ Err why)) → NumbersStuck (length earlier + 1) r why
-      of_numbers name (inl f) = numbers_stuck (length earlier + 1) r why f
-      of_numbers name (inr f) = absurd (ends_clash ShiftRow (row_of name f.0) why (sym f.2))
-
-      of_name : (new_name earlier r.name ≡ Err why) ⊎ ((name : List ℕ) × (new_name earlier r.name ≡ Ok name) × ((numbers_of_row (length earlier + 1) r >>= (λ n. Ok (row_of name n))) ≡ Err why)) →
-          (new_name earlier r.name ≡ Err why) ⊎ ((is_new_name earlier r.name.text ≡ true) × NumbersStuck (length earlier + 1) r why)
-      of_name (inl f) = inl f
-      of_name (inr f) =
-          let is : (is_new_name earlier f.0 ≡ true) × (r.name.text ≡ f.0) = (name_gives earlier r.name).found f.0 f.1 in
-          inr (ap (is_new_name earlier) is.1 ∙ is.0, of_numbers f.0 (bind_err (numbers_of_row (length earlier + 1) r) (λ n. Ok (row_of f.0 n)) why f.2))
 
 module _ (earlier : List ShiftRow) (next : ShiftRow → Awaited) (v : Lexeme) (vs : List Lexeme) (sound : IsSound (Row earlier next)) where
   -- a word of the row fails, where all in front of it can be gone on with
@@ -233,10 +187,10 @@ module _ (earlier : List ShiftRow) (next : ShiftRow → Awaited) (v : Lexeme) (v
         can = subst (GoesOn (Row earlier next) pre) (sym same_line) can;
         cannot = λ more g P on h.
             let a : (p : ShiftRow × Unread) × (shift_at earlier (unread (pre ++ w ∷ more) g) ≡ Ok p) × (read_on (next p.0) p.1 ≡ Ok P) = bind_ok (shift_at earlier (unread (pre ++ w ∷ more) g)) (λ p. read_on (next p.0) p.1) P h in
-            let r : ReadRow earlier (pre ++ w ∷ more) a.0.0 = shift_read earlier (pre ++ w ∷ more) g a.0.0 a.0.1 a.1 in
-            bad (on_line v.line more) (subst (λ l. RestsOn awaited fault (length (on_line l more))) same_line on) a.0.0 r.good
-            (subst (IsRow a.0.0) (first_joined v.line pre w more parts.0 same_line) r.text);
-        broken = λ more g P _ h front _. broken front P (sound.1 P (reads_lead (Row earlier next) (unread (pre ++ more) g) P h));
+            let r = ((row_gives earlier (pre ++ w ∷ more) g).found a.0 a.1).0 in
+            bad (on_line v.line more) (subst (λ l. RestsOn awaited fault (length (on_line l more))) same_line on) a.0.0 r.0
+            (subst (IsRow a.0.0) (first_joined v.line pre w more parts.0 same_line) r.1);
+        broken = λ more g P _ h front _. let m : (fs : List FileField) × Makes (Row earlier next) fs P × Spell fs (pre ++ more) = read_makes (Row earlier next) (unread (pre ++ more) g) P h in broken front P (sound.1 P m.0 m.1);
       }
 
   -- a number of the row fails
@@ -321,23 +275,51 @@ module _ (earlier : List ShiftRow) (next : ShiftRow → Awaited) (v : Lexeme) (v
       (six_words earlier r.name r.start r.minutes r.least (lexeme_on v.line zero_word) name start minutes least (zero_numbered v.line) six.0)
       (λ ys _ row is text. (row.bounds.greatest, is.blocks.1, sixth row r.name r.start r.minutes six.0 r.least r.greatest ys text))
 
-  numbers_fail : (end : ℕ) (why : Misfit) (r : RowWords) → IsFive (v ∷ on_line v.line vs) r ⊎ IsSix (v ∷ on_line v.line vs) r → is_new_name earlier r.name.text ≡ true → NumbersStuck (length earlier + 1) r why → Fails (Row earlier next) (v ∷ vs) end why
-  numbers_fail end why r shape name (inl e) = let front = begins_row r shape in start_fails end why r (r.minutes ∷ front.0) front.1 name e
-  numbers_fail end why r shape name (inr (start, inl e)) = let front = begins_row r shape in minutes_fails end why r front.0 front.1 name start e
-  numbers_fail end why r shape name (inr (start, inr (minutes, inl e))) = least_fails end why r shape name start minutes e
-  numbers_fail end why r shape name (inr (start, inr (minutes, inr (least, e)))) = greatest_fails end why r shape name start minutes least e
+  module _ (end : ℕ) (why : Misfit) (r : RowWords) (shape : IsFive (v ∷ on_line v.line vs) r ⊎ IsSix (v ∷ on_line v.line vs) r) where
+    abbrev shift : ℕ
+    shift = length earlier + 1
 
-  shift_fails : (end : ℕ) (why : Misfit) (r : RowWords) → IsFive (v ∷ on_line v.line vs) r ⊎ IsSix (v ∷ on_line v.line vs) r →
-      (new_name earlier r.name ≡ Err why) ⊎ ((is_new_name earlier r.name.text ≡ true) × NumbersStuck (length earlier + 1) r why) → Fails (Row earlier next) (v ∷ vs) end why
-  shift_fails end why r shape (inl e) = let front = begins_row r shape in name_fails end why r (r.start ∷ r.minutes ∷ front.0) front.1 e
-  shift_fails end why r shape (inr f) = numbers_fail end why r shape f.0 f.1
+    abbrev Fail : Type 0
+    Fail = Fails (Row earlier next) (v ∷ vs) end why
 
-  line_fails : (end : ℕ) (why : Misfit) → shift_at earlier (unread (v ∷ vs) end) ≡ Err why → Fails (Row earlier next) (v ∷ vs) end why
-  line_fails end why e = at (row_stuck earlier v vs end why e) where
-    at : ((words_of_row (v ∷ on_line v.line vs) ≡ None) × (why ≡ BadWord (ShiftLine (length earlier + 1)) v (WordCount (length (on_line v.line vs) + 1)))) ⊎ ((r : RowWords) × (words_of_row (v ∷ on_line v.line vs) ≡ Some r) × (shift_of earlier r ≡ Err why)) →
-        Fails (Row earlier next) (v ∷ vs) end why
-    at (inl f) = count_fails end why f.0 f.1
-    at (inr f) = shift_fails end why f.0 (words_are (v ∷ on_line v.line vs) f.0 f.1) (shift_stuck earlier f.0 why f.2)
+    -- the first number that fails
+    numbers_fail : is_new_name earlier r.name.text ≡ true → numbers_of_row (length earlier + 1) r ≡ Err why → Fail
+    unfolding numbers_of_row
+    numbers_fail name e = of_start (bind_err (limited (Start shift) (limit_of 6 0 10000) r.start) (after_start shift r) why e) where
+      of_greatest : (start minutes least : ℕ) → Numbered r.start → Numbered r.minutes → Numbered r.least → (limited (GreatestBlock shift) (limit_of 7 0 10000) r.greatest ≡ Err why) ⊎ ((n : ℕ) × (limited (GreatestBlock shift) (limit_of 7 0 10000) r.greatest ≡ Ok n) × (Ok (numbers start minutes least n) ≡ Err why)) → Fail
+      of_greatest start minutes least h i j (inl f) = greatest_fails end why r shape name h i j f
+      of_greatest start minutes least h i j (inr f) = absurd (ends_clash Numbers (numbers start minutes least f.0) why (sym f.2))
+
+      of_least : (start minutes : ℕ) → Numbered r.start → Numbered r.minutes → (limited (LeastBlock shift) (limit_of 7 0 10000) r.least ≡ Err why) ⊎ ((n : ℕ) × (limited (LeastBlock shift) (limit_of 7 0 10000) r.least ≡ Ok n) × (after_least shift r start minutes n ≡ Err why)) → Fail
+      of_least start minutes h i (inl f) = least_fails end why r shape name h i f
+      of_least start minutes h i (inr f) =
+          of_greatest start minutes f.0 h i (numbered (LeastBlock shift) 7 r.least f.0 f.1) (bind_err (limited (GreatestBlock shift) (limit_of 7 0 10000) r.greatest) (λ greatest. Ok (numbers start minutes f.0 greatest)) why f.2)
+
+      of_minutes : (start : ℕ) → Numbered r.start → (limited (Minutes shift) (limit_of 6 0 10000) r.minutes ≡ Err why) ⊎ ((n : ℕ) × (limited (Minutes shift) (limit_of 6 0 10000) r.minutes ≡ Ok n) × (after_minutes shift r start n ≡ Err why)) → Fail
+      of_minutes start h (inl f) = let front = begins_row r shape in minutes_fails end why r front.0 front.1 name h f
+      of_minutes start h (inr f) = of_least start f.0 h (numbered (Minutes shift) 6 r.minutes f.0 f.1) (bind_err (limited (LeastBlock shift) (limit_of 7 0 10000) r.least) (λ least. after_least shift r start f.0 least) why f.2)
+
+      of_start : (limited (Start shift) (limit_of 6 0 10000) r.start ≡ Err why) ⊎ ((n : ℕ) × (limited (Start shift) (limit_of 6 0 10000) r.start ≡ Ok n) × (after_start shift r n ≡ Err why)) → Fail
+      of_start (inl f) = let front = begins_row r shape in start_fails end why r (r.minutes ∷ front.0) front.1 name f
+      of_start (inr f) = of_minutes f.0 (numbered (Start shift) 6 r.start f.0 f.1) (bind_err (limited (Minutes shift) (limit_of 6 0 10000) r.minutes) (λ minutes. after_minutes shift r f.0 minutes) why f.2)
+
+    -- a shift is refused for its name, or for one of its numbers
+    shift_fails : shift_of earlier r ≡ Err why → Fail
+    unfolding shift_of
+    shift_fails e = of_name (bind_err (new_name earlier r.name) (λ name. numbers_of_row (length earlier + 1) r >>= (λ n. Ok (row_of name n))) why e) where
+      of_numbers : (name : List ℕ) → is_new_name earlier r.name.text ≡ true → (numbers_of_row (length earlier + 1) r ≡ Err why) ⊎ ((n : Numbers) × (numbers_of_row (length earlier + 1) r ≡ Ok n) × (Ok (row_of name n) ≡ Err why)) → Fail
+      of_numbers name new (inl f) = numbers_fail new f
+      of_numbers name new (inr f) = absurd (ends_clash ShiftRow (row_of name f.0) why (sym f.2))
+
+      of_name : (new_name earlier r.name ≡ Err why) ⊎ ((name : List ℕ) × (new_name earlier r.name ≡ Ok name) × ((numbers_of_row (length earlier + 1) r >>= (λ n. Ok (row_of name n))) ≡ Err why)) → Fail
+      of_name (inl f) = let front = begins_row r shape in name_fails end why r (r.start ∷ r.minutes ∷ front.0) front.1 f
+      of_name (inr f) =
+          let is : (is_new_name earlier f.0 ≡ true) × (r.name.text ≡ f.0) = (name_gives earlier r.name).found f.0 f.1 in
+          of_numbers f.0 (ap (is_new_name earlier) is.1 ∙ is.0) (bind_err (numbers_of_row (length earlier + 1) r) (λ n. Ok (row_of f.0 n)) why f.2)
+
+  line_fails : (end : ℕ) (why : Misfit) → RowStuck earlier v vs why → Fails (Row earlier next) (v ∷ vs) end why
+  line_fails end why (inl f) = count_fails end why f.0 f.1
+  line_fails end why (inr f) = shift_fails end why f.0 (words_are (v ∷ on_line v.line vs) f.0 f.1) f.2
 
 -- a row that is refused, or is not there
 pub row_fails : (earlier : List ShiftRow) (next : ShiftRow → Awaited) (vs : List Lexeme) (end : ℕ) (why : Misfit) → IsSound (Row earlier next) → shift_at earlier (unread vs end) ≡ Err why → Fails (Row earlier next) vs end why
@@ -345,4 +327,4 @@ unfolding shift_at row_words_at next_at
 row_fails earlier next [] end why sound e =
     let c : Completion (Row earlier next) end = complete (Row earlier next) sound end in
     subst (Fails (Row earlier next) [] end) (err_same {X = ShiftRow × Unread} (TextEnds (ShiftLine (length earlier + 1)) end) why e) (refl, record { lines = c.lines; are_lines = c.words; P = c.P; reads = c.reads })
-row_fails earlier next (v ∷ vs) end why sound e = line_fails earlier next v vs sound end why e
+row_fails earlier next (v ∷ vs) end why sound e = line_fails earlier next v vs sound end why (row_stuck earlier v vs end why e)

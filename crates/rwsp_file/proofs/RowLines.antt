@@ -1,15 +1,13 @@
 -- The row of a shift takes its line, whatever stands on the lines behind it.
-use Rattle.std.proofs.Common.{◌≡◌, ℕ, suc, ◌+◌, List, [], ◌∷◌, ◌++◌, length, Bool, true, false, cond, Some, Ok, refl, ap, sym, ◌∙◌, subst, arith, take, drop, append-nil}
+use Rattle.std.proofs.Common.{◌≡◌, ℕ, suc, ◌+◌, List, [], ◌∷◌, ◌++◌, Bool, true, false, cond, Ok, refl, ap, sym, ◌∙◌, subst, arith, take, drop, append-nil}
 use Rattle.std.specs.List.{prefix_len, AllByRecursion}
 use Rattle.std.proofs.lemmas.Bool.{eq-eqb, eqb-true}
 use Rattle.rwsp_text.specs.Lexemes.{Lexeme}
 use Rattle.rwsp_terms.specs.declared.data.ShiftRow.{ShiftRow}
 use Rattle.rwsp_file.specs.Spelling.{IsRow, is_on_line, on_line, past_line}
-use Rattle.rwsp_file.specs.Reading.{Unread, ◌>>=◌, row_words_at, words_of_row, shift_of, shift_at}
-use Rattle.rwsp_file.specs.declared.row.RowWords.{RowWords}
-use Rattle.rwsp_file.proofs.Readers.{bind_ok, then_ok, ok_same, given}
+use Rattle.rwsp_file.specs.Reading.{shift_at}
 use Rattle.rwsp_file.proofs.Lines.{unread}
-use Rattle.rwsp_file.proofs.RowReader.{AreWordsOf, words_found, words_only, IsGoodRow, shift_gives, row_found, row_only, after_row, line_of}
+use Rattle.rwsp_file.proofs.RowReader.{IsGoodRow, first_line, row_gives}
 
 -- all lexemes are on the line
 abbrev pub AllOn : ℕ → List Lexeme → Type 0
@@ -19,11 +17,6 @@ AllOn line ws = AllByRecursion (λ w. w.line ≡ line) ws
 abbrev pub Off : ℕ → List Lexeme → Type 0
 Off line [] = Unit {0}
 Off line (w ∷ ws) = is_on_line line w ≡ false
-
--- the lexemes of the first line
-abbrev pub first_line : List Lexeme → List Lexeme
-first_line [] = []
-first_line (w ∷ ws) = w ∷ on_line w.line ws
 
 on_yes : (line : ℕ) (w : Lexeme) (ws : List Lexeme) → is_on_line line w ≡ true → (on_line line (w ∷ ws) ≡ w ∷ on_line line ws) × (past_line line (w ∷ ws) ≡ past_line line ws)
 on_yes line w ws e =
@@ -74,43 +67,6 @@ first_joined line (x ∷ xs) w ys h e =
     ap (λ l. x ∷ on_line l (xs ++ w ∷ ys)) h.0
     ∙ ap (λ (zs : List Lexeme). x ∷ zs) ((joined_line line xs (w ∷ ys) h.1).0 ∙ ap (λ (zs : List Lexeme). xs ++ zs) (on_yes line w ys (eq-eqb w.line line e)).0)
 
--- a row is read where it stands
-pub shift_reads : (earlier : List ShiftRow) (w : Lexeme) (ws : List Lexeme) (end : ℕ) (row : ShiftRow) → IsGoodRow earlier row → IsRow row (w ∷ on_line w.line ws) → shift_at earlier (unread (w ∷ ws) end) ≡ Ok (row, unread (past_line w.line ws) end)
-unfolding shift_at
-shift_reads earlier w ws end row good is =
-    let a : (r : RowWords) × (words_of_row (w ∷ on_line w.line ws) ≡ Some r) × AreWordsOf row r = words_only (w ∷ on_line w.line ws) row is in
-    then_ok (row_words_at (length earlier + 1) (unread (w ∷ ws) end)) (λ p. shift_of earlier p.0 >>= (λ r. Ok (r, p.1))) (a.0, unread (past_line w.line ws) end) (row, unread (past_line w.line ws) end)
-    (row_only (length earlier + 1) (unread (w ∷ ws) end) w ws a.0 refl a.1)
-    (then_ok (shift_of earlier a.0) (λ r. Ok (r, unread (past_line w.line ws) end)) row (row, unread (past_line w.line ws) end) ((shift_gives earlier a.0).only row (good, a.2)) refl)
-
--- what is read as a row
-pub record ReadRow (earlier : List ShiftRow) (us : List Lexeme) (row : ShiftRow) : Type 0 where
-  pub good : IsGoodRow earlier row
-  pub text : IsRow row (first_line us)
-
-row_read : (earlier : List ShiftRow) (us : List Lexeme) (end : ℕ) (row : ShiftRow) (v : Unread) → shift_at earlier (unread us end) ≡ Ok (row, v) → IsGoodRow earlier row × (w : Lexeme) × (ws : List Lexeme) × (us ≡ w ∷ ws) × IsRow row (w ∷ on_line w.line ws)
-unfolding shift_at
-row_read earlier us end row v e =
-    let a : (p : RowWords × Unread) × (row_words_at (length earlier + 1) (unread us end) ≡ Ok p) × ((shift_of earlier p.0 >>= (λ r. Ok (r, p.1))) ≡ Ok (row, v)) =
-    bind_ok (row_words_at (length earlier + 1) (unread us end)) (λ p. shift_of earlier p.0 >>= (λ r. Ok (r, p.1))) (row, v) e in
-    let b : (r : ShiftRow) × (shift_of earlier a.0.0 ≡ Ok r) × (given (r, a.0.1) ≡ Ok (row, v)) = bind_ok (shift_of earlier a.0.0) (λ r. Ok (r, a.0.1)) (row, v) a.2 in
-    let same : (b.0, a.0.1) ≡ (row, v) = ok_same (b.0, a.0.1) (row, v) b.2 in
-    let s : IsGoodRow earlier row × AreWordsOf row a.0.0 = (shift_gives earlier a.0.0).found row (b.1 ∙ ap (λ (p : ShiftRow × Unread). Ok p.0) same) in
-    let l : (w : Lexeme) × (m : Unread) × (us ≡ w ∷ m.lexemes) × (words_of_row (line_of w m) ≡ Some a.0.0) × (after_row w m ≡ a.0.1) = row_found (length earlier + 1) (unread us end) a.0.1 a.0.0 a.1 in
-    (s.0, l.0, l.1.lexemes, l.2, words_found (line_of l.0 l.1) a.0.0 row l.3 s.1)
-
-pub shift_read : (earlier : List ShiftRow) (us : List Lexeme) (end : ℕ) (row : ShiftRow) (v : Unread) → shift_at earlier (unread us end) ≡ Ok (row, v) → ReadRow earlier us row
-shift_read earlier us end row v e =
-    let r : IsGoodRow earlier row × (w : Lexeme) × (ws : List Lexeme) × (us ≡ w ∷ ws) × IsRow row (w ∷ on_line w.line ws) = row_read earlier us end row v e in
-    record { good = r.0; text = subst (λ (ws : List Lexeme). IsRow row (first_line ws)) (sym r.3) r.4 }
-
--- behind a row the lines behind its own are left
-pub shift_left : (earlier : List ShiftRow) (w : Lexeme) (ws : List Lexeme) (end : ℕ) (row : ShiftRow) (v : Unread) → shift_at earlier (unread (w ∷ ws) end) ≡ Ok (row, v) → v ≡ unread (past_line w.line ws) end
-shift_left earlier w ws end row v e =
-    let r : ReadRow earlier (w ∷ ws) row = shift_read earlier (w ∷ ws) end row v e in
-    let same : (row, v) ≡ (row, unread (past_line w.line ws) end) = ok_same (row, v) (row, unread (past_line w.line ws) end) (sym e ∙ shift_reads earlier w ws end row r.good r.text) in
-    ap (λ (p : ShiftRow × Unread). p.1) same
-
 -- a row that is the whole of its line, in front of others
 pub row_in_front : (earlier : List ShiftRow) (line : ℕ) (ws rest : List Lexeme) (end : ℕ) (row : ShiftRow) → AllOn line ws → Off line rest → IsGoodRow earlier row → IsRow row ws → shift_at earlier (unread (ws ++ rest) end) ≡ Ok (row, unread rest end)
 row_in_front earlier line [] rest end row all off good is = absurd is
@@ -119,4 +75,4 @@ row_in_front earlier line (w ∷ ws) rest end row all off good is =
       ap (λ l. on_line l (ws ++ rest)) all.0 ∙ (joined_line line ws rest all.1).0 ∙ ap (λ (zs : List Lexeme). ws ++ zs) (off_line line rest off).0 ∙ append-nil ws,
       ap (λ l. past_line l (ws ++ rest)) all.0 ∙ (joined_line line ws rest all.1).1 ∙ (off_line line rest off).1,
     ) in
-    shift_reads earlier w (ws ++ rest) end row good (subst (λ (zs : List Lexeme). IsRow row (w ∷ zs)) (sym cut.0) is) ∙ ap (λ (zs : List Lexeme). given (row, unread zs end)) cut.1
+    (row_gives earlier (w ∷ (ws ++ rest)) end).only (row, unread rest end) ((good, subst (λ (zs : List Lexeme). IsRow row (w ∷ zs)) (sym cut.0) is), ap (λ (zs : List Lexeme). unread zs end) (sym cut.1))

@@ -14,7 +14,8 @@ use Rattle.rwsp_file.specs.declared.misfit.Misfit.{Misfit}
 use Rattle.rwsp_file.specs.declared.misfit.Misfit.TheVariants.{BadWord}
 use Rattle.rwsp_file.specs.declared.misfit.Fault.TheVariants.{WordCount}
 use Rattle.rwsp_file.specs.declared.misfit.Place.TheVariants.{ShiftLine, ShiftName, Start, Minutes, LeastBlock, GreatestBlock}
-use Rattle.rwsp_file.proofs.Readers.{IsReader, Gives, gives_like, gives_value, gives_some, gives_tested, then_gives, bind_ok, then_ok, ok_same, given, next_found, next_only, no_lexemes}
+use Rattle.rwsp_file.proofs.Readers.{Gives, gives_like, gives_value, gives_some, gives_tested, then_gives, bind_ok, bind_assoc, then_ok, ok_same, given}
+use Rattle.rwsp_file.proofs.Lines.{unread}
 use Rattle.rwsp_file.proofs.FieldReaders.{limited_gives}
 
 -- the words are those of the shift
@@ -93,67 +94,58 @@ shift_gives earlier words =
     then_gives (λ (row : ShiftRow). (row.start, row.length, row.bounds)) (numbers_gives (length earlier + 1) words) (λ n _. gives_value (row_of name n))
     (λ n row c. ap (λ (q : ShiftRow). (q.start, q.length, q.bounds)) c)) (λ name row c. ap (λ (q : ShiftRow). q.name) c.1))
 
-abbrev pub after_row : Lexeme → Unread → Unread
-after_row w u = record { lexemes = past_line w.line u.lexemes; end = u.end }
+-- the lexemes of the first line, and those behind it
+abbrev pub first_line : List Lexeme → List Lexeme
+first_line [] = []
+first_line (w ∷ ws) = w ∷ on_line w.line ws
 
-abbrev pub line_of : Lexeme → Unread → List Lexeme
-line_of w u = w ∷ on_line w.line u.lexemes
+abbrev pub later_lines : List Lexeme → List Lexeme
+later_lines [] = []
+later_lines (w ∷ ws) = past_line w.line ws
 
 -- the line has another count of words
-abbrev pub odd_row : ℕ → Lexeme → Unread → Misfit
-odd_row shift w u = BadWord (ShiftLine shift) w (WordCount (length (on_line w.line u.lexemes) + 1))
+abbrev pub odd_row : List ShiftRow → Lexeme → List Lexeme → Misfit
+odd_row earlier w ws = BadWord (ShiftLine (length earlier + 1)) w (WordCount (length (on_line w.line ws) + 1))
 
-pub row_found : (shift : ℕ) (u v : Unread) (r : RowWords) → row_words_at shift u ≡ Ok (r, v) → (w : Lexeme) × (m : Unread) × (u.lexemes ≡ w ∷ m.lexemes) × (words_of_row (line_of w m) ≡ Some r) × (after_row w m ≡ v)
-unfolding row_words_at
-row_found shift u v r e =
-    let a : (n : Lexeme × Unread) × (next_at (ShiftLine shift) u ≡ Ok n) × ((or_refuse (words_of_row (line_of n.0 n.1)) (odd_row shift n.0 n.1) >>= (λ words. Ok (words, after_row n.0 n.1))) ≡ Ok (r, v)) =
-    bind_ok (next_at (ShiftLine shift) u) (λ n. or_refuse (words_of_row (line_of n.0 n.1)) (odd_row shift n.0 n.1) >>= (λ words. Ok (words, after_row n.0 n.1))) (r, v) e in
-    let b : (words : RowWords) × (or_refuse (words_of_row (line_of a.0.0 a.0.1)) (odd_row shift a.0.0 a.0.1) ≡ Ok words) × (given (words, after_row a.0.0 a.0.1) ≡ Ok (r, v)) =
-    bind_ok (or_refuse (words_of_row (line_of a.0.0 a.0.1)) (odd_row shift a.0.0 a.0.1)) (λ words. Ok (words, after_row a.0.0 a.0.1)) (r, v) a.2 in
-    let same : (b.0, after_row a.0.0 a.0.1) ≡ (r, v) = ok_same (b.0, after_row a.0.0 a.0.1) (r, v) b.2 in (
-      a.0.0,
-      a.0.1,
-      next_found (ShiftLine shift) u a.0.1 a.0.0 a.1,
-      (gives_some (words_of_row (line_of a.0.0 a.0.1)) (odd_row shift a.0.0 a.0.1)).found b.0 b.1 ∙ ap (λ (p : RowWords × Unread). Some p.0) same,
-      ap (λ (p : RowWords × Unread). p.1) same,
-    )
+-- a row is read from the words of its line
+pub row_step : (earlier : List ShiftRow) (w : Lexeme) (ws : List Lexeme) (end : ℕ) →
+    shift_at earlier (unread (w ∷ ws) end) ≡ (or_refuse (words_of_row (w ∷ on_line w.line ws)) (odd_row earlier w ws) >>= (λ words. shift_of earlier words >>= (λ row. Ok (row, unread (past_line w.line ws) end))))
+unfolding shift_at row_words_at next_at
+row_step earlier w ws end =
+    bind_assoc (or_refuse (words_of_row (w ∷ on_line w.line ws)) (odd_row earlier w ws)) (λ words. Ok (words, unread (past_line w.line ws) end)) (λ p. shift_of earlier p.0 >>= (λ row. Ok (row, p.1)))
 
-abbrev pub rest_of : Unread → List Lexeme → Unread
-rest_of u ws = record { lexemes = ws; end = u.end }
+-- the row that the first line spells, and what is left behind it
+pub row_gives : (earlier : List ShiftRow) (us : List Lexeme) (end : ℕ) → Gives (λ (p : ShiftRow × Unread). (IsGoodRow earlier p.0 × IsRow p.0 (first_line us)) × (p.1 ≡ unread (later_lines us) end)) (shift_at earlier (unread us end))
+unfolding shift_at row_words_at next_at
+row_gives earlier [] end = record { found = λ p e. absurd (cc); only = λ p h. absurd h.0.1 }
+row_gives earlier (w ∷ ws) end = record {
+  found = λ p e.
+      let a = bind_ok (or_refuse (words_of_row (w ∷ on_line w.line ws)) (odd_row earlier w ws)) (λ words. shift_of earlier words >>= (λ row. Ok (row, unread (past_line w.line ws) end))) p (sym (row_step earlier w ws end) ∙ e) in
+      let b = bind_ok (shift_of earlier a.0) (λ row. Ok (row, unread (past_line w.line ws) end)) p a.2 in
+      let s = (shift_gives earlier a.0).found b.0 b.1 in
+      subst (λ (q : ShiftRow × Unread). (IsGoodRow earlier q.0 × IsRow q.0 (w ∷ on_line w.line ws)) × (q.1 ≡ unread (past_line w.line ws) end)) (ok_same (b.0, unread (past_line w.line ws) end) p b.2)
+      ((s.0, words_found (w ∷ on_line w.line ws) a.0 b.0 ((gives_some (words_of_row (w ∷ on_line w.line ws)) (odd_row earlier w ws)).found a.0 a.1) s.1), refl);
+  only = λ p h.
+      let a : (r : RowWords) × (words_of_row (w ∷ on_line w.line ws) ≡ Some r) × AreWordsOf p.0 r = words_only (w ∷ on_line w.line ws) p.0 h.0.1 in
+      row_step earlier w ws end
+      ∙ then_ok (or_refuse (words_of_row (w ∷ on_line w.line ws)) (odd_row earlier w ws)) (λ words. shift_of earlier words >>= (λ row. Ok (row, unread (past_line w.line ws) end))) a.0 p (ap (λ o. or_refuse o (odd_row earlier w ws)) a.1)
+      (then_ok (shift_of earlier a.0) (λ row. Ok (row, unread (past_line w.line ws) end)) p.0 p ((shift_gives earlier a.0).only p.0 (h.0.0, a.2)) (ap (λ (v : Unread). given (p.0, v)) (sym h.1)));
+}
 
-pub row_only : (shift : ℕ) (u : Unread) (w : Lexeme) (ws : List Lexeme) (r : RowWords) → u.lexemes ≡ w ∷ ws → words_of_row (w ∷ on_line w.line ws) ≡ Some r → row_words_at shift u ≡ Ok (r, rest_of u (past_line w.line ws))
-unfolding row_words_at
-row_only shift u w ws r e h =
-    then_ok (next_at (ShiftLine shift) u) (λ n. or_refuse (words_of_row (line_of n.0 n.1)) (odd_row shift n.0 n.1) >>= (λ words. Ok (words, after_row n.0 n.1))) (w, rest_of u ws) (r, rest_of u (past_line w.line ws)) (next_only (ShiftLine shift) u w ws e)
-    (ap (λ o. or_refuse o (odd_row shift w (rest_of u ws)) >>= (λ words. Ok (words, rest_of u (past_line w.line ws)))) h)
+row_spells : (ls : List Lexeme) (row : ShiftRow) (fs : List FileField) → IsRow row (first_line ls) → Spell fs (later_lines ls) → Spell (ShiftField row ∷ fs) ls
+row_spells [] row fs is s = absurd is
+row_spells (w ∷ ws) row fs is s = (is, s)
 
-shift_reader_found : (earlier : List ShiftRow) (u v : Unread) (row : ShiftRow) → shift_at earlier u ≡ Ok (row, v) → IsGoodRow earlier row × ((fs : List FileField) → Spell fs v.lexemes → Spell (ShiftField row ∷ fs) u.lexemes)
-unfolding shift_at
-shift_reader_found earlier u v row e =
-    let a : (p : RowWords × Unread) × (row_words_at (length earlier + 1) u ≡ Ok p) × ((shift_of earlier p.0 >>= (λ r. Ok (r, p.1))) ≡ Ok (row, v)) =
-    bind_ok (row_words_at (length earlier + 1) u) (λ p. shift_of earlier p.0 >>= (λ r. Ok (r, p.1))) (row, v) e in
-    let b : (r : ShiftRow) × (shift_of earlier a.0.0 ≡ Ok r) × (given (r, a.0.1) ≡ Ok (row, v)) = bind_ok (shift_of earlier a.0.0) (λ r. Ok (r, a.0.1)) (row, v) a.2 in
-    let same : (b.0, a.0.1) ≡ (row, v) = ok_same (b.0, a.0.1) (row, v) b.2 in
-    let s = (shift_gives earlier a.0.0).found row (b.1 ∙ ap (λ (p : ShiftRow × Unread). Ok p.0) same) in
-    let l : (w : Lexeme) × (m : Unread) × (u.lexemes ≡ w ∷ m.lexemes) × (words_of_row (line_of w m) ≡ Some a.0.0) × (after_row w m ≡ a.0.1) = row_found (length earlier + 1) u a.0.1 a.0.0 a.1 in
-    let left : past_line l.0.line l.1.lexemes ≡ v.lexemes = ap (λ (q : Unread). q.lexemes) (l.4 ∙ ap (λ (p : ShiftRow × Unread). p.1) same) in (
-      s.0,
-      λ fs h. subst (λ (ls : List Lexeme). Spell (ShiftField row ∷ fs) ls) (sym l.2)
-          (words_found (line_of l.0 l.1) a.0.0 row l.3 s.1, subst (λ (ls : List Lexeme). Spell fs ls) (sym left) h),
-    )
+row_spelled : (ls : List Lexeme) (row : ShiftRow) (fs : List FileField) → Spell (ShiftField row ∷ fs) ls → IsRow row (first_line ls) × Spell fs (later_lines ls)
+row_spelled [] row fs s = absurd s
+row_spelled (w ∷ ws) row fs s = s
 
-shift_reader_only : (earlier : List ShiftRow) (u : Unread) (row : ShiftRow) (fs : List FileField) (ls : List Lexeme) → u.lexemes ≡ ls → IsGoodRow earlier row → Spell (ShiftField row ∷ fs) ls →
-    (v : Unread) × (shift_at earlier u ≡ Ok (row, v)) × Spell fs v.lexemes
-unfolding shift_at
-shift_reader_only earlier u row fs [] e good h = absurd (no_lexemes (ShiftField row) fs h)
-shift_reader_only earlier u row fs (w ∷ ws) e good h =
-    let a : (r : RowWords) × (words_of_row (w ∷ on_line w.line ws) ≡ Some r) × AreWordsOf row r = words_only (w ∷ on_line w.line ws) row h.0 in
-    let v : Unread = rest_of u (past_line w.line ws) in (
-      v,
-      then_ok (row_words_at (length earlier + 1) u) (λ p. shift_of earlier p.0 >>= (λ r. Ok (r, p.1))) (a.0, v) (row, v) (row_only (length earlier + 1) u w ws a.0 e a.1)
-          (then_ok (shift_of earlier a.0) (λ r. Ok (r, v)) row (row, v) ((shift_gives earlier a.0).only row (good, a.2)) refl),
-      h.1,
-    )
+pub row_found : (earlier : List ShiftRow) (u v : Unread) (row : ShiftRow) → shift_at earlier u ≡ Ok (row, v) → IsGoodRow earlier row × ((fs : List FileField) → Spell fs v.lexemes → Spell (ShiftField row ∷ fs) u.lexemes)
+row_found earlier u v row e =
+    let g = (row_gives earlier u.lexemes u.end).found (row, v) e in
+    (g.0.0, λ fs s. row_spells u.lexemes row fs g.0.1 (subst (λ (q : Unread). Spell fs q.lexemes) g.1 s))
 
-pub shift_reader : (earlier : List ShiftRow) → IsReader (IsGoodRow earlier) (λ row. ShiftField row ∷ []) (shift_at earlier)
-shift_reader earlier = record { found = shift_reader_found earlier; only = λ u row fs good h. shift_reader_only earlier u row fs u.lexemes refl good h }
+pub row_only : (earlier : List ShiftRow) (u : Unread) (row : ShiftRow) (fs : List FileField) → IsGoodRow earlier row → Spell (ShiftField row ∷ fs) u.lexemes → (v : Unread) × (shift_at earlier u ≡ Ok (row, v)) × Spell fs v.lexemes
+row_only earlier u row fs good s =
+    let parts = row_spelled u.lexemes row fs s in
+    (unread (later_lines u.lexemes) u.end, (row_gives earlier u.lexemes u.end).only (row, unread (later_lines u.lexemes) u.end) ((good, parts.0), refl), parts.1)

@@ -10,7 +10,7 @@ use Rattle.rwsp_text.proofs.TextSteps.{at_line_end, at_space, at_word, at_commen
 use Rattle.rwsp_text.proofs.JoinedWords.{IsPrinted, printed_word}
 use Rattle.rwsp_model.proofs.Names.{IsWord}
 use Rattle.rwsp_file.specs.FirstFailures.{IsGap, EndsWord, BeginsWord}
-use Rattle.rwsp_file.proofs.SoundParts.{lexeme_on}
+use Rattle.rwsp_file.proofs.Forms.{lexeme_on}
 use Rattle.rwsp_file.proofs.Completions.{on_one, on_fresh, AreLines, StartsFrom}
 use Rattle.rwsp_file.proofs.Reached.{Rising, rising_from}
 

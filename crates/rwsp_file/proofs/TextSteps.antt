@@ -8,7 +8,9 @@ use Rattle.std.proofs.lemmas.List.Elements.{All-get_or}
 use Rattle.std.proofs.lemmas.Option.{slice_get-get_or}
 use Rattle.rwsp_terms.specs.Instance.{Instance, shift_demand, range_in, no_bounds, name_numbered, name_in}
 use Rattle.rwsp_terms.specs.declared.data.Bounds.{Bounds}
-use Rattle.rwsp_file.specs.Text.{file_line, demand_text, range_at, row_of_demand, row_of_shift, no_shift, size_lines, frame_lines, shift_words, pair_words, triple_words, problem_text}
+use Rattle.rwsp_file.specs.Spelling.{FileField, size_lines, frame_lines, shift_fields, pair_fields, triple_fields}
+use Rattle.rwsp_file.specs.Spelling.FileField.{DemandField}
+use Rattle.rwsp_file.specs.Text.{line_words, file_line, demand_text, range_at, row_of_demand, row_of_shift, no_shift, problem_text}
 use Rattle.std.proofs.lemmas.Grind.{flat_map-append}
 
 -- one more word of a line
@@ -41,10 +43,15 @@ pub demand_first : (row : List Bounds) (start new : List ℕ) → 0 < length row
 demand_first [] start new some n = absurd (omega (arith, some))
 demand_first (b ∷ row) start new some n = n
 
+demand_words : (row : List Bounds) → map demand_text row ≡ line_words (map DemandField row)
+demand_words [] = refl
+demand_words (b ∷ row) = ap (λ ws. demand_text b ∷ ws) (demand_words row)
+
 -- a row with its line's end
-pub demand_line : (row : List Bounds) (i : ℕ) (start old new : List ℕ) → length row ≤ i → old ≡ start ++ join_with_byte 32 (map demand_text (take i row)) → new ≡ old ++ 10 ∷ [] → new ≡ start ++ file_line (map demand_text row)
+pub demand_line : (row : List Bounds) (i : ℕ) (start old new : List ℕ) → length row ≤ i → old ≡ start ++ join_with_byte 32 (map demand_text (take i row)) → new ≡ old ++ 10 ∷ [] → new ≡ start ++ file_line (map DemandField row)
 demand_line row i start old new all o n =
     n ∙ ap (λ t. t ++ 10 ∷ []) (o ∙ ap (λ r. start ++ join_with_byte 32 (map demand_text r)) (take_all i row all)) ∙ append_assoc start (join_with_byte 32 (map demand_text row)) (10 ∷ [])
+    ∙ ap (λ ws. start ++ (join_with_byte 32 ws ++ 10 ∷ [])) (demand_words row)
 
 -- what follows from what holds where it went well, holds there too
 pub on_ok : {X E : Type 0} (r : Result X E) (P Q : Type 0) → (P → Q) → OnOk r P → OnOk r Q
@@ -56,14 +63,14 @@ pub row_length : (P : Instance) (k : ℕ) → k < length P.demand → All (λ (r
 row_length P k less all = All-get_or (λ (row : List Bounds). length row ≡ P.days) P.demand k [] less all
 
 -- one more line
-pub lines_more : {X : Type 0} (g : X → List (List ℕ)) (xs : List X) (i : ℕ) (d : X) (start old new : List ℕ) → i < length xs → old ≡ start ++ flat_map file_line (map g (take i xs)) → new ≡ old ++ file_line (g (get_or xs i d)) →
+pub lines_more : {X : Type 0} (g : X → List FileField) (xs : List X) (i : ℕ) (d : X) (start old new : List ℕ) → i < length xs → old ≡ start ++ flat_map file_line (map g (take i xs)) → new ≡ old ++ file_line (g (get_or xs i d)) →
     new ≡ start ++ flat_map file_line (map g (take (i + 1) xs))
 lines_more g xs i d start old new less o n =
     n ∙ ap (λ t. t ++ file_line (g (get_or xs i d))) o ∙ flat_map_more file_line start (map g (take i xs)) (g (get_or xs i d))
     ∙ ap (λ ls. start ++ flat_map file_line ls) (sym (ap (map g) (take_more xs i d less) ∙ map_push g (take i xs) (get_or xs i d)))
 
 -- all lines
-pub lines_all : {X : Type 0} (g : X → List (List ℕ)) (xs : List X) (i : ℕ) (start old : List ℕ) → length xs ≤ i → old ≡ start ++ flat_map file_line (map g (take i xs)) → old ≡ start ++ flat_map file_line (map g xs)
+pub lines_all : {X : Type 0} (g : X → List FileField) (xs : List X) (i : ℕ) (start old : List ℕ) → length xs ≤ i → old ≡ start ++ flat_map file_line (map g (take i xs)) → old ≡ start ++ flat_map file_line (map g xs)
 lines_all g xs i start old all o = o ∙ ap (λ ys. start ++ flat_map file_line (map g ys)) (take_all i xs all)
 
 -- what the accessors of a problem give
@@ -86,9 +93,9 @@ pub row_of_place : (P : Instance) (k : ℕ) → k < length P.shifts → slice_ge
 row_of_place P k less = ap (slice_get P.shifts) (place_at k) ∙ slice_get-get_or P.shifts k no_shift less
 
 -- the parts of a text, one behind another
-parts : (A B C D E F : List (List (List ℕ))) (a b c d e f : List ℕ) → a ≡ flat_map file_line A → b ≡ a ++ flat_map file_line B → c ≡ b ++ flat_map file_line C → d ≡ c ++ flat_map file_line D → e ≡ d ++ flat_map file_line E → f ≡ e ++ flat_map file_line F → f ≡ flat_map file_line (A ++ (B ++ (C ++ (D ++ (E ++ F)))))
+parts : (A B C D E F : List (List FileField)) (a b c d e f : List ℕ) → a ≡ flat_map file_line A → b ≡ a ++ flat_map file_line B → c ≡ b ++ flat_map file_line C → d ≡ c ++ flat_map file_line D → e ≡ d ++ flat_map file_line E → f ≡ e ++ flat_map file_line F → f ≡ flat_map file_line (A ++ (B ++ (C ++ (D ++ (E ++ F)))))
 parts A B C D E F a b c d e f ha hb hc hd he hf = rw (hf, he, hd, hc, hb, ha) (simp (flat_map-append, append_assoc) refl)
 
-pub whole_text : (P : Instance) (a b c d e f : List ℕ) → a ≡ flat_map file_line (size_lines P) → b ≡ a ++ flat_map file_line (map (map demand_text) P.demand) → c ≡ b ++ flat_map file_line (map shift_words P.shifts) →
-    d ≡ c ++ flat_map file_line (frame_lines P) → e ≡ d ++ flat_map file_line (map (pair_words P) P.pairs) → f ≡ e ++ flat_map file_line (map (triple_words P) P.triples) → f ≡ problem_text P
-whole_text P = parts (size_lines P) (map (map demand_text) P.demand) (map shift_words P.shifts) (frame_lines P) (map (pair_words P) P.pairs) (map (triple_words P) P.triples)
+pub whole_text : (P : Instance) (a b c d e f : List ℕ) → a ≡ flat_map file_line (size_lines P) → b ≡ a ++ flat_map file_line (map (map DemandField) P.demand) → c ≡ b ++ flat_map file_line (map shift_fields P.shifts) →
+    d ≡ c ++ flat_map file_line (frame_lines P) → e ≡ d ++ flat_map file_line (map (pair_fields P) P.pairs) → f ≡ e ++ flat_map file_line (map (triple_fields P) P.triples) → f ≡ problem_text P
+whole_text P = parts (size_lines P) (map (map DemandField) P.demand) (map shift_fields P.shifts) (frame_lines P) (map (pair_fields P) P.pairs) (map (triple_fields P) P.triples)

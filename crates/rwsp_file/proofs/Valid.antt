@@ -1,37 +1,85 @@
 -- What reading shows of an instance is that it keeps the limits.
-use Rattle.std.proofs.Common.{◌≡◌, ◌≢◌, ℕ, ◌<◌, List, [], ◌++◌, length, get_or, take, true, not, ◌&&◌, ap, sym, ◌∙◌, arith, nat_le, map}
+use Rattle.std.proofs.Common.{◌≡◌, ◌≢◌, ℕ, zero, suc, ◌<◌, ◌≤◌, List, [], ◌∷◌, ◌++◌, length, get_or, take, Bool, true, false, not, ◌&&◌, refl, ap, sym, ◌∙◌, arith, nat_le, map, subst, append_assoc, append-nil}
 use Rattle.std.specs.Prelude.{All, AllPairs}
 use Rattle.std.specs.List.{flat_map, list_any, AllByRecursion}
 use Rattle.std.specs.Str.{bytes_eq}
-use Rattle.std.proofs.lemmas.Bool.{le-leb, and_from, not_from_false}
+use Rattle.std.proofs.lemmas.Bool.{le-leb, leb-true, and_parts, and_from, not_from_false}
 use Rattle.std.proofs.lemmas.List.{get_or-take, length-take-le, get_or_default}
-use Rattle.std.proofs.lemmas.List.Folds.{list_any_none}
+use Rattle.std.proofs.lemmas.List.Folds.{list_any_at, list_any_none}
+use Rattle.std.proofs.lemmas.Slice.Eq.{bytes_eq-Decides}
 use Rattle.rwsp_text.specs.Lexemes.{Lexeme}
-use Rattle.rwsp_terms.specs.Instance.{Instance, off_name}
+use Rattle.rwsp_terms.specs.Instance.{Instance, off_name, shift_count}
 use Rattle.rwsp_terms.specs.declared.limits.TheConstants.{LONGEST_NAME}
 use Rattle.rwsp_terms.specs.declared.data.ShiftRow.{ShiftRow}
+use Rattle.rwsp_terms.specs.declared.data.Symbol.{Symbol}
 use Rattle.rwsp_terms.proofs.Elements.{all_from}
-use Rattle.rwsp_terms.proofs.SymbolNames.{other_bytes}
+use Rattle.rwsp_terms.proofs.SymbolNames.{other_bytes, symbol_only}
 use Rattle.rwsp_model.specs.Validity.{IsValid, KeepsLimits, IsShiftName, IsSmallRange}
 use Rattle.rwsp_model.proofs.Limits.{keeps_valid}
 use Rattle.rwsp_model.proofs.Names.{IsWord}
 use Rattle.rwsp_file.specs.Spelling.{Spell, file_fields}
 use Rattle.rwsp_file.specs.Spelling.FileField.{DemandField, ShiftField}
 use Rattle.rwsp_file.specs.Reading.{is_new_name}
+use Rattle.rwsp_file.proofs.Readers.{AllAfter}
 use Rattle.rwsp_file.proofs.RowReader.{IsGoodRow}
-use Rattle.rwsp_file.proofs.Chains.{after_at, after_from}
-use Rattle.rwsp_file.proofs.SymbolReader.{IsPair, IsTriple}
-use Rattle.rwsp_file.proofs.PartReaders.{IsDemandRow, size_fields}
-use Rattle.rwsp_file.proofs.Whole.{IsRead, size_of, good_names, no_other, fields_from_demand, fields_from_shifts, fields_from_frame}
+use Rattle.rwsp_file.proofs.Forms.{IsNamed}
+use Rattle.rwsp_file.proofs.Parts.{IsRead, IsDemandRow, IsPair, IsTriple, size_of, size_fields, fields_in_parts, fields_from_demand, fields_from_shifts, fields_from_frame}
 use Rattle.rwsp_file.proofs.WordForms.{IsWordField, AreWords, names_are_words, all_front, all_mapped}
+
+-- lists each of whose elements has something in sight of the earlier ones
+
+after_at : {X : Type 0} (V : List X → X → Type 0) (all xs : List X) → AllAfter V all xs → (i : ℕ) (d : X) → i < length xs → V (all ++ take i xs) (get_or xs i d)
+after_at V all [] h i d less = absurd (omega (arith, less))
+after_at V all (x ∷ xs) h zero d less = subst (λ es. V es x) (sym (append-nil all)) h.0
+after_at V all (x ∷ xs) h (suc n) d less = subst (λ es. V es (get_or xs n d)) (append_assoc all (x ∷ []) (take n xs)) (after_at V (all ++ x ∷ []) xs h.1 n d (omega (arith, less)))
+
+after_from : {X : Type 0} (V : List X → X → Type 0) (all xs : List X) → ((i : ℕ) (d : X) → i < length xs → V (all ++ take i xs) (get_or xs i d)) → AllAfter V all xs
+after_from V all [] h = tt
+after_from V all (x ∷ xs) h = (
+  subst (λ es. V es x) (append-nil all) (h 0 x (omega arith)),
+  after_from V (all ++ x ∷ []) xs (λ i d less. subst (λ es. V es (get_or xs i d)) (sym (append_assoc all (x ∷ []) (take i xs))) (h (suc i) d (omega (arith, less)))),
+)
+
+-- a new name, in plain words
+no_other : (name : List ℕ) (earlier : List ShiftRow) → is_new_name earlier name ≡ true → (length name ≤ 32) × (name ≢ off_name) × (list_any (λ row. bytes_eq name row.name) earlier ≡ false)
+no_other name earlier e =
+    let a : ((nat_le (length name) 32 && not (bytes_eq name off_name)) ≡ true) × (not (list_any (λ row. bytes_eq name row.name) earlier) ≡ true) =
+    and_parts (nat_le (length name) 32 && not (bytes_eq name off_name)) (not (list_any (λ row. bytes_eq name row.name) earlier)) e in
+    let b : (nat_le (length name) 32 ≡ true) × (not (bytes_eq name off_name) ≡ true) = and_parts (nat_le (length name) 32) (not (bytes_eq name off_name)) a.0 in
+    (leb-true (length name) 32 b.0, λ same. absurd (clash (bytes_eq name off_name) ((bytes_eq-Decides name off_name).1 same) b.1), is_not _ a.1) where
+      clash : (t : Bool) → t ≡ true → not t ≡ true → ⊥
+      clash true e h = absurd (cc)
+      clash false e h = absurd (cc)
+
+      is_not : (t : Bool) → not t ≡ true → t ≡ false
+      is_not true h = absurd (cc)
+      is_not false h = refl
+
+-- rows whose names are new behind the earlier ones have distinct names
+good_names : (rows : List ShiftRow) → AllAfter IsGoodRow [] rows → All (λ (row : ShiftRow). row.name ≢ off_name) rows × AllPairs (λ (a b : ShiftRow). a.name ≢ b.name) rows
+good_names rows good = (
+  λ i d less. (no_other (get_or rows i d).name (take i rows) (after_at IsGoodRow [] rows good i d less).name).1,
+  λ i j d before less same.
+      let row : ShiftRow = get_or rows j d in
+      let fresh : list_any (λ (other : ShiftRow). bytes_eq (get_or rows j d).name other.name) (take j rows) ≡ false =
+      (no_other (get_or rows j d).name (take j rows) (after_at IsGoodRow [] rows good j d less).name).2 in
+      let e : get_or (take j rows) i d ≡ get_or rows i d = get_or-take j rows i d before in
+      let long : length (take j rows) ≡ j = length-take-le j rows (omega (arith, less)) in
+      let found : list_any (λ (other : ShiftRow). bytes_eq (get_or rows j d).name other.name) (take j rows) ≡ true =
+      list_any_at (λ (other : ShiftRow). bytes_eq (get_or rows j d).name other.name) (take j rows) i d (omega (arith, before, long))
+      ((bytes_eq-Decides (get_or rows j d).name (get_or (take j rows) i d).name).1 (sym same ∙ ap (λ (r : ShiftRow). r.name) (sym e))) in
+      absurd (differ (sym found ∙ fresh)),
+) where
+  differ : true ≡ false → ⊥
+  differ e = absurd (cc)
 
 -- an instance that is read from words keeps the limits
 pub read_valid : (P : Instance) → IsRead P → All (λ (row : ShiftRow). IsWord row.name) P.shifts → IsValid P
 read_valid P r words = keeps_valid P (record {
   rows = r.rows;
   long_rows = λ i d less. (after_at (λ _. IsDemandRow P.days) [] P.demand r.demand i d less).0;
-  known_pairs = λ i d less. after_at (λ _. IsPair P) [] P.pairs r.pairs i d less;
-  known_triples = λ i d less. after_at (λ _. IsTriple P) [] P.triples r.triples i d less;
+  known_pairs = λ i d less. let x = after_at (λ _. IsPair P) [] P.pairs r.pairs i d less in (x.0.0, x.1.0);
+  known_triples = λ i d less. let x = after_at (λ _. IsTriple P) [] P.triples r.triples i d less in (x.0.0, x.1.0, x.2.0);
   some_days = r.size.days.0;
   few_days = r.size.days.1;
   some_weeks = r.size.weeks.0.0;
@@ -71,6 +119,10 @@ new_name rows i d less name distinct =
     distinct j i e before less
     (sym (same ∙ ap (λ (row : ShiftRow). row.name) here) ∙ ap (λ (row : ShiftRow). row.name) (get_or_default rows i d e less))))))
 
+-- the name of a symbol names it
+named : (P : Instance) → KeepsLimits P → (x : Symbol) → x.number ≤ shift_count P → IsNamed P x
+named P k x known = (known, symbol_only P (record { no_dash = λ i d less. (k.names i d less).no_dash; distinct = k.distinct }) x.number known)
+
 -- an instance that keeps the limits may be read
 pub keeps_read : (P : Instance) → KeepsLimits P → IsRead P
 keeps_read P k = record {
@@ -79,14 +131,14 @@ keeps_read P k = record {
   demand = after_from (λ _. IsDemandRow P.days) [] P.demand (λ i d less. (k.long_rows i d less, after_from (λ _. IsSmallRange) [] (get_or P.demand i d) (k.demand i d less)));
   shifts = after_from IsGoodRow [] P.shifts (λ i d less. record { name = new_name P.shifts i d less (k.names i d less) k.distinct; times = k.times i d less; blocks = k.blocks i d less });
   frame = record { off = k.off; work = k.work; pairs = k.few_pairs; triples = k.few_triples };
-  pairs = after_from (λ _. IsPair P) [] P.pairs (λ i d less. k.known_pairs i d less);
-  triples = after_from (λ _. IsTriple P) [] P.triples (λ i d less. k.known_triples i d less);
+  pairs = after_from (λ _. IsPair P) [] P.pairs (λ i d less. let x = k.known_pairs i d less in (named P k _ x.0, named P k _ x.1));
+  triples = after_from (λ _. IsTriple P) [] P.triples (λ i d less. let x = k.known_triples i d less in (named P k _ x.0, named P k _ x.1, named P k _ x.2));
 }
 
 -- the names of an instance whose fields are spelled by words are words
 pub names_spelled : (P : Instance) (ws : List Lexeme) → Spell (file_fields P) ws → AreWords ws → All (λ (row : ShiftRow). IsWord row.name) P.shifts
 names_spelled P ws s all =
-    let whole : AllByRecursion IsWordField (size_fields (size_of P) ++ fields_from_demand P) = names_are_words (file_fields P) ws s all in
+    let whole : AllByRecursion IsWordField (size_fields (size_of P) ++ fields_from_demand P) = subst (AllByRecursion IsWordField) (fields_in_parts P) (names_are_words (file_fields P) ws s all) in
     let demand : AllByRecursion IsWordField (fields_from_demand P) = (all_front IsWordField (size_fields (size_of P)) (fields_from_demand P) whole).1 in
     let shifts : AllByRecursion IsWordField (fields_from_shifts P) = (all_front IsWordField (flat_map (map DemandField) P.demand) (fields_from_shifts P) demand).1 in
     let rows : AllByRecursion IsWordField (map ShiftField P.shifts) = (all_front IsWordField (map ShiftField P.shifts) (fields_from_frame P) shifts).0 in

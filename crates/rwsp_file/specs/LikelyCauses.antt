@@ -7,12 +7,11 @@ use Rattle.std.specs.Str.{bytes_eq}
 use Rattle.rwsp_text.specs.Lexemes.{Lexeme}
 use Rattle.rwsp_text.specs.Numbers.{number_of}
 use Rattle.rwsp_terms.specs.declared.limits.TheConstants.{MOST_SEQUENCES}
-use Rattle.rwsp_terms.specs.declared.data.Bounds.{Bounds}
 use Rattle.rwsp_file.specs.declared.fields.Size.{Size}
 use Rattle.rwsp_file.specs.declared.misfit.Place.{Place}
-use Rattle.rwsp_file.specs.declared.misfit.Place.TheVariants.{Days, Weeks, Shifts, Demand, ShiftLine, ShiftName, Start, Minutes, LeastBlock, GreatestBlock, LeastOff, GreatestOff, LeastWork, GreatestWork, Pairs, Triples, InPair, InTriple, TextEnd}
+use Rattle.rwsp_file.specs.declared.misfit.Place.TheVariants.{Days, Weeks, Shifts, Demand, ShiftLine, Start, LeastOff, GreatestOff, LeastWork, GreatestWork, Pairs, Triples, InPair, InTriple}
 use Rattle.rwsp_file.specs.declared.misfit.Fault.{Fault}
-use Rattle.rwsp_file.specs.declared.misfit.Fault.TheVariants.{NoNumber, Beyond, TooManyDays, WordCount, LongName, OffName, TakenName, NoSymbol, NotEnd}
+use Rattle.rwsp_file.specs.declared.misfit.Fault.TheVariants.{NoNumber, WordCount, NoSymbol, NotEnd}
 use Rattle.rwsp_file.specs.declared.misfit.Misfit.{Misfit}
 use Rattle.rwsp_file.specs.declared.misfit.Misfit.TheVariants.{TextEnds, BadWord}
 use Rattle.rwsp_file.specs.declared.likely.Counts.{Counts}
@@ -39,21 +38,9 @@ has_digit word = list_any is_ascii_digit word
 abbrev pub begins_with : (start word : List ℕ) → Bool
 begins_with start word = nat_le (length start) (length word) && bytes_eq (take (length start) word) start
 
--- EF BB BF, with which a text in UTF-8 may begin
-abbrev pub begins_with_mark : List ℕ → Bool
-begins_with_mark word = begins_with (239 ∷ 187 ∷ 191 ∷ []) word
-
--- FF FE or FE FF, with which a text in UTF-16 begins
-abbrev pub begins_with_wide_mark : List ℕ → Bool
-begins_with_wide_mark word = begins_with (255 ∷ 254 ∷ []) word || begins_with (254 ∷ 255 ∷ []) word
-
 -- a control byte of ASCII
 abbrev pub has_control : List ℕ → Bool
 has_control word = list_any (λ b. nat_lt b 32) word
-
--- C2 A0, the no-break space in UTF-8
-abbrev pub has_no_break : List ℕ → Bool
-has_no_break word = has_byte 194 word && has_byte 160 word
 
 abbrev pub dots : List ℕ → ℕ
 dots word = count_by is_dot word
@@ -74,13 +61,14 @@ abbrev pub clock_or_colon : Option ℕ → Cause
 clock_or_colon None = Colon
 clock_or_colon (Some minutes) = Clock minutes
 
--- what the bytes of a word show that should be a number, wherever it is
+-- what the bytes of a word show that should be a number, wherever it is: a text in UTF-8 may begin with EF BB BF, one in
+-- UTF-16 begins with FF FE or FE FF, and C2 A0 is the no-break space
 abbrev pub word_cause : List ℕ → Option Cause
 word_cause word =
-    or_cause (cause_if (begins_with_mark word) ByteOrderMark)
-    (or_cause (cause_if (begins_with_wide_mark word) Utf16)
+    or_cause (cause_if (begins_with (239 ∷ 187 ∷ 191 ∷ []) word) ByteOrderMark)
+    (or_cause (cause_if (begins_with (255 ∷ 254 ∷ []) word || begins_with (254 ∷ 255 ∷ []) word) Utf16)
     (or_cause (cause_if (has_control word) NoPlainText)
-    (or_cause (cause_if (has_no_break word) NoBreakSpace)
+    (or_cause (cause_if (has_byte 194 word && has_byte 160 word) NoBreakSpace)
     (or_cause (cause_if (has_byte 44 word) Commas)
     (cause_if (has_byte 58 word) (clock_or_colon (minutes_of word)))))))
 
@@ -96,13 +84,11 @@ is_demand (Demand shift day) = true
 is_demand awaited = false
 
 -- `-`, or two dots, where a demand isn't of the form LO..HI
-abbrev pub range_cause : Place → List ℕ → Option Cause
-range_cause awaited word =
-    cause_if ((is_demand awaited && is_range_like word) && (has_byte 45 word || nat_le 2 (dots word))) RangeForm
+abbrev pub is_bad_range : List ℕ → Bool
+is_bad_range word = is_range_like word && (has_byte 45 word || nat_le 2 (dots word))
 
--- one dot
-abbrev pub point_cause : List ℕ → Option Cause
-point_cause word = cause_if (is_range_like word && dots word == 1) DecimalPoint
+abbrev pub has_point : List ℕ → Bool
+has_point word = is_range_like word && dots word == 1
 
 -- the lines of words
 
@@ -201,7 +187,8 @@ own_cause u awaited w = None
 -- what a word shows that should be a number, by its place
 abbrev pub place_cause : Unread → Place → Lexeme → Option Cause
 place_cause u awaited w =
-    or_cause (range_cause awaited w.text) (or_cause (point_cause w.text) (own_cause u awaited w))
+    or_cause (cause_if (is_demand awaited && is_bad_range w.text) RangeForm)
+    (or_cause (cause_if (has_point w.text) DecimalPoint) (own_cause u awaited w))
 
 -- what is likely where the text ends too early
 abbrev pub end_cause : Unread → Place → Option Cause

@@ -1,6 +1,5 @@
 -- The refusal of a text by its first failure.
 use Rattle.std.specs.Prelude.{ℕ}
-use Rattle.rwsp_text.specs.Lexemes.{Lexeme}
 use Rattle.rwsp_file.specs.declared.refusal.FileRefusal.{FileRefusal}
 use Rattle.rwsp_file.specs.declared.refusal.FileRefusal.TheVariants.{Ends, Number, Range, Row, Name, Unknown, Extra}
 use Rattle.rwsp_file.specs.declared.misfit.Fault.{Fault}

@@ -249,19 +249,13 @@ pairs_at rows count u = many (each (pair_at rows)) count [] u
 abbrev pub triples_at : List ShiftRow → ℕ → Unread → Result (List (Symbol × Symbol × Symbol) × Unread) Misfit
 triples_at rows count u = many (each (triple_at rows)) count [] u
 
--- nothing is left
-abbrev pub nothing_of : List Lexeme → Result (Unit {0}) Misfit
-nothing_of [] = Ok tt
-nothing_of (w ∷ ws) = Err (BadWord TextEnd w NotEnd)
-
 -- the forbidden pairs and triples, with which a text ends
 unfoldable pub sequences_at : List ShiftRow → Frame → Unread
-    → Result (List (Symbol × Symbol) × List (Symbol × Symbol × Symbol)) Misfit
+    → Result ((List (Symbol × Symbol) × List (Symbol × Symbol × Symbol)) × Unread) Misfit
 sequences_at rows frame u = do
   pairs ← pairs_at rows frame.pairs u
   triples ← triples_at rows frame.triples pairs.1
-  _ ← nothing_of triples.1.lexemes
-  Ok (pairs.0, triples.0)
+  Ok ((pairs.0, triples.0), triples.1)
 
 abbrev pub instance_from : Size → List (List Bounds) → List ShiftRow → Frame
     → List (Symbol × Symbol) × List (Symbol × Symbol × Symbol) → Instance
@@ -276,15 +270,27 @@ instance_from size demand shifts frame sequences = record {
   triples = sequences.1;
 }
 
--- the instance that a text spells, or the first failure
-unfoldable pub reading : Unread → Result Instance Misfit
-reading u = do
+-- all parts of a text
+unfoldable pub instance_at : Unread → Result (Instance × Unread) Misfit
+instance_at u = do
   size ← size_at u
   demand ← demand_rows_at size.0 size.1
   shifts ← shift_rows_at size.0.shifts demand.1
   frame ← frame_at shifts.1
   sequences ← sequences_at shifts.0 frame.0 frame.1
-  Ok (instance_from size.0 demand.0 shifts.0 frame.0 sequences)
+  Ok (instance_from size.0 demand.0 shifts.0 frame.0 sequences.0, sequences.1)
+
+-- nothing is left
+abbrev pub nothing_of : List Lexeme → Result (Unit {0}) Misfit
+nothing_of [] = Ok tt
+nothing_of (w ∷ ws) = Err (BadWord TextEnd w NotEnd)
+
+-- the instance that a text spells, or the first failure
+unfoldable pub reading : Unread → Result Instance Misfit
+reading u = do
+  P ← instance_at u
+  _ ← nothing_of P.1.lexemes
+  Ok P.0
 
 abbrev pub misfit_in : {A : Type 0} → Result A Misfit → Option Misfit
 misfit_in (Ok x) = None

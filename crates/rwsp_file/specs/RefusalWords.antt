@@ -3,13 +3,12 @@ use Rattle.std.specs.Prelude.{ℕ, ◌/◌, ◌%◌, ◌+◌, ◌==◌, ◌&&◌
 use Rattle.std.specs.List.{flat_map}
 use Rattle.std.specs.Option.{option_map}
 use Rattle.std.specs.Fmt.{decimal}
-use Rattle.rwsp_text.specs.Lexemes.{Lexeme}
 use Rattle.rwsp_terms.specs.declared.limits.TheConstants.{MOST_CELLS, LONGEST_NAME}
 use Rattle.rwsp_file.specs.declared.limits.Limit.{Limit}
 use Rattle.rwsp_file.specs.declared.misfit.Place.{Place}
 use Rattle.rwsp_file.specs.declared.misfit.Place.TheVariants.{Days, Weeks, Shifts, Demand, ShiftLine, ShiftName, Start, Minutes, LeastBlock, GreatestBlock, LeastOff, GreatestOff, LeastWork, GreatestWork, Pairs, Triples, InPair, InTriple, TextEnd}
 use Rattle.rwsp_file.specs.declared.misfit.Fault.{Fault}
-use Rattle.rwsp_file.specs.declared.misfit.Fault.TheVariants.{NoNumber, Beyond, TooManyDays, WordCount, LongName, OffName, TakenName, NoSymbol, NotEnd}
+use Rattle.rwsp_file.specs.declared.misfit.Fault.TheVariants.{Beyond, TooManyDays, WordCount, LongName, OffName, TakenName, NoSymbol}
 use Rattle.rwsp_file.specs.declared.misfit.Misfit.{Misfit}
 use Rattle.rwsp_file.specs.declared.misfit.Misfit.TheVariants.{TextEnds, BadWord}
 use Rattle.rwsp_file.specs.declared.likely.Cause.{Cause}

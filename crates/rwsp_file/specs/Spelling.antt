@@ -7,8 +7,10 @@ use Rattle.rwsp_terms.specs.Instance.{Instance, name_of}
 use Rattle.rwsp_model.specs.Validity.{IsValid}
 use Rattle.rwsp_terms.specs.declared.data.Bounds.{Bounds}
 use Rattle.rwsp_terms.specs.declared.data.ShiftRow.{ShiftRow}
+use Rattle.rwsp_terms.specs.declared.data.Symbol.{Symbol}
 
--- the text of an instance is a row of these: a number, the demand of a shift on a day, a shift, a name in a sequence
+-- a line of the text of an instance is a row of these: a number, the demand of a shift on a day, a shift, a name in a
+-- sequence
 pub data FileField : Type 0 where
   NumberField : (n : ℕ) → FileField
   DemandField : (range : Bounds) → FileField
@@ -21,16 +23,40 @@ number_fields ns = map NumberField ns
 abbrev pub name_fields : List (List ℕ) → List FileField
 name_fields names = map NameField names
 
--- the fields of an instance, in order
+abbrev pub bounds_fields : Bounds → List FileField
+bounds_fields b = number_fields (b.least ∷ b.greatest ∷ [])
+
+-- a shift is alone on its line
+abbrev pub shift_fields : ShiftRow → List FileField
+shift_fields row = ShiftField row ∷ []
+
+abbrev pub pair_fields : Instance → Symbol × Symbol → List FileField
+pair_fields P x = name_fields (name_of P x.0 ∷ name_of P x.1 ∷ [])
+
+abbrev pub triple_fields : Instance → Symbol × Symbol × Symbol → List FileField
+triple_fields P x = name_fields (name_of P x.0 ∷ name_of P x.1 ∷ name_of P x.2 ∷ [])
+
+-- a line each for the days, the weeks and the number of shifts
+abbrev pub size_lines : Instance → List (List FileField)
+size_lines P = map (λ n. number_fields (n ∷ [])) (P.days ∷ P.weeks ∷ length P.shifts ∷ [])
+
+-- a line each for the bounds of days off, those of work, and the numbers of pairs and triples
+abbrev pub frame_lines : Instance → List (List FileField)
+frame_lines P = bounds_fields P.off ∷ bounds_fields P.work ∷ number_fields (length P.pairs ∷ length P.triples ∷ []) ∷ []
+
+-- the lines of an instance, in order
+abbrev pub file_lines : Instance → List (List FileField)
+file_lines P =
+    size_lines P
+    ++ (map (map DemandField) P.demand
+    ++ (map shift_fields P.shifts
+    ++ (frame_lines P
+    ++ (map (pair_fields P) P.pairs
+    ++ map (triple_fields P) P.triples))))
+
+-- the fields of these lines, which may stand on other lines
 abbrev pub file_fields : Instance → List FileField
-file_fields P =
-    number_fields (P.days ∷ P.weeks ∷ length P.shifts ∷ [])
-    ++ (flat_map (map DemandField) P.demand
-    ++ (map ShiftField P.shifts
-    ++ (number_fields (
-    P.off.least ∷ P.off.greatest ∷ P.work.least ∷ P.work.greatest ∷ length P.pairs ∷ length P.triples ∷ [])
-    ++ (flat_map (λ x. name_fields (name_of P x.0 ∷ name_of P x.1 ∷ [])) P.pairs
-    ++ flat_map (λ x. name_fields (name_of P x.0 ∷ name_of P x.1 ∷ name_of P x.2 ∷ [])) P.triples))))
+file_fields P = flat_map (λ fields. fields) (file_lines P)
 
 -- two numbers with `..` between them
 pub record IsRange (range : Bounds) (text : List ℕ) : Type 0 where

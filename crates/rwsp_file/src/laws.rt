@@ -21,7 +21,7 @@ pub fn canonical_texts_spell()
 {}
 
 /// The canonical text of a valid instance has at most 1,048,576 bytes, the most that are read of a problem's file.
-#[tactic(auto, using(crate::proofs::Lengths::canonical_texts_are_short))]
+#[tactic(auto, using(crate::proofs::Printing::canonical_texts_are_short))]
 pub fn canonical_texts_are_short()
     ensures { CanonicalTextsAreShort }
 {}

@@ -1,7 +1,7 @@
 // What is likely the cause of a refusal.
 ghost use Rattle.std.specs.Prelude.{◌≡◌, ◌<◌, ◌≤◌, IfOk, IfSome, length, position};
 ghost use Rattle.rwsp_file.specs.Reads.{ReadsUnless, GivesUnless};
-ghost use Rattle.rwsp_file.specs.LikelyCauses.{or_cause, cause_if, has_byte, has_digit, begins_with, begins_with_mark, begins_with_wide_mark, has_control, has_no_break, dots, is_range_byte, is_range_like, is_demand, is_colon, minutes_from, minutes_of, clock_or_colon, word_cause, range_cause, point_cause, lines_of_words, words_on, is_other_line, other_line, length_cause, row_cause, rows_cause, lines_cause, row_length_cause, shifts_skipped, counts_at, announced, size_cause, own_cause, place_cause, end_cause, bad_word_cause, likely};
+ghost use Rattle.rwsp_file.specs.LikelyCauses.{has_byte, has_digit, begins_with, has_control, dots, is_range_byte, is_range_like, is_demand, is_bad_range, has_point, is_colon, minutes_from, minutes_of, clock_or_colon, word_cause, lines_of_words, words_on, is_other_line, other_line, length_cause, row_cause, rows_cause, lines_cause, row_length_cause, shifts_skipped, counts_at, announced, size_cause, own_cause, place_cause, end_cause, bad_word_cause, likely};
 
 use crate::cursor::{Cursor, Lexeme};
 use crate::fields::{read_demand, read_size};
@@ -59,21 +59,6 @@ pub enum Cause {
     NoWords,
 }
 
-fn or_cause(first: Option<Cause>, other: Option<Cause>) -> Option<Cause>
-    ensures { result ≡ or_cause first other }
-{
-    match first {
-        Some(cause) => Some(cause),
-        None => other,
-    }
-}
-
-fn cause_if(is: bool, cause: Cause) -> Option<Cause>
-    ensures { result ≡ cause_if is cause }
-{
-    if is { Some(cause) } else { None }
-}
-
 fn has_byte(byte: u8, word: &[u8]) -> bool
     ensures { result ≡ has_byte byte word.now }
 {
@@ -92,32 +77,10 @@ fn begins_with(start: &[u8], word: &[u8]) -> bool
     start.len() <= word.len() && &word[..start.len()] == start
 }
 
-fn begins_with_mark(word: &[u8]) -> bool
-    ensures { result ≡ begins_with_mark word.now }
-{
-    begins_with(&[239, 187, 191], word)
-}
-
-fn begins_with_wide_mark(word: &[u8]) -> bool
-    ensures { result ≡ begins_with_wide_mark word.now }
-{
-    let little = begins_with(&[255, 254], word);
-    let big = begins_with(&[254, 255], word);
-    little || big
-}
-
 fn has_control(word: &[u8]) -> bool
     ensures { result ≡ has_control word.now }
 {
     word.iter().any(|b| *b < 32)
-}
-
-fn has_no_break(word: &[u8]) -> bool
-    ensures { result ≡ has_no_break word.now }
-{
-    let first = has_byte(194, word);
-    let second = has_byte(160, word);
-    first && second
 }
 
 fn dots(word: &[u8]) -> usize
@@ -165,12 +128,21 @@ fn clock_or_colon(word: &[u8]) -> Cause
 fn word_cause(word: &[u8]) -> Option<Cause>
     ensures { result ≡ word_cause word.now }
 {
-    let colon = cause_if(has_byte(b':', word), clock_or_colon(word));
-    let comma = or_cause(cause_if(has_byte(b',', word), Cause::Commas), colon);
-    let no_break = or_cause(cause_if(has_no_break(word), Cause::NoBreakSpace), comma);
-    let control = or_cause(cause_if(has_control(word), Cause::NoPlainText), no_break);
-    let wide = or_cause(cause_if(begins_with_wide_mark(word), Cause::Utf16), control);
-    or_cause(cause_if(begins_with_mark(word), Cause::ByteOrderMark), wide)
+    if begins_with(&[239, 187, 191], word) {
+        Some(Cause::ByteOrderMark)
+    } else if begins_with(&[255, 254], word) || begins_with(&[254, 255], word) {
+        Some(Cause::Utf16)
+    } else if has_control(word) {
+        Some(Cause::NoPlainText)
+    } else if has_byte(194, word) && has_byte(160, word) {
+        Some(Cause::NoBreakSpace)
+    } else if has_byte(b',', word) {
+        Some(Cause::Commas)
+    } else if has_byte(b':', word) {
+        Some(clock_or_colon(word))
+    } else {
+        None
+    }
 }
 
 fn is_range_byte(b: u8) -> bool
@@ -194,20 +166,17 @@ fn is_demand(awaited: Place) -> bool
     }
 }
 
-fn range_cause(awaited: Place, word: &[u8]) -> Option<Cause>
-    ensures { result ≡ range_cause awaited word.now }
+// Whether a word is no demand for a `-` or for two dots.
+fn is_bad_range(word: &[u8]) -> bool
+    ensures { result ≡ is_bad_range word.now }
 {
-    let like = is_demand(awaited) && is_range_like(word);
-    let dash = has_byte(b'-', word);
-    let many = 2 <= dots(word);
-    cause_if(like && (dash || many), Cause::RangeForm)
+    is_range_like(word) && (has_byte(b'-', word) || 2 <= dots(word))
 }
 
-fn point_cause(word: &[u8]) -> Option<Cause>
-    ensures { result ≡ point_cause word.now }
+fn has_point(word: &[u8]) -> bool
+    ensures { result ≡ has_point word.now }
 {
-    let one = dots(word) == 1;
-    cause_if(is_range_like(word) && one, Cause::DecimalPoint)
+    is_range_like(word) && dots(word) == 1
 }
 
 // How many words are on the line.
@@ -251,13 +220,13 @@ fn length_cause(lines: &[u32], days: u32, last: u32) -> Option<Cause>
 fn row_cause(shifts: u32, shift: u32, day: u32, word: &[u8]) -> Option<Cause>
     ensures { result ≡ row_cause shifts shift day word.now }
 {
-    let cause = if shift == 1 {
-        Cause::NoComment
+    if day != 1 || has_digit(word) {
+        None
+    } else if shift == 1 {
+        Some(Cause::NoComment)
     } else {
-        Cause::MissingRow(shift.saturating_sub(1), shifts)
-    };
-    let letters = !has_digit(word);
-    cause_if(day == 1 && letters, cause)
+        Some(Cause::MissingRow(shift.saturating_sub(1), shifts))
+    }
 }
 
 // What the lines before a word show that should be a demand.
@@ -275,8 +244,10 @@ fn rows_cause(
         Err(_) => return Ok(None),
     };
     let lines = cursor.lines(alloc)?;
-    let length = length_cause(&lines, size.days, word.line().saturating_sub(1));
-    Ok(or_cause(length, row_cause(size.shifts, shift, day, word.text())))
+    match length_cause(&lines, size.days, word.line().saturating_sub(1)) {
+        Some(cause) => Ok(Some(cause)),
+        None => Ok(row_cause(size.shifts, shift, day, word.text())),
+    }
 }
 
 // What the lines of demands up to a word show.
@@ -306,9 +277,11 @@ fn row_length_cause(
 {
     match awaited {
         Place::ShiftLine(shift) => {
-            let lines = lines_cause(alloc, cursor, word)?;
-            let wanted = shift == 1 && has_digit(word.text());
-            Ok(if wanted { lines } else { None })
+            if shift == 1 && has_digit(word.text()) {
+                lines_cause(alloc, cursor, word)
+            } else {
+                Ok(None)
+            }
         }
         _ => Ok(None),
     }
@@ -384,7 +357,11 @@ fn own_cause(
     match awaited {
         Place::Demand(shift, day) => rows_cause(alloc, cursor, shift, day, word),
         Place::Days | Place::Weeks | Place::Shifts => Ok(size_cause(word.text())),
-        Place::Start(_) => Ok(cause_if(!has_digit(word.text()), Cause::TwoWordName)),
+        Place::Start(_) => Ok(if has_digit(word.text()) {
+            None
+        } else {
+            Some(Cause::TwoWordName)
+        }),
         Place::LeastOff
         | Place::GreatestOff
         | Place::LeastWork
@@ -404,9 +381,13 @@ fn place_cause(
 ) -> Result<Option<Cause>, AllocError>
     ensures { IfOk result (λ cause. cause ≡ place_cause cursor.old awaited word.now) }
 {
-    let own = own_cause(alloc, cursor, awaited, word)?;
-    let point = or_cause(point_cause(word.text()), own);
-    Ok(or_cause(range_cause(awaited, word.text()), point))
+    if is_demand(awaited) && is_bad_range(word.text()) {
+        Ok(Some(Cause::RangeForm))
+    } else if has_point(word.text()) {
+        Ok(Some(Cause::DecimalPoint))
+    } else {
+        own_cause(alloc, cursor, awaited, word)
+    }
 }
 
 // What is likely where the text ends too early.
@@ -435,12 +416,16 @@ fn bad_word_cause(
     ensures { IfOk result (λ cause. cause ≡ bad_word_cause cursor.old awaited word.now fault) }
 {
     match fault {
-        Fault::NoNumber => {
-            let place = place_cause(alloc, cursor, awaited, word)?;
-            Ok(or_cause(word_cause(word.text()), place))
-        }
+        Fault::NoNumber => match word_cause(word.text()) {
+            Some(cause) => Ok(Some(cause)),
+            None => place_cause(alloc, cursor, awaited, word),
+        },
         Fault::WordCount(_) => row_length_cause(alloc, cursor, awaited, word),
-        Fault::NoSymbol => Ok(cause_if(has_byte(b',', word.text()), Cause::Commas)),
+        Fault::NoSymbol => Ok(if has_byte(b',', word.text()) {
+            Some(Cause::Commas)
+        } else {
+            None
+        }),
         Fault::NotEnd => announced(alloc, cursor),
         Fault::Beyond(_)
         | Fault::TooManyDays(_, _)

@@ -3,7 +3,9 @@ ghost use Rattle.std.specs.Prelude.{◌≡◌, ◌+◌, ◌<◌, ◌≤◌, [], 
 ghost use Rattle.std.specs.List.{flat_map};
 ghost use Rattle.std.specs.Fmt.{decimal};
 ghost use Rattle.rwsp_terms.specs.Instance.{name_of, IsSymbol};
-ghost use Rattle.rwsp_file.specs.Text.{demand_text, bounds_words, file_line, pair_words, triple_words, problem_text, row_of_demand, row_of_shift, shift_words, size_lines, frame_lines};
+ghost use Rattle.rwsp_file.specs.Spelling.{number_fields, bounds_fields, shift_fields, pair_fields, triple_fields, size_lines, frame_lines};
+ghost use Rattle.rwsp_file.specs.Spelling.FileField.{DemandField};
+ghost use Rattle.rwsp_file.specs.Text.{demand_text, file_line, problem_text, row_of_demand, row_of_shift};
 
 use rwsp_model::Problem;
 use rwsp_terms::{Bounds, Class, Symbol};
@@ -52,14 +54,14 @@ fn put_demand(out: &mut Vec<u8>, range: Bounds) -> Result<(), AllocError>
 
 // A line of one number.
 fn put_count(out: &mut Vec<u8>, count: u32) -> Result<(), AllocError>
-    ensures { OnOk result (out.new.items ≡ out.old.items ++ file_line (decimal count ∷ [])) }
+    ensures { OnOk result (out.new.items ≡ out.old.items ++ file_line (number_fields (count ∷ []))) }
 {
     put_number_and(out, count, b'\n')
 }
 
 // A line of two numbers.
 fn put_two(out: &mut Vec<u8>, first: u32, second: u32) -> Result<(), AllocError>
-    ensures { OnOk result (out.new.items ≡ out.old.items ++ file_line (decimal first ∷ decimal second ∷ [])) }
+    ensures { OnOk result (out.new.items ≡ out.old.items ++ file_line (number_fields (first ∷ second ∷ []))) }
 {
     put_number_and(out, first, b' ')?;
     put_number_and(out, second, b'\n')
@@ -67,7 +69,7 @@ fn put_two(out: &mut Vec<u8>, first: u32, second: u32) -> Result<(), AllocError>
 
 fn put_pair(out: &mut Vec<u8>, problem: &Problem, pair: (Symbol, Symbol)) -> Result<(), AllocError>
     requires { IsSymbol problem.now pair.0 × IsSymbol problem.now pair.1 }
-    ensures { OnOk result (out.new.items ≡ out.old.items ++ file_line (pair_words problem.now pair)) }
+    ensures { OnOk result (out.new.items ≡ out.old.items ++ file_line (pair_fields problem.now pair)) }
 {
     put_name_and(out, problem, pair.0, b' ')?;
     put_name_and(out, problem, pair.1, b'\n')
@@ -79,7 +81,7 @@ fn put_triple(
     triple: (Symbol, Symbol, Symbol),
 ) -> Result<(), AllocError>
     requires { IsSymbol problem.now triple.0 × IsSymbol problem.now triple.1 × IsSymbol problem.now triple.2 }
-    ensures { OnOk result (out.new.items ≡ out.old.items ++ file_line (triple_words problem.now triple)) }
+    ensures { OnOk result (out.new.items ≡ out.old.items ++ file_line (triple_fields problem.now triple)) }
 {
     put_name_and(out, problem, triple.0, b' ')?;
     put_name_and(out, problem, triple.1, b' ')?;
@@ -99,7 +101,7 @@ fn put_next_demand(out: &mut Vec<u8>, range: Bounds) -> Result<(), AllocError>
 fn put_demand_row(out: &mut Vec<u8>, problem: &Problem, place: u8) -> Result<(), AllocError>
     requires { place < length problem.now.shifts }
     ensures { OnOk result (
-        out.new.items ≡ out.old.items ++ file_line (map demand_text (row_of_demand problem.now place))) }
+        out.new.items ≡ out.old.items ++ file_line (map DemandField (row_of_demand problem.now place))) }
 {
     problem.prove_limits();
     let shift = Symbol { number: place + 1 };
@@ -115,7 +117,7 @@ fn put_demand_row(out: &mut Vec<u8>, problem: &Problem, place: u8) -> Result<(),
 #[tactic(auto, using(crate::proofs::TextSteps::lines_more, crate::proofs::TextSteps::lines_all))]
 fn put_demand_rows(out: &mut Vec<u8>, problem: &Problem) -> Result<(), AllocError>
     ensures { OnOk result (
-        out.new.items ≡ out.old.items ++ flat_map file_line (map (map demand_text) problem.now.demand)) }
+        out.new.items ≡ out.old.items ++ flat_map file_line (map (map DemandField) problem.now.demand)) }
 {
     problem.prove_limits();
     for place in 0..problem.shifts() {
@@ -150,7 +152,7 @@ fn put_name_at(out: &mut Vec<u8>, problem: &Problem, place: u8) -> Result<(), Al
 // A line of the shift at a place, counted from 0.
 fn put_shift(out: &mut Vec<u8>, problem: &Problem, place: u8) -> Result<(), AllocError>
     requires { place < length problem.now.shifts }
-    ensures { OnOk result (out.new.items ≡ out.old.items ++ file_line (shift_words (row_of_shift problem.now place))) }
+    ensures { OnOk result (out.new.items ≡ out.old.items ++ file_line (shift_fields (row_of_shift problem.now place))) }
 {
     let (start, length, bounds) = numbers_at(problem, place);
     put_name_at(out, problem, place)?;
@@ -162,7 +164,7 @@ fn put_shift(out: &mut Vec<u8>, problem: &Problem, place: u8) -> Result<(), Allo
 // A line for each shift.
 #[tactic(auto, using(crate::proofs::TextSteps::lines_more, crate::proofs::TextSteps::lines_all))]
 fn put_shifts(out: &mut Vec<u8>, problem: &Problem) -> Result<(), AllocError>
-    ensures { OnOk result (out.new.items ≡ out.old.items ++ flat_map file_line (map shift_words problem.now.shifts)) }
+    ensures { OnOk result (out.new.items ≡ out.old.items ++ flat_map file_line (map shift_fields problem.now.shifts)) }
 {
     for place in 0..problem.shifts() {
         put_shift(out, problem, place)?;
@@ -174,7 +176,7 @@ fn put_shifts(out: &mut Vec<u8>, problem: &Problem) -> Result<(), AllocError>
 #[tactic(auto, using(crate::proofs::TextSteps::lines_more, crate::proofs::TextSteps::lines_all))]
 fn put_pairs(out: &mut Vec<u8>, problem: &Problem) -> Result<(), AllocError>
     ensures { OnOk result (
-        out.new.items ≡ out.old.items ++ flat_map file_line (map (pair_words problem.now) problem.now.pairs)) }
+        out.new.items ≡ out.old.items ++ flat_map file_line (map (pair_fields problem.now) problem.now.pairs)) }
 {
     problem.prove_limits();
     let pairs = problem.pairs();
@@ -188,7 +190,7 @@ fn put_pairs(out: &mut Vec<u8>, problem: &Problem) -> Result<(), AllocError>
 #[tactic(auto, using(crate::proofs::TextSteps::lines_more, crate::proofs::TextSteps::lines_all))]
 fn put_triples(out: &mut Vec<u8>, problem: &Problem) -> Result<(), AllocError>
     ensures { OnOk result (
-        out.new.items ≡ out.old.items ++ flat_map file_line (map (triple_words problem.now) problem.now.triples)) }
+        out.new.items ≡ out.old.items ++ flat_map file_line (map (triple_fields problem.now) problem.now.triples)) }
 {
     problem.prove_limits();
     let triples = problem.triples();
@@ -209,7 +211,7 @@ fn put_size(out: &mut Vec<u8>, problem: &Problem) -> Result<(), AllocError>
 
 // A line of the bounds of blocks.
 fn put_bounds(out: &mut Vec<u8>, bounds: Bounds) -> Result<(), AllocError>
-    ensures { OnOk result (out.new.items ≡ out.old.items ++ file_line (bounds_words bounds)) }
+    ensures { OnOk result (out.new.items ≡ out.old.items ++ file_line (bounds_fields bounds)) }
 {
     put_two(out, bounds.least, bounds.greatest)
 }
@@ -219,7 +221,7 @@ fn put_counts(out: &mut Vec<u8>, problem: &Problem) -> Result<(), AllocError>
     ensures { OnOk result (
         out.new.items
         ≡ out.old.items
-        ++ file_line (decimal (length problem.now.pairs) ∷ decimal (length problem.now.triples) ∷ [])) }
+        ++ file_line (number_fields (length problem.now.pairs ∷ length problem.now.triples ∷ []))) }
 {
     let pairs = problem.pairs().len() as u32;
     let triples = problem.triples().len() as u32;

@@ -6,15 +6,15 @@ ghost use Rattle.rwsp_model.specs.Refusals.{IfRefused};
 ghost use Rattle.rwsp_model.specs.Parts.{instance_of};
 ghost use Rattle.rwsp_file.specs.Spelling.{SpellsProblem};
 ghost use Rattle.rwsp_file.specs.Misfits.{refusal_of};
-ghost use Rattle.rwsp_file.specs.Reading.{reading, misfit_in, unread_of, file_refusal};
-ghost use Rattle.rwsp_file.specs.Reads.{GivesUnless};
+ghost use Rattle.rwsp_file.specs.Reading.{instance_at, reading, misfit_in, unread_of, file_refusal};
+ghost use Rattle.rwsp_file.specs.Reads.{GivesUnless, ReadsUnless};
 
 use crate::FileRefusal;
 use crate::cursor::Cursor;
 use crate::fields::{read_demand, read_frame, read_size};
 use crate::misfit::Misfit;
 use crate::row::read_shifts;
-use crate::sequences::read_sequences;
+use crate::sequences::{read_end, read_sequences};
 use rwsp_model::{Fail, Parts, Problem};
 use rwsp_text::tokens;
 use std::alloc::Global;
@@ -34,10 +34,10 @@ pub fn last_line(bytes: &[u8]) -> u32
     count_line_ends(bytes) as u32 + 1
 }
 
-/// Reads the numbers and the shifts of a problem, up to the first failure.
-#[tactic(auto, unfolding(crate::specs::Reading::reading))]
-pub fn read_parts<'a>(alloc: Global, cursor: &mut Cursor<'a>) -> Result<Parts, Fail<Misfit<'a>>>
-    ensures { GivesUnless instance_of (reading cursor.old) result }
+// Reads the numbers and the shifts of a problem.
+#[tactic(auto, unfolding(crate::specs::Reading::instance_at))]
+fn read_instance<'a>(alloc: Global, cursor: &mut Cursor<'a>) -> Result<Parts, Fail<Misfit<'a>>>
+    ensures { ReadsUnless instance_of (instance_at cursor.old) result cursor.new }
 {
     let size = read_size(cursor).map_err(Fail::Refused)?;
     let demand = read_demand(alloc, size, cursor)?;
@@ -67,6 +67,22 @@ pub fn read_parts<'a>(alloc: Global, cursor: &mut Cursor<'a>) -> Result<Parts, F
         pairs,
         triples,
     })
+}
+
+/// Reads all of a text, up to the first failure.
+#[tactic(auto, unfolding(crate::specs::Reading::reading))]
+pub fn read_parts<'a>(alloc: Global, cursor: &mut Cursor<'a>) -> Result<Parts, Fail<Misfit<'a>>>
+    ensures { GivesUnless instance_of (reading cursor.old) result }
+{
+    let parts = read_instance(alloc, cursor)?;
+    match read_end(cursor) {
+        Ok(()) => Ok(parts),
+        Err(why) => {
+            // By a call, so that the drop of the parts is one step of the proof.
+            drop(parts);
+            Err(Fail::Refused(why))
+        }
+    }
 }
 
 // The parts, or the refusal alone.

@@ -3,7 +3,7 @@ ghost use Rattle.std.specs.Prelude.{◌≡◌, length, ◌≤◌};
 ghost use Rattle.rwsp_terms.specs.declared.limits.TheConstants.{MOST_SHIFTS};
 ghost use Rattle.rwsp_terms.specs.Instance.{symbol_among};
 ghost use Rattle.rwsp_file.specs.Reading.{symbol_at, pair_at, triple_at, pairs_at, triples_at, nothing_of, sequences_at};
-ghost use Rattle.rwsp_file.specs.Reads.{ReadsTokens, ReadsUnless, GivesUnless};
+ghost use Rattle.rwsp_file.specs.Reads.{ReadsTokens, ReadsUnless};
 
 use crate::cursor::Cursor;
 use crate::fields::Frame;
@@ -106,8 +106,8 @@ fn read_triples<'a>(
     Ok(triples)
 }
 
-// Refuses a word that is left.
-fn read_end<'a>(cursor: &mut Cursor<'a>) -> Result<(), Misfit<'a>>
+/// Refuses a word that is left.
+pub fn read_end<'a>(cursor: &mut Cursor<'a>) -> Result<(), Misfit<'a>>
     ensures { result ≡ nothing_of cursor.old.lexemes }
 {
     match cursor.pop() {
@@ -118,7 +118,7 @@ fn read_end<'a>(cursor: &mut Cursor<'a>) -> Result<(), Misfit<'a>>
 
 type Sequences = (Vec<(Symbol, Symbol)>, Vec<(Symbol, Symbol, Symbol)>);
 
-/// Reads the pairs and the triples, with which a text ends.
+/// Reads the pairs and the triples.
 #[tactic(auto, unfolding(crate::specs::Reading::sequences_at))]
 pub fn read_sequences<'a>(
     alloc: Global,
@@ -127,10 +127,9 @@ pub fn read_sequences<'a>(
     cursor: &mut Cursor<'a>,
 ) -> Result<Sequences, Fail<Misfit<'a>>>
     requires { length shifts.now ≤ MOST_SHIFTS }
-    ensures { GivesUnless (λ s. (s.0.items, s.1.items)) (sequences_at shifts.now frame cursor.old) result }
+    ensures { ReadsUnless (λ s. (s.0.items, s.1.items)) (sequences_at shifts.now frame cursor.old) result cursor.new }
 {
     let pairs = read_pairs(alloc, shifts, frame.pairs, cursor)?;
     let triples = read_triples(alloc, shifts, frame.triples, cursor)?;
-    read_end(cursor).map_err(Fail::Refused)?;
     Ok((pairs, triples))
 }

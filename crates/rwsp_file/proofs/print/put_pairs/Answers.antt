@@ -1,7 +1,8 @@
 use Rattle.std.proofs.Common.{◌++◌, ap, sym, ◌∙◌, map}
 use Rattle.std.specs.List.{flat_map}
 use Rattle.std.proofs.lemmas.List.{append-nil}
-use Rattle.rwsp_file.specs.Text.{file_line, pair_words}
+use Rattle.rwsp_file.specs.Text.{file_line}
+use Rattle.rwsp_file.specs.Spelling.{pair_fields}
 use Rattle.rwsp_file.proofs.TextSteps.{lines_more, lines_all}
 use Rattle.rwsp_file.proofs.print.put_pairs.Goals as goal
 
@@ -12,9 +13,9 @@ pub put_pair-requires : goal.put_pair-requires
 put_pair-requires c = (rw (← c.pairs-pairs.ensures.value) at c.prove_limits.ensures.known_pairs) c.loop-i.i _ c.loop-i-test.true
 
 pub loop-i-preserved : goal.loop-i-preserved
-loop-i-preserved c = lines_more (pair_words c.args.problem.now) c.pairs-pairs.result.now c.loop-i.i _ c.args.out.now.items _ _ c.loop-i-test.true c.loop-i.invariant c.in_ok-put_pair.ensures
+loop-i-preserved c = lines_more (pair_fields c.args.problem.now) c.pairs-pairs.result.now c.loop-i.i _ c.args.out.now.items _ _ c.loop-i-test.true c.loop-i.invariant c.in_ok-put_pair.ensures
 
 pub returns : goal.returns
 returns c =
-    lines_all (pair_words c.args.problem.now) c.pairs-pairs.result.now c.loop-i.i c.args.out.now.items _ c.loop-i-test.false c.loop-i.invariant
-    ∙ ap (λ xs. c.args.out.now.items ++ flat_map file_line (map (pair_words c.args.problem.now) xs)) c.pairs-pairs.ensures.value
+    lines_all (pair_fields c.args.problem.now) c.pairs-pairs.result.now c.loop-i.i c.args.out.now.items _ c.loop-i-test.false c.loop-i.invariant
+    ∙ ap (λ xs. c.args.out.now.items ++ flat_map file_line (map (pair_fields c.args.problem.now) xs)) c.pairs-pairs.ensures.value

@@ -1,7 +1,8 @@
 use Rattle.std.proofs.Common.{◌++◌, ap, sym, ◌∙◌, map}
 use Rattle.std.specs.List.{flat_map}
 use Rattle.std.proofs.lemmas.List.{append-nil}
-use Rattle.rwsp_file.specs.Text.{file_line, triple_words}
+use Rattle.rwsp_file.specs.Text.{file_line}
+use Rattle.rwsp_file.specs.Spelling.{triple_fields}
 use Rattle.rwsp_file.proofs.TextSteps.{lines_more, lines_all}
 use Rattle.rwsp_file.proofs.print.put_triples.Goals as goal
 
@@ -12,9 +13,9 @@ pub put_triple-requires : goal.put_triple-requires
 put_triple-requires c = (rw (← c.triples-triples.ensures.value) at c.prove_limits.ensures.known_triples) c.loop-i.i _ c.loop-i-test.true
 
 pub loop-i-preserved : goal.loop-i-preserved
-loop-i-preserved c = lines_more (triple_words c.args.problem.now) c.triples-triples.result.now c.loop-i.i _ c.args.out.now.items _ _ c.loop-i-test.true c.loop-i.invariant c.in_ok-put_triple.ensures
+loop-i-preserved c = lines_more (triple_fields c.args.problem.now) c.triples-triples.result.now c.loop-i.i _ c.args.out.now.items _ _ c.loop-i-test.true c.loop-i.invariant c.in_ok-put_triple.ensures
 
 pub returns : goal.returns
 returns c =
-    lines_all (triple_words c.args.problem.now) c.triples-triples.result.now c.loop-i.i c.args.out.now.items _ c.loop-i-test.false c.loop-i.invariant
-    ∙ ap (λ xs. c.args.out.now.items ++ flat_map file_line (map (triple_words c.args.problem.now) xs)) c.triples-triples.ensures.value
+    lines_all (triple_fields c.args.problem.now) c.triples-triples.result.now c.loop-i.i c.args.out.now.items _ c.loop-i-test.false c.loop-i.invariant
+    ∙ ap (λ xs. c.args.out.now.items ++ flat_map file_line (map (triple_fields c.args.problem.now) xs)) c.triples-triples.ensures.value
