@@ -1,30 +1,27 @@
 -- An answer has one text that is told.
-use Rattle.std.proofs.Common.{◌≡◌, ℕ, List, length, Bool, true, false, ap, sym, ◌∙◌, subst}
+use Rattle.std.proofs.Common.{◌≡◌, ℕ, List, [], ◌∷◌, ◌++◌, length, Bool, true, false, ap, sym, ◌∙◌}
 use Rattle.rwsp_terms.specs.Instance.{Instance}
 use Rattle.rwsp_model.specs.Validity.{KeepsLimits}
 use Rattle.refutation_terms.specs.Log.{Log}
 use Rattle.refutation_log.specs.declared.found.Found.{Found}
 use Rattle.refutation_log.specs.declared.found.Found.TheVariants as Founds
 use Rattle.refutation_log.specs.declared.best_found.BestFound.{BestFound}
-use Rattle.refutation_log.specs.declared.best_found.BestFound.TheVariants as Bests
 use Rattle.ways_out.specs.declared.answer.WaysOut.{WaysOut}
 use Rattle.ways_out.specs.declared.answer.WaysOut.TheVariants as Ways
 use Rattle.made_problems.specs.declared.rested.LeastRest.{LeastRest}
-use Rattle.plain_words.specs.Statements.{Statement, told_lines}
-use Rattle.plain_words.specs.LogTold.{IsSaidOfReduced, rosters_of}
-use Rattle.plain_words.specs.declared.reason.Rosters.TheVariants.{Every}
-use Rattle.plain_words.specs.declared.pieces.TheConstants.{BUDGET_SPENT, MEND_SPENT, NONE_WITH_CELLS}
-use Rattle.plain_words.proofs.SaidLaws.{IsOne, these_one, then_one, logs_say_one, staffs_say_one}
-use Rattle.commands.specs.Told.{IsTold, IsSaidBehind}
-use Rattle.commands.specs.Plan.{IsSaidShortly, ArePlanStatements, IsPlanTold}
-use Rattle.commands.specs.Best.{AreBestStatements, IsBestTold}
+use Rattle.plain_words.specs.Statements.{Statement, plain, told_lines}
+use Rattle.plain_words.specs.LogTold.{reduced_statements}
+use Rattle.plain_words.specs.declared.pieces.TheConstants.{MEND_LOOKS}
+use Rattle.commands.specs.Told.{refuted_statements}
+use Rattle.commands.specs.Plan.{IsSaidShortly, IsPlanTold}
+use Rattle.commands.specs.Best.{IsBestTold}
 use Rattle.commands.specs.Staff.{IsStaffTold}
 use Rattle.commands.specs.Mend.{IsMendTold}
 use Rattle.commands.specs.Rest.{IsRestTold}
 use Rattle.commands.specs.Check.{IsCheckTold}
 use Rattle.commands.specs.CheckStaff.{IsCheckStaffTold}
 use Rattle.commands.specs.Reduce.{IsReduceTold}
-use Rattle.commands.specs.Fill.{AreFilledStatements, IsFillTold}
+use Rattle.commands.specs.Fill.{IsFillTold}
 use Rattle.commands.specs.Verify.{IsVerifyTold}
 use Rattle.commands.specs.Crew.{IsCrewTold}
 use Rattle.commands.specs.Page.{IsPageTold}
@@ -38,7 +35,6 @@ use Rattle.commands.specs.declared.check_staff.Answer.{Answer as CheckStaff}
 use Rattle.commands.specs.declared.reduce.Answer.{Answer as Reduce}
 use Rattle.commands.specs.declared.reduce.Answer.TheVariants as Reductions
 use Rattle.commands.specs.declared.fill.Answer.{Answer as Fill}
-use Rattle.commands.specs.declared.fill.Answer.TheVariants as Fills
 use Rattle.commands.specs.declared.verify.Answer.{Answer as Verify}
 use Rattle.commands.specs.declared.crew.Answer.{Answer as Crew}
 use Rattle.commands.specs.declared.page.Answer.{Answer as Page}
@@ -48,45 +44,28 @@ use Rattle.commands.specs.declared.roster.Answer.{Answer as Roster}
 use Rattle.commands.specs.declared.roster.Answer.TheVariants as Rosters
 use Rattle.commands.proofs.Reductions.{one_reduced}
 
-one_told : (P : Instance) (AreSuch : List Statement → Type 0) (text other : List ℕ) → IsOne AreSuch → IsTold P AreSuch text → IsTold P AreSuch other → text ≡ other
-one_told P AreSuch text other one h k = h.2 ∙ ap (λ s. told_lines P s) (one h.0 k.0 h.1 k.1) ∙ sym k.2
-
-one_behind : (P : Instance) (sentence : List ℕ) (g : Log) → IsOne (IsSaidBehind P sentence g)
-one_behind P sentence g = then_one _ _ (these_one _) (logs_say_one P (rosters_of g) g)
-
-one_shortly : (short : Bool) (P : Instance) (g : Log) → IsOne (IsSaidShortly short P g)
-one_shortly true P g a b h k =
-    let same : k.0 ≡ h.0 = one_reduced P g k.0 h.0 k.1 h.1 in
-    then_one _ _ (these_one _) (logs_say_one P Every h.0) a b h.2 (subst (λ (r : Log). IsSaidOfReduced P (length g.named) r b) same k.2)
-one_shortly false P g a b h k = then_one _ _ (logs_say_one P Every g) (these_one _) a b h k
-
-one_plan : (P : Instance) (found : Found) → IsOne (ArePlanStatements P found)
-one_plan P (Founds.Roster s) = these_one _
-one_plan P (Founds.NoRoster g) = then_one _ _ (these_one _) (then_one _ _ (one_shortly _ P g) (these_one _))
-one_plan P (Founds.Undecided g) = one_behind P BUDGET_SPENT.now g
+one_shortly : (short : Bool) (P : Instance) (g : Log) (a b : List Statement) → IsSaidShortly short P g a → IsSaidShortly short P g b → a ≡ b
+one_shortly true P g a b h k = h.2 ∙ ap (λ (r : Log). reduced_statements P (length g.named) r) (one_reduced P g h.0 k.0 h.1 k.1) ∙ sym k.2
+one_shortly false P g a b h k = h ∙ sym k
 
 pub one_plan_told : (P : Instance) (found : Found) (text other : List ℕ) → KeepsLimits P → IsPlanTold P found text → IsPlanTold P found other → text ≡ other
-one_plan_told P found text other limits h k = one_told P _ text other (one_plan P found) h k
-
-one_best : (P : Instance) (found : BestFound) → IsOne (AreBestStatements P found)
-one_best P (Bests.Best s g) = then_one _ _ (these_one _) (logs_say_one P (rosters_of g) g)
-one_best P (Bests.NoRoster g) = then_one _ _ (these_one _) (logs_say_one P (rosters_of g) g)
-one_best P (Bests.Undecided s g) = one_behind P BUDGET_SPENT.now g
-
-pub one_best_told : (P : Instance) (found : BestFound) (text other : List ℕ) → KeepsLimits P → IsBestTold P found text → IsBestTold P found other → text ≡ other
-one_best_told P found text other limits h k = one_told P _ text other (one_best P found) h k
+one_plan_told P (Founds.Roster s) text other limits h k = h ∙ sym k
+one_plan_told P (Founds.NoRoster g) text other limits h k =
+    let same = one_shortly _ P g h.1.0 k.1.0 h.1.1 k.1.1 in
+    h.2 ∙ ap (λ s. told_lines P s) (h.1.2 ∙ ap (λ s. refuted_statements g ++ s ++ plain MEND_LOOKS.now ∷ []) same ∙ sym k.1.2) ∙ sym k.2
+one_plan_told P (Founds.Undecided g) text other limits h k = h ∙ sym k
 
 pub one_staff_told : (P : Instance) (answer : Staff) (text other : List ℕ) → KeepsLimits P → IsStaffTold P answer text → IsStaffTold P answer other → text ≡ other
-one_staff_told P (Staffs.Run run) text other limits h k = one_told P _ text other (then_one _ _ (these_one _) (staffs_say_one P run)) h k
+one_staff_told P (Staffs.Run run) text other limits h k = h ∙ sym k
 one_staff_told P (Staffs.Range weeks) text other limits h k = h ∙ sym k
 
 pub one_mend_told : (P : Instance) (answer : WaysOut) (text other : List ℕ) → KeepsLimits P → IsMendTold P answer text → IsMendTold P answer other → text ≡ other
 one_mend_told P (Ways.NoNeed s) text other limits h k = h ∙ sym k
-one_mend_told P (Ways.Undecided g) text other limits h k = one_told P _ text other (one_behind P MEND_SPENT.now g) h k
+one_mend_told P (Ways.Undecided g) text other limits h k = h ∙ sym k
 one_mend_told P (Ways.Changes outcomes) text other limits h k = h ∙ sym k
 
 pub one_reduce_told : (P : Instance) (answer : Reduce) (text other : List ℕ) → KeepsLimits P → IsReduceTold P answer text → IsReduceTold P answer other → text ≡ other
-one_reduce_told P (Reductions.Reduced g) text other limits h k = one_told P _ text other (logs_say_one P Every g) h k
+one_reduce_told P (Reductions.Reduced g) text other limits h k = h ∙ sym k
 one_reduce_told P (Reductions.Refused why) text other limits h k = h ∙ sym k
 
 -- where the text is a function of the answer
@@ -100,14 +79,11 @@ one_check_told P answer text other limits h k = h ∙ sym k
 pub one_check_staff_told : (P : Instance) (answer : CheckStaff) (text other : List ℕ) → KeepsLimits P → IsCheckStaffTold P answer text → IsCheckStaffTold P answer other → text ≡ other
 one_check_staff_told P answer text other limits h k = h ∙ sym k
 
-one_filled : (P : Instance) (found : Found) → IsOne (AreFilledStatements P found)
-one_filled P (Founds.Roster s) = these_one _
-one_filled P (Founds.NoRoster g) = one_behind P NONE_WITH_CELLS.now g
-one_filled P (Founds.Undecided g) = one_behind P BUDGET_SPENT.now g
-
 pub one_fill_told : (P : Instance) (answer : Fill) (text other : List ℕ) → KeepsLimits P → IsFillTold P answer text → IsFillTold P answer other → text ≡ other
-one_fill_told P (Fills.Found found) text other limits h k = one_told P _ text other (one_filled P found) h k
-one_fill_told P (Fills.Refused why) text other limits h k = h ∙ sym k
+one_fill_told P answer text other limits h k = h ∙ sym k
+
+pub one_best_told : (P : Instance) (found : BestFound) (text other : List ℕ) → KeepsLimits P → IsBestTold P found text → IsBestTold P found other → text ≡ other
+one_best_told P found text other limits h k = h ∙ sym k
 
 pub one_verify_told : (P : Instance) (answer : Verify) (text other : List ℕ) → KeepsLimits P → IsVerifyTold P answer text → IsVerifyTold P answer other → text ≡ other
 one_verify_told P answer text other limits h k = h ∙ sym k

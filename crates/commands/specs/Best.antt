@@ -12,10 +12,11 @@ use Rattle.roster_print.specs.RosterText.{roster_text}
 use Rattle.refutation_log.specs.Bests.{IsBestFound, IsBestCounted, IsUndecided}
 use Rattle.refutation_log.specs.declared.best_found.BestFound.{BestFound}
 use Rattle.refutation_log.specs.declared.best_found.BestFound.TheVariants.{Best, NoRoster, Undecided}
-use Rattle.plain_words.specs.Statements.{Statement, FreeWeekends, Then}
-use Rattle.plain_words.specs.LogTold.{Are, IsSaidOfLog, rosters_of}
-use Rattle.plain_words.specs.declared.pieces.TheConstants.{BUDGET_SPENT}
-use Rattle.commands.specs.Told.{IsTold, IsSaidBehind, refuted_statements}
+use Rattle.plain_words.specs.Statements.{Statement, Says, told_lines}
+use Rattle.plain_words.specs.LogTold.{log_statements, rosters_of}
+use Rattle.plain_words.specs.declared.pieces.TheConstants.{BUDGET_SPENT, HAS_WEEKENDS}
+use Rattle.plain_words.specs.declared.part.Part.TheVariants.{Weekends}
+use Rattle.commands.specs.Told.{said_behind, refuted_statements}
 use Rattle.commands.specs.Lines.{line}
 
 -- a roster with a proof that none has more free weekends; or a proof that there is no roster; or what is known where
@@ -55,15 +56,15 @@ IsBestOf P (NoRoster g) = Fits P g
 IsBestOf P (Undecided s g) = IsRosterFound P s × Fits P g
 
 -- which statements are told of an answer
-abbrev pub AreBestStatements : Instance → BestFound → List Statement → Type 0
-AreBestStatements P (Best s g) =
-    Then (Are (FreeWeekends (free_weekends s.cells) ∷ [])) (IsSaidOfLog P (rosters_of g) g)
-AreBestStatements P (NoRoster g) = Then (Are (refuted_statements g)) (IsSaidOfLog P (rosters_of g) g)
-AreBestStatements P (Undecided s g) = IsSaidBehind P BUDGET_SPENT.now g
+abbrev pub best_statements : Instance → BestFound → List Statement
+best_statements P (Best s g) =
+    Says HAS_WEEKENDS.now (Weekends (free_weekends s.cells) ∷ []) ∷ log_statements P (rosters_of g) g
+best_statements P (NoRoster g) = refuted_statements g ++ log_statements P (rosters_of g) g
+best_statements P (Undecided s g) = said_behind P BUDGET_SPENT.now g
 
 -- what is told of an answer
 abbrev pub IsBestTold : Instance → BestFound → List ℕ → Type 0
-IsBestTold P found text = IsTold P (AreBestStatements P found) text
+IsBestTold P found text = text ≡ told_lines P (best_statements P found)
 
 abbrev pub best_status : BestFound → ℕ
 best_status (Best s g) = 0

@@ -9,8 +9,9 @@ use Rattle.rwsp_terms.specs.declared.limits.TheConstants.{DAYS_OF_WEEK}
 use Rattle.roster_print.specs.RosterText.{SpellsRoster}
 use Rattle.crew_calendar.specs.Calendar.{Date, date_text, weekday_text}
 use Rattle.crew_calendar.specs.Texts.{IsTable, AreDuties}
-use Rattle.plain_words.specs.Statements.{Statement, Headed, Numbered, told_lines}
-use Rattle.plain_words.specs.declared.pieces.TheConstants.{FEWER_WEEKS, NO_EMPLOYEE, NO_MONDAY}
+use Rattle.plain_words.specs.Statements.{Statement, Says, Headed, told_lines}
+use Rattle.plain_words.specs.declared.pieces.TheConstants.{NO_EMPLOYEE, NO_MONDAY}
+use Rattle.plain_words.specs.declared.part.Part.TheVariants.{Number}
 use Rattle.commands.specs.Lines.{line}
 use Rattle.commands.specs.Verify.{SpellsRight, IsRosterFault, fault_line, IsFaultOf, fault_statement, fault_status}
 use Rattle.commands.specs.declared.crew.Answer.{Answer}
@@ -56,7 +57,7 @@ first_day_statements P date =
 
 -- that there is no employee with the number
 abbrev pub no_employee_statement : ℕ → Statement
-no_employee_statement e = Numbered NO_EMPLOYEE.now e FEWER_WEEKS.now
+no_employee_statement e = Says NO_EMPLOYEE.now (Number e ∷ [])
 
 -- what is said of an answer
 abbrev pub crew_statements : Instance → Answer → List Statement

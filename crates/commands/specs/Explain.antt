@@ -3,7 +3,7 @@ use Rattle.std.specs.Prelude.{◌≡◌, ℕ, List, Some}
 use Rattle.rwsp_terms.specs.Instance.{Instance}
 use Rattle.rwsp_file.specs.RefusalWords.{refusal_words}
 use Rattle.rwsp_file.specs.LongNumbers.{long_numbers}
-use Rattle.plain_words.specs.SentenceText.{problem_words}
+use Rattle.plain_words.specs.Sentences.{problem_words}
 use Rattle.commands.specs.declared.explain.Answer.{Answer}
 use Rattle.commands.specs.declared.explain.Answer.TheVariants.{Refused, Said}
 

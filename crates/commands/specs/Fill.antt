@@ -7,11 +7,10 @@ use Rattle.refutation_log.specs.CellsText.{SpellsGiven, refusal_of_cells}
 use Rattle.refutation_log.specs.declared.found.Found.{Found}
 use Rattle.refutation_log.specs.declared.found.Found.TheVariants.{Roster, NoRoster, Undecided}
 use Rattle.plain_words.specs.Statements.{Statement, told_lines}
-use Rattle.plain_words.specs.LogTold.{Are}
 use Rattle.plain_words.specs.Told.{roster_refusal_statement}
 use Rattle.plain_words.specs.declared.pieces.TheConstants.{BUDGET_SPENT, NONE_WITH_CELLS}
 use Rattle.commands.specs.Plan.{IsPlanOf, PlansAgree, plan_text, plan_status}
-use Rattle.commands.specs.Told.{IsTold, IsSaidBehind}
+use Rattle.commands.specs.Told.{said_behind}
 use Rattle.commands.specs.Verify.{fault_line}
 use Rattle.commands.specs.declared.verify.RosterFault.TheVariants as Faults
 use Rattle.commands.specs.declared.fill.Answer.{Answer}
@@ -36,18 +35,19 @@ IsFillAnswerOf P (Answers.Found found) = IsPlanOf P found
 IsFillAnswerOf P (Refused why) = Unit {0}
 
 -- which statements are told of what was found
-abbrev pub AreFilledStatements : Instance → Found → List Statement → Type 0
-AreFilledStatements P (Roster s) = Are []
-AreFilledStatements P (NoRoster g) = IsSaidBehind P NONE_WITH_CELLS.now g
-AreFilledStatements P (Undecided g) = IsSaidBehind P BUDGET_SPENT.now g
+abbrev pub filled_statements : Instance → Found → List Statement
+filled_statements P (Roster s) = []
+filled_statements P (NoRoster g) = said_behind P NONE_WITH_CELLS.now g
+filled_statements P (Undecided g) = said_behind P BUDGET_SPENT.now g
 
-abbrev pub IsFilledTold : Instance → Found → List ℕ → Type 0
-IsFilledTold P found text = IsTold P (AreFilledStatements P found) text
+-- and of an answer
+abbrev pub fill_statements : Instance → Answer → List Statement
+fill_statements P (Answers.Found found) = filled_statements P found
+fill_statements P (Refused why) = roster_refusal_statement why ∷ []
 
 -- what is told of an answer
 abbrev pub IsFillTold : Instance → Answer → List ℕ → Type 0
-IsFillTold P (Answers.Found found) text = IsFilledTold P found text
-IsFillTold P (Refused why) text = text ≡ told_lines P (roster_refusal_statement why ∷ [])
+IsFillTold P answer text = text ≡ told_lines P (fill_statements P answer)
 
 abbrev pub fill_status : Answer → ℕ
 fill_status (Answers.Found found) = plan_status found

@@ -7,7 +7,7 @@ use Rattle.rwsp_terms.specs.declared.data.Symbol.{Symbol}
 use Rattle.roster_print.specs.RosterText.{SpellsRoster}
 use Rattle.crew_calendar.specs.Calendar.{Date}
 use Rattle.crew_calendar.specs.Events.{AreEvents, HasDuty, HasNoDuty}
-use Rattle.plain_words.specs.Statements.{Statement, Plain, told_lines}
+use Rattle.plain_words.specs.Statements.{Statement, plain, told_lines}
 use Rattle.plain_words.specs.declared.pieces.TheConstants.{NO_DUTY}
 use Rattle.commands.specs.Crew.{first_day_statements, no_employee_statement}
 use Rattle.commands.specs.Lines.{line}
@@ -45,7 +45,7 @@ IsIcsAnswerOf P answer = Unit {0}
 -- what is said of an answer
 abbrev pub ics_statements : Instance → Answer → List Statement
 ics_statements P (Shown calendar date) = first_day_statements P date
-ics_statements P NoDuty = Plain NO_DUTY.now ∷ []
+ics_statements P NoDuty = plain NO_DUTY.now ∷ []
 ics_statements P (NoEmployee e) = no_employee_statement e ∷ []
 ics_statements P (Fails fault) = fault_statement P fault ∷ []
 

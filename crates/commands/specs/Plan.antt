@@ -1,5 +1,5 @@
 -- What `plan` answers.
-use Rattle.std.specs.Prelude.{◌≡◌, ℕ, Bool, true, false, List, [], ◌∷◌, length, nat_le}
+use Rattle.std.specs.Prelude.{◌≡◌, ℕ, Bool, true, false, List, [], ◌∷◌, ◌++◌, length, nat_le}
 use Rattle.rwsp_terms.specs.Instance.{Instance}
 use Rattle.rwsp_terms.specs.Roster.{IsRoster}
 use Rattle.refutation_terms.specs.Log.{Log, Fits, Passes}
@@ -9,11 +9,11 @@ use Rattle.roster_print.specs.RosterText.{roster_text}
 use Rattle.refutation_log.specs.Planned.{IsPlanned, IsCounted}
 use Rattle.refutation_log.specs.declared.found.Found.{Found}
 use Rattle.refutation_log.specs.declared.found.Found.TheVariants.{Roster, NoRoster, Undecided}
-use Rattle.plain_words.specs.Statements.{Statement, Plain, Then}
-use Rattle.plain_words.specs.LogTold.{Are, IsSaidOfLog, IsSaidOfReduced}
+use Rattle.plain_words.specs.Statements.{Statement, plain, told_lines}
+use Rattle.plain_words.specs.LogTold.{log_statements, reduced_statements}
 use Rattle.plain_words.specs.declared.reason.Rosters.TheVariants.{Every}
 use Rattle.plain_words.specs.declared.pieces.TheConstants.{BUDGET_SPENT, MEND_LOOKS, REDUCE_MAY}
-use Rattle.commands.specs.Told.{IsTold, IsSaidBehind, refuted_statements}
+use Rattle.commands.specs.Told.{said_behind, refuted_statements}
 use Rattle.commands.specs.declared.plan.TheConstants.{MOST_LINES_REDUCED}
 
 -- what a plan finds within the budget, which counts blocks or not
@@ -33,21 +33,26 @@ IsPlanOf P (Undecided g) = Fits P g
 
 -- of a log that isn't long, what is said of its reduction; of another, that reducing it may help
 abbrev pub IsSaidShortly : Bool → Instance → Log → List Statement → Type 0
-IsSaidShortly true P g statements =
-    (h : Log) × IsReduced P g h × IsSaidOfReduced P (length g.named) h statements
-IsSaidShortly false P g statements = Then (IsSaidOfLog P Every g) (Are (Plain REDUCE_MAY.now ∷ [])) statements
+IsSaidShortly true P g said = (h : Log) × IsReduced P g h × (said ≡ reduced_statements P (length g.named) h)
+IsSaidShortly false P g said = said ≡ log_statements P Every g ++ plain REDUCE_MAY.now ∷ []
 
--- which statements are told of an answer
-abbrev pub ArePlanStatements : Instance → Found → List Statement → Type 0
-ArePlanStatements P (Roster s) = Are []
-ArePlanStatements P (NoRoster g) =
-    Then (Are (refuted_statements g))
-    (Then (IsSaidShortly (nat_le (length g.lines) MOST_LINES_REDUCED) P g) (Are (Plain MEND_LOOKS.now ∷ [])))
-ArePlanStatements P (Undecided g) = IsSaidBehind P BUDGET_SPENT.now g
+-- the text has got longer by its lines
+abbrev pub TellsShortly : Bool → Instance → Log → (before now : List ℕ) → Type 0
+TellsShortly short P g before now =
+    (said : List Statement) × IsSaidShortly short P g said × (now ≡ before ++ told_lines P said)
+
+-- which statements are told of a refutation
+abbrev pub ArePlanStatements : Instance → Log → List Statement → Type 0
+ArePlanStatements P g statements =
+    (said : List Statement) × IsSaidShortly (nat_le (length g.lines) MOST_LINES_REDUCED) P g said
+    × (statements ≡ refuted_statements g ++ said ++ plain MEND_LOOKS.now ∷ [])
 
 -- what is told of an answer
 abbrev pub IsPlanTold : Instance → Found → List ℕ → Type 0
-IsPlanTold P found text = IsTold P (ArePlanStatements P found) text
+IsPlanTold P (Roster s) text = text ≡ []
+IsPlanTold P (NoRoster g) text =
+    (statements : List Statement) × ArePlanStatements P g statements × (text ≡ told_lines P statements)
+IsPlanTold P (Undecided g) text = text ≡ told_lines P (said_behind P BUDGET_SPENT.now g)
 
 abbrev pub plan_status : Found → ℕ
 plan_status (Roster s) = 0

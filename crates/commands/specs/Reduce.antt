@@ -8,10 +8,9 @@ use Rattle.refutation_terms.specs.Strip.{IsReduced, NeedsEachRule}
 use Rattle.refutation_terms.specs.Verdict.{IsAccepted, IsRefused}
 use Rattle.refutation_log.specs.Needs.{NeedsTogether}
 use Rattle.plain_words.specs.Statements.{told_lines}
-use Rattle.plain_words.specs.LogTold.{IsSaidOfLog}
+use Rattle.plain_words.specs.LogTold.{log_statements}
 use Rattle.plain_words.specs.Told.{log_refusal_statement}
 use Rattle.plain_words.specs.declared.reason.Rosters.TheVariants.{Every}
-use Rattle.commands.specs.Told.{IsTold}
 use Rattle.commands.specs.Lines.{line}
 use Rattle.refutation_log.specs.RefusalText.{log_refusal_text, HasSymbols}
 use Rattle.commands.specs.declared.reduce.Answer.{Answer}
@@ -39,7 +38,7 @@ IsReductionOf P (Refused why) = HasSymbols P why
 
 -- what is told of an answer
 abbrev pub IsReduceTold : Instance → Answer → List ℕ → Type 0
-IsReduceTold P (Reduced g) text = IsTold P (IsSaidOfLog P Every g) text
+IsReduceTold P (Reduced g) text = text ≡ told_lines P (log_statements P Every g)
 IsReduceTold P (Refused why) text = text ≡ told_lines P (log_refusal_statement why ∷ [])
 
 abbrev pub reduce_status : Answer → ℕ

@@ -10,8 +10,9 @@ use Rattle.made_problems.specs.Rested.{HasRest}
 use Rattle.made_problems.specs.RestAnswers.{IsRestOf}
 use Rattle.made_problems.specs.declared.rested.LeastRest.{LeastRest}
 use Rattle.made_problems.specs.declared.rested.LeastRest.TheVariants.{Rested, Pairs, Triples}
-use Rattle.plain_words.specs.Statements.{Statement, Forbidden, Numbered, told_lines}
-use Rattle.plain_words.specs.declared.pieces.TheConstants.{PAIRS_LIMIT, REST_FORBIDS, TRIPLES_LIMIT}
+use Rattle.plain_words.specs.Statements.{Statement, Says, told_lines}
+use Rattle.plain_words.specs.declared.pieces.TheConstants.{REST_FORBIDS, TOO_MANY_PAIRS, TOO_MANY_TRIPLES}
+use Rattle.plain_words.specs.declared.part.Part.TheVariants as Part
 use Rattle.commands.specs.Lines.{line}
 
 abbrev pub rest_text : LeastRest → List ℕ
@@ -34,9 +35,9 @@ IsRestAnswer P minutes answer = IsRestOf P minutes answer × IsPromised P minute
 
 -- how many sequences are forbidden, or would be
 abbrev pub rest_statement : LeastRest → Statement
-rest_statement (Rested Q) = Forbidden (length Q.pairs) (length Q.triples)
-rest_statement (Pairs n) = Numbered REST_FORBIDS.now n PAIRS_LIMIT.now
-rest_statement (Triples n) = Numbered REST_FORBIDS.now n TRIPLES_LIMIT.now
+rest_statement (Rested Q) = Says REST_FORBIDS.now (Part.Pairs (length Q.pairs) ∷ Part.Triples (length Q.triples) ∷ [])
+rest_statement (Pairs n) = Says TOO_MANY_PAIRS.now (Part.Number n ∷ [])
+rest_statement (Triples n) = Says TOO_MANY_TRIPLES.now (Part.Number n ∷ [])
 
 -- what is told of an answer
 abbrev pub IsRestTold : Instance → LeastRest → List ℕ → Type 0

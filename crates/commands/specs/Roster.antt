@@ -9,7 +9,7 @@ use Rattle.roster_print.specs.RosterText.{SpellsRoster, roster_text}
 use Rattle.roster_checker.specs.FirstBroken.{IsFirstBroken}
 use Rattle.crew_size.specs.Sizes.{with_weeks, IsSize}
 use Rattle.crew_checker.specs.Least.{HasLeast}
-use Rattle.plain_words.specs.Statements.{Plain, told_lines}
+use Rattle.plain_words.specs.Statements.{plain, told_lines}
 use Rattle.plain_words.specs.declared.pieces.TheConstants.{NO_ROSTER_THERE}
 use Rattle.commands.specs.Lines.{line}
 use Rattle.commands.specs.ReadBest.{IsBestWith}
@@ -65,7 +65,7 @@ abbrev pub IsRosterTold : Instance → Answer → List ℕ → Type 0
 IsRosterTold P (Shown roster) text = text ≡ []
 IsRosterTold P (Breaks weeks breach) text =
     text ≡ told_lines (with_weeks P weeks) (breach_statement (with_weeks P weeks) breach ∷ [])
-IsRosterTold P NoRoster text = text ≡ told_lines P (Plain NO_ROSTER_THERE.now ∷ [])
+IsRosterTold P NoRoster text = text ≡ told_lines P (plain NO_ROSTER_THERE.now ∷ [])
 
 abbrev pub roster_status : Answer → ℕ
 roster_status (Shown text) = 0

@@ -10,10 +10,10 @@ use Rattle.crew_size.specs.Laws.{decision_of}
 use Rattle.crew_size.specs.declared.verdict.Staffed.{Staffed}
 use Rattle.crew_size.specs.declared.run.StaffEnd.{StaffEnd}
 use Rattle.crew_size.specs.declared.run.StaffEnd.TheVariants.{Least, NoneTo, Undecided}
-use Rattle.plain_words.specs.Statements.{Statement, Plain, Numbered, Then, told_lines}
-use Rattle.plain_words.specs.LogTold.{Are, AreSaidOfStaff}
-use Rattle.plain_words.specs.declared.pieces.TheConstants.{FOR_WEEKS, LAST_LOG_SPENT, STAFF_RANGE}
-use Rattle.commands.specs.Told.{IsTold}
+use Rattle.plain_words.specs.Statements.{Statement, Says, plain, told_lines}
+use Rattle.plain_words.specs.declared.part.Part.TheVariants.{Number}
+use Rattle.plain_words.specs.LogTold.{staff_statements}
+use Rattle.plain_words.specs.declared.pieces.TheConstants.{LAST_LOG_SPENT, STAFF_RANGE}
 use Rattle.commands.specs.Lines.{line}
 use Rattle.commands.specs.declared.staff.Answer.{Answer}
 use Rattle.commands.specs.declared.staff.Answer.TheVariants.{Run, Range}
@@ -42,13 +42,13 @@ end_status (Undecided g) = 4
 
 -- that the budget was spent, where it was
 abbrev pub spent_statements : StaffEnd → List Statement
-spent_statements (Undecided g) = Plain LAST_LOG_SPENT.now ∷ []
+spent_statements (Undecided g) = plain LAST_LOG_SPENT.now ∷ []
 spent_statements end = []
 
 -- what is told of an answer
 abbrev pub IsStaffTold : Instance → Answer → List ℕ → Type 0
-IsStaffTold P (Run run) text = IsTold P (Then (Are (spent_statements run.end)) (AreSaidOfStaff P run)) text
-IsStaffTold P (Range weeks) text = text ≡ told_lines P (Numbered FOR_WEEKS.now weeks STAFF_RANGE.now ∷ [])
+IsStaffTold P (Run run) text = text ≡ told_lines P (spent_statements run.end ++ staff_statements P run)
+IsStaffTold P (Range weeks) text = text ≡ told_lines P (Says STAFF_RANGE.now (Number weeks ∷ []) ∷ [])
 
 abbrev pub staff_status : Answer → ℕ
 staff_status (Run run) = end_status run.end

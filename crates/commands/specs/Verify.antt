@@ -8,7 +8,7 @@ use Rattle.roster_print.specs.Refusal.{refusal_of_roster}
 use Rattle.roster_print.specs.RefusalText.{roster_refusal_text}
 use Rattle.roster_checker.specs.FirstBroken.{IsFirstBroken}
 use Rattle.roster_checker.specs.BreaksText.{breaks_text}
-use Rattle.plain_words.specs.Statements.{Statement, Plain, told_lines}
+use Rattle.plain_words.specs.Statements.{Statement, plain, told_lines}
 use Rattle.plain_words.specs.Told.{broken_statement, roster_refusal_statement}
 use Rattle.plain_words.specs.declared.pieces.TheConstants.{MEETS}
 use Rattle.commands.specs.Lines.{line}
@@ -68,7 +68,7 @@ fault_statement P (Breaks breach) = breach_statement P breach
 
 -- and of an answer
 abbrev pub verify_statement : Instance → Answer → Statement
-verify_statement P Meets = Plain MEETS.now
+verify_statement P Meets = plain MEETS.now
 verify_statement P (Fails fault) = fault_statement P fault
 
 -- what is told of an answer

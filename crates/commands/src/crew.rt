@@ -9,12 +9,12 @@ ghost use Rattle.commands.specs.Files.{IsWithinLimit};
 ghost use Rattle.commands.specs.declared.second_file.SecondKind.TheVariants as Kinds;
 ghost use Rattle.commands.specs.Crew.{IsCrewAnswer, IsCrewAnswerOf, IsCrewTold, crew_text, crew_status, first_day_statements, no_employee_statement};
 
-use crate::telling::numbered_told;
+use crate::telling::one_told;
 use crate::text::Text;
 use crate::verify::{RosterFault, fault_line, fault_status, fault_told, right_roster};
 use crew_calendar::{CivilDate, crew_table, duties, put_date, put_weekday};
-use plain_words::pieces::{FEWER_WEEKS, NO_EMPLOYEE, NO_MONDAY};
-use plain_words::put_headed_told;
+use plain_words::pieces::{NO_EMPLOYEE, NO_MONDAY};
+use plain_words::{Part, put_headed_told};
 use rwsp_model::Problem;
 use rwsp_terms::limits::{DAYS_OF_WEEK, LONGEST_CALENDAR};
 use rwsp_text::put_labelled;
@@ -115,7 +115,7 @@ pub fn no_employee_told(
 ) -> Result<Vec<u8>, AllocError>
     ensures { IfOk result (λ v. v.items ≡ told_lines problem.now (no_employee_statement number ∷ [])) }
 {
-    numbered_told(alloc, problem, NO_EMPLOYEE, number, FEWER_WEEKS)
+    one_told(alloc, problem, NO_EMPLOYEE, &[Part::Number(number)])
 }
 
 /// The line that says that the problem has no employee with this number.

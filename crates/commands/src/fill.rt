@@ -1,9 +1,10 @@
 // A roster that holds given cells, or why there is none.
 ghost use Rattle.std.specs.Prelude.{◌≡◌, ◌≤◌, IfOk};
 ghost use Rattle.rwsp_terms.specs.declared.limits.TheConstants.{GREATEST_BUDGET};
+ghost use Rattle.plain_words.specs.Statements.{told_lines};
 ghost use Rattle.commands.specs.Files.{IsWithinLimit};
 ghost use Rattle.commands.specs.Plan.{IsPlanOf};
-ghost use Rattle.commands.specs.Fill.{IsFillTold, IsFilledTold, IsFillAnswer, IsFillAnswerOf, fill_answer_text, fill_status};
+ghost use Rattle.commands.specs.Fill.{IsFillTold, filled_statements, IsFillAnswer, IsFillAnswerOf, fill_answer_text, fill_status};
 ghost use Rattle.commands.specs.declared.second_file.SecondKind.TheVariants as Kinds;
 
 use crate::plan;
@@ -76,7 +77,7 @@ pub fn told(alloc: Global, problem: &Problem, answer: &Answer) -> Result<Vec<u8>
 // What is told of what was found.
 fn filled_told(alloc: Global, problem: &Problem, found: &Found) -> Result<Vec<u8>, AllocError>
     requires { IsPlanOf problem.now found.now }
-    ensures { IfOk result (λ v. IsFilledTold problem.now found.now v.items) }
+    ensures { IfOk result (λ v. v.items ≡ told_lines problem.now (filled_statements problem.now found.now)) }
 {
     match found {
         Found::Roster(_) => Ok(Vec::new(alloc)),

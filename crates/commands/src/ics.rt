@@ -6,7 +6,7 @@ ghost use Rattle.commands.specs.declared.second_file.SecondKind.TheVariants as K
 ghost use Rattle.commands.specs.Ics.{IsIcsAnswer, IsIcsAnswerOf, IsIcsTold, ics_text, ics_status};
 
 use crate::crew::{first_day_told, no_employee_line, no_employee_told};
-use crate::telling::plain_told;
+use crate::telling::one_told;
 use crate::text::Text;
 use crate::verify::{RosterFault, fault_line, fault_status, fault_told, right_roster};
 use crew_calendar::{CivilDate, duty_calendar, has_duty};
@@ -78,7 +78,7 @@ pub fn told(alloc: Global, problem: &Problem, answer: &Answer) -> Result<Vec<u8>
 {
     match answer {
         Answer::Shown(_, date) => first_day_told(alloc, problem, *date),
-        Answer::NoDuty => plain_told(alloc, problem, NO_DUTY),
+        Answer::NoDuty => one_told(alloc, problem, NO_DUTY, &[]),
         Answer::NoEmployee(number) => no_employee_told(alloc, problem, *number),
         Answer::Fails(fault) => fault_told(alloc, problem, fault),
     }

@@ -8,7 +8,7 @@ ghost use Rattle.plain_words.specs.Statements.{told_lines};
 ghost use Rattle.plain_words.specs.Told.{ways_statements};
 ghost use Rattle.ways_out.specs.Texts.{ways_text, ways_status};
 
-use crate::telling::{log_told, plain_told};
+use crate::telling::{log_told, one_told};
 use clean_words::Gate;
 use plain_words::pieces::{MEND_SPENT, NO_CHANGE_NEEDED};
 use plain_words::put_ways_told;
@@ -48,7 +48,7 @@ pub fn told(alloc: Global, problem: &Problem, answer: &WaysOut) -> Result<Vec<u8
     ensures { IfOk result (λ v. IsMendTold problem.now answer.now v.items) }
 {
     match answer {
-        WaysOut::NoNeed(_) => plain_told(alloc, problem, NO_CHANGE_NEEDED),
+        WaysOut::NoNeed(_) => one_told(alloc, problem, NO_CHANGE_NEEDED, &[]),
         WaysOut::Undecided(log) => log_told(alloc, problem, MEND_SPENT, log),
         WaysOut::Changes(outcomes) => changes_told(alloc, problem, outcomes),
     }

@@ -3,13 +3,12 @@ ghost use Rattle.std.specs.Prelude.{◌≡◌, ◌≤◌, length, nat_le, true, 
 ghost use Rattle.refutation_terms.specs.Log.{Fits, Passes};
 ghost use Rattle.refutation_terms.specs.Strip.{IsReduced};
 ghost use Rattle.refutation_log.specs.declared.found.Found.TheVariants as Founds;
-ghost use Rattle.plain_words.specs.Statements.{Tells};
-ghost use Rattle.commands.specs.Plan.{IsPlanTold, IsSaidShortly, IsPlanAnswer, plan_text, plan_status, IsPlanOf};
+ghost use Rattle.commands.specs.Plan.{IsPlanTold, TellsShortly, IsPlanAnswer, plan_text, plan_status, IsPlanOf};
 
 use crate::telling::{log_told, put_refuted};
 use clean_words::Gate;
 use plain_words::pieces::{BUDGET_SPENT, MEND_LOOKS, REDUCE_MAY};
-use plain_words::{Rosters, put_log_told, put_plain_told, put_reduced_told};
+use plain_words::{Rosters, put_log_told, put_reduced_told, put_told};
 use refutation_log::{Found, Log, print_log};
 pub use roster_planner::Effort;
 use roster_planner::plan_roster;
@@ -69,15 +68,14 @@ fn refuted_told(alloc: Global, problem: &Problem, log: &Log) -> Result<Vec<u8>, 
     let mut out = Vec::new(alloc);
     put_refuted(&mut out, problem, log)?;
     put_shortly(&mut out, problem, log)?;
-    put_plain_told(&mut out, problem, MEND_LOOKS)?;
+    put_told(&mut out, problem, MEND_LOOKS, &[])?;
     Ok(out)
 }
 
 // Tells of a log: of one that isn't long, what reducing leaves of it.
 fn put_shortly(out: &mut Vec<u8>, problem: &Problem, log: &Log) -> Result<(), AllocError>
     requires { Passes problem.now log.now }
-    ensures { OnOk result (Tells problem.now
-        (IsSaidShortly (nat_le (length log.now.lines) MOST_LINES_REDUCED) problem.now log.now)
+    ensures { OnOk result (TellsShortly (nat_le (length log.now.lines) MOST_LINES_REDUCED) problem.now log.now
         out.old.items out.new.items) }
 {
     if log.lines().len() <= MOST_LINES_REDUCED as usize {
@@ -90,7 +88,7 @@ fn put_shortly(out: &mut Vec<u8>, problem: &Problem, log: &Log) -> Result<(), Al
 // Tells of what reducing leaves of a log.
 fn put_reduction(out: &mut Vec<u8>, problem: &Problem, log: &Log) -> Result<(), AllocError>
     requires { Passes problem.now log.now }
-    ensures { OnOk result (Tells problem.now (IsSaidShortly true problem.now log.now) out.old.items out.new.items) }
+    ensures { OnOk result (TellsShortly true problem.now log.now out.old.items out.new.items) }
 {
     let reduced = reduction(*out.allocator(), problem, log)?;
     put_reduced_told(out, problem, log.named().numbers().len(), &reduced)?;
@@ -100,10 +98,10 @@ fn put_reduction(out: &mut Vec<u8>, problem: &Problem, log: &Log) -> Result<(), 
 // Tells of a whole log, and that reducing it may help.
 fn put_whole(out: &mut Vec<u8>, problem: &Problem, log: &Log) -> Result<(), AllocError>
     requires { Fits problem.now log.now }
-    ensures { OnOk result (Tells problem.now (IsSaidShortly false problem.now log.now) out.old.items out.new.items) }
+    ensures { OnOk result (TellsShortly false problem.now log.now out.old.items out.new.items) }
 {
     put_log_told(out, problem, Rosters::Every, log)?;
-    put_plain_told(out, problem, REDUCE_MAY)?;
+    put_told(out, problem, REDUCE_MAY, &[])?;
     Ok(())
 }
 

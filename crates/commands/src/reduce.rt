@@ -5,9 +5,9 @@ ghost use Rattle.refutation_terms.specs.LogText.{log_text};
 ghost use Rattle.refutation_terms.specs.Verdict.{kind_of_log};
 ghost use Rattle.refutation_terms.specs.declared.lines.LogRefusal.{LogRefusal as Why};
 ghost use Rattle.refutation_log.specs.ReadLog.{IsUnread};
-ghost use Rattle.plain_words.specs.LogTold.{IsSaidOfLog};
+ghost use Rattle.plain_words.specs.Statements.{told_lines};
+ghost use Rattle.plain_words.specs.LogTold.{log_statements};
 ghost use Rattle.plain_words.specs.declared.reason.Rosters.TheVariants.{Every};
-ghost use Rattle.commands.specs.Told.{IsTold};
 ghost use Rattle.commands.specs.Files.{IsWithinLimit};
 ghost use Rattle.commands.specs.Reduce.{IsReduceTold, IsReduction, IsReductionOf, reduce_text, reduce_status};
 ghost use Rattle.commands.specs.declared.second_file.SecondKind.TheVariants as Kinds;
@@ -119,7 +119,7 @@ pub fn told(alloc: Global, problem: &Problem, answer: &Answer) -> Result<Vec<u8>
 fn reduced_told(alloc: Global, problem: &Problem, log: &Log) -> Result<Vec<u8>, AllocError>
     requires { Fits problem.now log.now }
     ensures { IfOk result (λ v.
-        IsTold problem.now (IsSaidOfLog problem.now Every log.now) v.items) }
+        v.items ≡ told_lines problem.now (log_statements problem.now Every log.now)) }
 {
     let mut out = Vec::new(alloc);
     put_log_told(&mut out, problem, Rosters::Every, log)?;

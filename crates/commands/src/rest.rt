@@ -1,14 +1,13 @@
 // The problem with a least rest between shifts.
-ghost use Rattle.std.specs.Prelude.{◌≡◌, ◌∷◌, ◌++◌, ◌≤◌, [], length, IfOk, codes};
+ghost use Rattle.std.specs.Prelude.{◌≡◌, ◌++◌, ◌≤◌, IfOk, codes};
 ghost use Rattle.std.specs.Fmt.{decimal};
-ghost use Rattle.plain_words.specs.Statements.{Forbidden, told_lines};
 ghost use Rattle.commands.specs.Lines.{line};
 ghost use Rattle.commands.specs.Rest.{IsRestTold, IsRestAnswer, rest_text, rest_status};
 
-use crate::telling::numbered_told;
+use crate::telling::one_told;
 use made_problems::{LeastRest, require_rest, rosters_rest};
-use plain_words::pieces::{PAIRS_LIMIT, REST_FORBIDS, TRIPLES_LIMIT};
-use plain_words::put_forbidden_told;
+use plain_words::Part;
+use plain_words::pieces::{REST_FORBIDS, TOO_MANY_PAIRS, TOO_MANY_TRIPLES};
 use rwsp_file::{canonical_texts_spell, print_problem};
 use rwsp_model::Problem;
 use rwsp_terms::limits::LONGEST_REST;
@@ -55,29 +54,14 @@ pub fn told(alloc: Global, problem: &Problem, answer: &LeastRest) -> Result<Vec<
     ensures { IfOk result (λ v. IsRestTold problem.now answer.now v.items) }
 {
     match answer {
-        LeastRest::Rested(rested) => forbidden_told(alloc, problem, rested),
-        LeastRest::Pairs(count) => {
-            numbered_told(alloc, problem, REST_FORBIDS, *count, PAIRS_LIMIT)
+        LeastRest::Rested(rested) => {
+            let pairs = Part::Pairs(rested.pairs().len() as u64);
+            let triples = Part::Triples(rested.triples().len() as u64);
+            one_told(alloc, problem, REST_FORBIDS, &[pairs, triples])
         }
-        LeastRest::Triples(count) => {
-            numbered_told(alloc, problem, REST_FORBIDS, *count, TRIPLES_LIMIT)
-        }
+        LeastRest::Pairs(n) => one_told(alloc, problem, TOO_MANY_PAIRS, &[Part::Number(*n)]),
+        LeastRest::Triples(n) => one_told(alloc, problem, TOO_MANY_TRIPLES, &[Part::Number(*n)]),
     }
-}
-
-// How many pairs and triples a problem with a least rest forbids.
-fn forbidden_told(alloc: Global, problem: &Problem, rested: &Problem) -> Result<Vec<u8>, AllocError>
-    ensures { IfOk result (λ v. v.items
-        ≡ told_lines problem.now (Forbidden (length rested.now.pairs) (length rested.now.triples) ∷ [])) }
-{
-    let mut out = Vec::new(alloc);
-    put_forbidden_told(
-        &mut out,
-        problem,
-        rested.pairs().len() as u64,
-        rested.triples().len() as u64,
-    )?;
-    Ok(out)
 }
 
 /// The status of the answer.

@@ -10,7 +10,7 @@ ghost use Rattle.commands.specs.Roster.{IsJudged, SpellsShort, SpellsNone, Stand
 mod laws;
 mod of_best;
 
-use crate::telling::plain_told;
+use crate::telling::one_told;
 use crate::text::Text;
 use crate::verify::{BrokenRoster, broken_line, broken_told};
 use crew_checker::read_least;
@@ -149,7 +149,7 @@ pub fn told(alloc: Global, problem: &Problem, answer: &Answer) -> Result<Vec<u8>
             let sized = with_weeks(problem, *weeks)?;
             broken_told(alloc, &sized, breach)
         }
-        Answer::NoRoster => plain_told(alloc, problem, NO_ROSTER_THERE),
+        Answer::NoRoster => one_told(alloc, problem, NO_ROSTER_THERE, &[]),
     }
 }
 

@@ -7,11 +7,11 @@ ghost use Rattle.commands.specs.Lines.{line};
 ghost use Rattle.rwsp_terms.specs.declared.limits.TheConstants.{MOST_WEEKS, MOST_SIZES, GREATEST_STAFF_BUDGET};
 ghost use Rattle.commands.specs.Staff.{IsStaffTold, IsStaffAnswer, IsStaffAnswerOf, staff_answer_text, end_status, spent_statements, staff_status};
 
-use crate::telling::numbered_told;
+use crate::telling::one_told;
 use clean_words::Gate;
 use crew_size::{StaffEnd, StaffRun, print_staff};
-use plain_words::pieces::{FOR_WEEKS, LAST_LOG_SPENT, STAFF_RANGE};
-use plain_words::{put_plain_told, put_staff_told};
+use plain_words::pieces::{LAST_LOG_SPENT, STAFF_RANGE};
+use plain_words::{Part, put_staff_told, put_told};
 use roster_planner::least_crew;
 pub use roster_planner::{Effort, Sizes};
 use rwsp_model::Problem;
@@ -80,7 +80,7 @@ pub fn told(alloc: Global, problem: &Problem, answer: &Answer) -> Result<Vec<u8>
 {
     match answer {
         Answer::Run(run) => run_told(alloc, problem, run),
-        Answer::Range(weeks) => numbered_told(alloc, problem, FOR_WEEKS, *weeks, STAFF_RANGE),
+        Answer::Range(weeks) => one_told(alloc, problem, STAFF_RANGE, &[Part::Number(*weeks)]),
     }
 }
 
@@ -100,7 +100,7 @@ fn put_spent(out: &mut Vec<u8>, problem: &Problem, end: &StaffEnd) -> Result<(),
     ensures { OnOk result (out.new.items ≡ out.old.items ++ told_lines problem.now (spent_statements end.now)) }
 {
     match end {
-        StaffEnd::Undecided(_) => put_plain_told(out, problem, LAST_LOG_SPENT),
+        StaffEnd::Undecided(_) => put_told(out, problem, LAST_LOG_SPENT, &[]),
         StaffEnd::Least(_) | StaffEnd::NoneTo => Ok(()),
     }
 }

@@ -1,11 +1,11 @@
 // What is told behind the program's name.
 ghost use Rattle.std.specs.Prelude.{◌≡◌, ◌∷◌, ◌++◌, [], IfOk, OnOk};
 ghost use Rattle.refutation_terms.specs.Log.{Fits};
-ghost use Rattle.plain_words.specs.Statements.{Plain, Numbered, told_lines};
-ghost use Rattle.commands.specs.Told.{name_where, behind_rwsp, IsTold, IsSaidBehind, refuted_statements};
+ghost use Rattle.plain_words.specs.Statements.{Says, told_lines};
+ghost use Rattle.commands.specs.Told.{name_where, behind_rwsp, said_behind, refuted_statements};
 
-use plain_words::pieces::NONE_HERE;
-use plain_words::{put_end_told, put_log_told, put_numbered_told, put_plain_told, rosters_of};
+use plain_words::pieces::{NONE_HERE, TOLD};
+use plain_words::{Part, put_end_told, put_log_told, put_told, rosters_of};
 use refutation_log::Log;
 use rwsp_model::Problem;
 use std::alloc::{AllocError, Global};
@@ -15,7 +15,7 @@ fn put_byte(out: &mut Vec<u8>, begins: bool, byte: u8) -> Result<(), AllocError>
     ensures { OnOk result (out.new.items ≡ out.old.items ++ (name_where begins ++ byte ∷ [])) }
 {
     if begins {
-        out.extend_from_slice(b"rwsp: ".as_slice())?;
+        out.extend_from_slice(TOLD)?;
     }
     out.push(byte)?;
     Ok(())
@@ -34,27 +34,17 @@ pub fn behind_rwsp(alloc: Global, text: &[u8]) -> Result<Vec<u8>, AllocError>
     Ok(out)
 }
 
-/// What is told in one sentence.
-pub fn plain_told(alloc: Global, problem: &Problem, sentence: &[u8]) -> Result<Vec<u8>, AllocError>
-    ensures { IfOk result (λ v. v.items ≡ told_lines problem.now (Plain sentence.now ∷ [])) }
-{
-    let mut out = Vec::new(alloc);
-    put_plain_told(&mut out, problem, sentence)?;
-    Ok(out)
-}
-
-/// What is told in one sentence with a number in it.
-pub fn numbered_told(
+/// What is told in one sentence, with these parts in its holes.
+pub fn one_told(
     alloc: Global,
     problem: &Problem,
-    front: &[u8],
-    number: u32,
-    behind: &[u8],
+    sentence: &[u8],
+    parts: &[Part],
 ) -> Result<Vec<u8>, AllocError>
-    ensures { IfOk result (λ v. v.items ≡ told_lines problem.now (Numbered front.now number behind.now ∷ [])) }
+    ensures { IfOk result (λ v. v.items ≡ told_lines problem.now (Says sentence.now parts.now ∷ [])) }
 {
     let mut out = Vec::new(alloc);
-    put_numbered_told(&mut out, problem, front, u64::from(number), behind)?;
+    put_told(&mut out, problem, sentence, parts)?;
     Ok(out)
 }
 
@@ -63,7 +53,7 @@ pub fn put_refuted(out: &mut Vec<u8>, problem: &Problem, log: &Log) -> Result<()
     ensures { OnOk result (
         out.new.items ≡ out.old.items ++ told_lines problem.now (refuted_statements log.now)) }
 {
-    put_plain_told(out, problem, NONE_HERE)?;
+    put_told(out, problem, NONE_HERE, &[])?;
     put_end_told(out, problem, log.lines())?;
     Ok(())
 }
@@ -77,10 +67,10 @@ pub fn log_told(
 ) -> Result<Vec<u8>, AllocError>
     requires { Fits problem.now log.now }
     ensures { IfOk result (λ v.
-        IsTold problem.now (IsSaidBehind problem.now sentence.now log.now) v.items) }
+        v.items ≡ told_lines problem.now (said_behind problem.now sentence.now log.now)) }
 {
     let mut out = Vec::new(alloc);
-    put_plain_told(&mut out, problem, sentence)?;
+    put_told(&mut out, problem, sentence, &[])?;
     put_log_told(&mut out, problem, rosters_of(log), log)?;
     Ok(out)
 }

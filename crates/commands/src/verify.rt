@@ -8,7 +8,7 @@ ghost use Rattle.commands.specs.declared.second_file.SecondKind.TheVariants as K
 
 mod texts;
 
-use crate::telling::plain_told;
+use crate::telling::one_told;
 use plain_words::pieces::MEETS;
 use roster_checker::{Broken, first_broken};
 use roster_print::{RosterRefusal, read_roster};
@@ -91,7 +91,7 @@ pub fn told(alloc: Global, problem: &Problem, answer: &Answer) -> Result<Vec<u8>
     ensures { IfOk result (λ v. IsVerifyTold problem.now answer.now v.items) }
 {
     match answer {
-        Answer::Meets => plain_told(alloc, problem, MEETS),
+        Answer::Meets => one_told(alloc, problem, MEETS, &[]),
         Answer::Fails(fault) => fault_told(alloc, problem, fault),
     }
 }

@@ -37,9 +37,9 @@ two_of f x y old mid new first second = behind f (x ∷ []) (y ∷ []) old mid n
 pub three_of : {X : Type 0} (f : X → List ℕ) (a b c : List X) (old o1 o2 new : List ℕ) → o1 ≡ old ++ flat_map f a → o2 ≡ o1 ++ flat_map f b → new ≡ o2 ++ flat_map f c → new ≡ old ++ flat_map f (a ++ b ++ c)
 three_of f a b c old o1 o2 new h1 h2 h3 = behind f (a ++ b) c old o2 new (behind f a b old o1 o2 h1 h2) h3
 
-pub five_of : {X : Type 0} (f : X → List ℕ) (a b c d e : List X) (old o1 o2 o3 o4 new : List ℕ) → o1 ≡ old ++ flat_map f a → o2 ≡ o1 ++ flat_map f b → o3 ≡ o2 ++ flat_map f c → o4 ≡ o3 ++ flat_map f d → new ≡ o4 ++ flat_map f e → new ≡ old ++ flat_map f (a ++ b ++ c ++ d ++ e)
-five_of f a b c d e old o1 o2 o3 o4 new h1 h2 h3 h4 h5 =
-    three_of f (a ++ b ++ c) d e old o3 o4 new (three_of f a b c old o1 o2 o3 h1 h2 h3) h4 h5
+pub six_of : {X : Type 0} (f : X → List ℕ) (a b c d e g : List X) (old o1 o2 o3 o4 o5 new : List ℕ) → o1 ≡ old ++ flat_map f a → o2 ≡ o1 ++ flat_map f b → o3 ≡ o2 ++ flat_map f c → o4 ≡ o3 ++ flat_map f d → o5 ≡ o4 ++ flat_map f e → new ≡ o5 ++ flat_map f g → new ≡ old ++ flat_map f (a ++ b ++ c ++ d ++ e ++ g)
+six_of f a b c d e g old o1 o2 o3 o4 o5 new h1 h2 h3 h4 h5 h6 =
+    behind f (a ++ b ++ c ++ d ++ e) g old o5 new (three_of f (a ++ b ++ c) d e old o3 o4 o5 (three_of f a b c old o1 o2 o3 h1 h2 h3) h4 h5) h6
 
 -- the pieces of one list more
 pub list_more : {X : Type 0} (f : X → List ℕ) (g : ℕ → List X) (a n at : ℕ) (old out new : List ℕ) → at ≡ a + n → out ≡ old ++ flat_map f (flat_map g (range_with_len a n)) → new ≡ out ++ flat_map f (g at) → new ≡ old ++ flat_map f (flat_map g (range_with_len a (n + 1)))
@@ -63,7 +63,7 @@ found_later : (p : ℕ → Bool) (x : ℕ) (xs : List ℕ) → p x ≡ false →
 found_later p x xs is = ap (λ b. cond b (Some x) (find p xs)) is
 
 -- the first number that passes a test, behind others that don't
-pub found_at : (p : ℕ → Bool) (a n k : ℕ) → k < n → ((i : ℕ) → i < k → p (a + i) ≡ false) → p (a + k) ≡ true → find p (range_with_len a n) ≡ Some (a + k)
+found_at : (p : ℕ → Bool) (a n k : ℕ) → k < n → ((i : ℕ) → i < k → p (a + i) ≡ false) → p (a + k) ≡ true → find p (range_with_len a n) ≡ Some (a + k)
 found_at p a zero k within none here = absurd (omega (arith, within))
 found_at p a (suc n) zero within none here =
     let e : a + 0 ≡ a = omega arith in
@@ -75,6 +75,9 @@ found_at p a (suc n) (suc k) within none here =
     ∙ found_at p (a + 1) n k (omega (arith, within)) (λ i less. let g : a + 1 + i ≡ a + suc i = omega arith in ap p g ∙ none (suc i) (omega (arith, less))) (ap p f ∙ here)
     ∙ ap (λ j. Some j) f
 
+pub first_found : (p : ℕ → Bool) (a n k at : ℕ) (passes : Bool) → at ≡ a + k → k < n → ((i : ℕ) → i < k → p (a + i) ≡ false) → passes ≡ p at → passes ≡ true → Some at ≡ find p (range_with_len a n)
+first_found p a n k at passes here within none is passing = ap (λ j. Some j) here ∙ sym (found_at p a n k within none (ap p (sym here) ∙ sym is ∙ passing))
+
 -- no number passes a test
 pub none_found : (p : ℕ → Bool) (a n : ℕ) → ((i : ℕ) → i < n → p (a + i) ≡ false) → find p (range_with_len a n) ≡ None
 none_found p a zero none = refl
@@ -83,23 +86,6 @@ none_found p a (suc n) none =
     found_later p a (range_with_len (a + 1) n) (sym (ap p e) ∙ none 0 (omega arith))
     ∙ none_found p (a + 1) n (λ i less. let g : a + 1 + i ≡ a + suc i = omega arith in ap p g ∙ none (suc i) (omega (arith, less)))
 
--- one element more
-pub taken_more : {X : Type 0} (f : X → List ℕ) (xs : List X) (i : ℕ) (d : X) (old out new : List ℕ) → i < length xs → out ≡ old ++ flat_map f (take i xs) → new ≡ out ++ f (get_or xs i d) → new ≡ old ++ flat_map f (take (i + 1) xs)
-taken_more f xs i d old out new less before step =
-    step
-    ∙ ap (λ t. t ++ f (get_or xs i d)) before
-    ∙ flat_map_more f old (take i xs) (get_or xs i d)
-    ∙ ap (λ ys. old ++ flat_map f ys) (sym (take_more xs i d less))
-
--- all elements
-pub taken_whole : {X : Type 0} (f : X → List ℕ) (xs : List X) (i : ℕ) (old out : List ℕ) → length xs ≤ i → out ≡ old ++ flat_map f (take i xs) → out ≡ old ++ flat_map f xs
-taken_whole f xs i old out all before = before ∙ ap (λ ys. old ++ flat_map f ys) (take_all i xs all)
-
--- all elements, which another list names
-pub taken_all : {X Y : Type 0} (h : Y → List ℕ) (v : X → Y) (xs : List X) (i : ℕ) (old out : List ℕ) → length xs ≤ i → out ≡ old ++ flat_map (λ x. h (v x)) (take i xs) → out ≡ old ++ flat_map h (map v xs)
-taken_all h v xs i old out all before =
-    before ∙ ap (λ ys. old ++ flat_map (λ x. h (v x)) ys) (take_all i xs all) ∙ ap (λ t. old ++ t) (sym (flat_map-map h v xs))
-
 -- one number more, which another list names
 pub named_more : {Y : Type 0} (h : Y → List ℕ) (v : ℕ → Y) (a n at : ℕ) (old out new : List ℕ) → a + n ≡ at → out ≡ old ++ flat_map h (map v (range_with_len a n)) → new ≡ out ++ h (v at) → new ≡ old ++ flat_map h (map v (range_with_len a (n + 1)))
 named_more h v a n at old out new here before step =
@@ -107,7 +93,3 @@ named_more h v a n at old out new here before step =
     ∙ ap (λ t. t ++ h (v at)) before
     ∙ flat_map_more h old (map v (range_with_len a n)) (v at)
     ∙ ap (λ ys. old ++ flat_map h ys) (sym (map-range_with_len_more v a n at here))
-
--- one piece, and others behind it
-pub piece_then : (old mid new a b : List ℕ) → mid ≡ old ++ a → new ≡ mid ++ b → new ≡ old ++ (a ++ b)
-piece_then old mid new a b first second = second ∙ ap (λ t. t ++ b) first ∙ append_assoc old a b

@@ -1,10 +1,9 @@
 pub mod Joined
-pub mod Said
-pub mod Minutes
+pub mod Bytes
 pub mod Misfits
 pub mod Sentences
 pub mod Lines
-pub mod CitedLines
-pub mod Elements
+pub mod Outcomes
+pub mod CitedDays
 pub mod SaidLaws
 pub mod Outside

@@ -1,10 +1,12 @@
 -- The test of what is counted is that of the leaf.
 use Rattle.std.proofs.Common.{◌≡◌, ◌↔◌, ℕ, zero, suc, ◌+◌, ◌-◌, ◌*◌, ◌<◌, Bool, true, false, IsTrue, ℤ, pos, ◌≤ℤ◌, refl, ap, sym, ◌∙◌, arith}
-use Rattle.std.specs.Prelude.{◌&&◌, ◌||◌, not, nat_le}
+use Rattle.std.specs.Prelude.{◌&&◌, not, nat_le}
 use Rattle.std.specs.Int.Signed.{le_z}
 use Rattle.std.specs.List.{list_any, range_with_len}
 use Rattle.std.proofs.lemmas.Bool.{le-leb, leb-true, and_from, and_parts}
 use Rattle.std.proofs.lemmas.Int.{ints}
+use Rattle.std.proofs.lemmas.List.FromFn.{length-range_with_len, get_or-range_with_len}
+use Rattle.std.proofs.lemmas.List.Folds.{Any-from_list_any, list_any_at}
 use Rattle.rwsp_terms.specs.declared.data.Bounds.{Bounds}
 use Rattle.rwsp_terms.specs.declared.data.Symbol.{Symbol}
 use Rattle.rwsp_terms.specs.declared.data.Class.TheVariants.{Shift}
@@ -25,32 +27,18 @@ pub record Passes (p : ℕ → Bool) (a n : ℕ) : Type 0 where
   pub within : place < n
   pub there : p (a + place) ≡ true
 
-passes_by : (p : ℕ → Bool) (a n : ℕ) (b : Bool) → p a ≡ b → (b || list_any p (range_with_len (a + 1) n)) ≡ true → (list_any p (range_with_len (a + 1) n) ≡ true → Passes p (a + 1) n) → Passes p a (suc n)
-passes_by p a n true here h later =
-    let e : a + 0 ≡ a = omega arith in
-    record { place = 0; within = omega arith; there = ap p e ∙ here }
-passes_by p a n false here h later =
-    let found = later h in
-    let less = found.within in
-    let e : a + suc found.place ≡ a + 1 + found.place = omega arith in
-    record { place = suc found.place; within = omega (arith, less); there = ap p e ∙ found.there }
+some_passes : (p : ℕ → Bool) (a n : ℕ) → list_any p (range_with_len a n) ≡ true → Passes p a n
+some_passes p a n h =
+    let found = Any-from_list_any p (range_with_len a n) h in
+    let long = length-range_with_len a n in
+    let within = found.2 in
+    let less : found.0 < n = omega (arith, long, within) in
+    record { place = found.0; within = less; there = ap p (sym (get_or-range_with_len a n found.0 found.1 less) ∙ found.3) ∙ found.4 }
 
-pub some_passes : (p : ℕ → Bool) (a n : ℕ) → list_any p (range_with_len a n) ≡ true → Passes p a n
-some_passes p a zero h = absurd (cc)
-some_passes p a (suc n) h = passes_by p a n (p a) refl h (some_passes p (a + 1) n)
-
-or_later : (b c : Bool) → c ≡ true → (b || c) ≡ true
-or_later true c h = refl
-or_later false c h = h
-
-pub passes_some : (p : ℕ → Bool) (a n k : ℕ) → k < n → p (a + k) ≡ true → list_any p (range_with_len a n) ≡ true
-passes_some p a zero k within here = absurd (omega (arith, within))
-passes_some p a (suc n) zero within here =
-    let e : a ≡ a + 0 = omega arith in
-    ap (λ b. b || list_any p (range_with_len (a + 1) n)) (ap p e ∙ here)
-passes_some p a (suc n) (suc k) within here =
-    let e : a + 1 + k ≡ a + suc k = omega arith in
-    or_later (p a) (list_any p (range_with_len (a + 1) n)) (passes_some p (a + 1) n k (omega (arith, within)) (ap p e ∙ here))
+passes_some : (p : ℕ → Bool) (a n k : ℕ) → k < n → p (a + k) ≡ true → list_any p (range_with_len a n) ≡ true
+passes_some p a n k within here =
+    let long = length-range_with_len a n in
+    list_any_at p (range_with_len a n) k 0 (omega (arith, long, within)) (ap p (get_or-range_with_len a n k 0 within) ∙ here)
 
 -- so many blocks can have so many days
 can_decided : (b : Bounds) (k t : ℕ) → CanBe b k t → can_be b k t ≡ true

@@ -3,7 +3,7 @@ use Rattle.std.proofs.Common.{◌≡◌, ℕ, zero, suc, ◌+◌, ◌-◌, ◌<�
 use Rattle.std.specs.Prelude.{Option, Some, None, ◌&&◌, not, pos}
 use Rattle.std.specs.Int.Signed.{le_z}
 use Rattle.std.specs.List.{find, range_with_len}
-use Rattle.std.proofs.lemmas.Bool.{and_parts}
+use Rattle.std.proofs.lemmas.Bool.{and_parts, not-false}
 use Rattle.rwsp_terms.specs.declared.data.Symbol.{Symbol}
 use Rattle.rwsp_terms.specs.Instance.{Instance, shift_count, least, greatest}
 use Rattle.rwsp_terms.specs.Roster.{weeks_with, MeetsDay}
@@ -32,14 +32,10 @@ searched : (p : ℕ → Bool) (a n : ℕ) → IsFound p a n (find p (range_with_
 searched p a zero = λ i less. absurd (omega (arith, less))
 searched p a (suc n) = found_by p a n (p a) refl (searched p (a + 1) n)
 
-not_false : (b : Bool) → not b ≡ false → b ≡ true
-not_false true e = refl
-not_false false e = absurd (cc)
-
 in_range : (P : Instance) (s : List Symbol) (j x : ℕ) → is_outside P s j x ≡ false → (least P x j ≤ℤ pos (weeks_with P s x j)) × (pos (weeks_with P s x j) ≤ℤ greatest P x j)
 in_range P s j x e =
     let w = pos (weeks_with P s x j) in
-    let both = and_parts (le_z (least P x j) w) (le_z w (greatest P x j)) (not_false (le_z (least P x j) w && le_z w (greatest P x j)) e) in
+    let both = and_parts (le_z (least P x j) w) (le_z w (greatest P x j)) (not-false (le_z (least P x j) w && le_z w (greatest P x j)) e) in
     (is_at_most (least P x j) w both.0, is_at_most w (greatest P x j) both.1)
 
 meets : (P : Instance) (s : List Symbol) (j : ℕ) → is_outside P s j 0 ≡ false → ((i : ℕ) → i < shift_count P → is_outside P s j (1 + i) ≡ false) → MeetsDay P j s

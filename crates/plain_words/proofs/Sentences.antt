@@ -1,99 +1,112 @@
--- Which sentences there are.
-use Rattle.std.proofs.Common.{◌≡◌, ℕ, zero, suc, ◌+◌, ◌<◌, ◌≤◌, List, [], ◌∷◌, ◌++◌, length, map, Bool, true, false, cond, refl, ap, sym, subst, ◌∙◌, arith, inl, inr}
-use Rattle.std.specs.Prelude.{Contains, filter, slice_index_or}
-use Rattle.std.specs.List.{flat_map, range_with_len}
-use Rattle.std.proofs.lemmas.Bool.{false≢true}
+-- Which statements are made about a problem.
+use Rattle.std.proofs.Common.{◌≡◌, ℕ, zero, suc, ◌+◌, ◌<◌, ◌≤◌, List, [], ◌∷◌, ◌++◌, length, map, Option, Some, None, Bool, true, false, cond, refl, ap, sym, subst, ◌∙◌, arith, inl, inr}
+use Rattle.std.specs.Prelude.{Contains, filter, ◌||◌}
+use Rattle.std.specs.List.{flat_map, list_any, range_with_len}
+use Rattle.std.proofs.lemmas.Bool.{false≢true, both_ways}
 use Rattle.std.proofs.lemmas.List.{append-nil}
+use Rattle.std.proofs.lemmas.List.Folds.{list_any_at}
 use Rattle.std.proofs.lemmas.List.Elements.{filter-append, Contains-append_left, Contains-append_right, Contains-append_cases}
+use Rattle.rwsp_terms.specs.declared.data.Rule.{Rule}
+use Rattle.rwsp_terms.specs.declared.data.Rule.TheVariants.{Pair, Triple}
+use Rattle.rwsp_terms.specs.declared.data.Class.{Class}
+use Rattle.rwsp_terms.specs.declared.data.Class.TheVariants.{Shift, Off, Work}
 use Rattle.rwsp_terms.specs.declared.data.Symbol.{Symbol}
-use Rattle.rwsp_terms.specs.Instance.{Instance, shift_count, symbol_numbered, off_symbol}
+use Rattle.rwsp_terms.specs.Instance.{Instance, shift_count, symbol_numbered}
 use Rattle.rwsp_terms.specs.Rules.{rules}
 use Rattle.refutation_terms.specs.BlocksLeaf.{BlocksHold}
 use Rattle.rwsp_file.specs.declared.long_numbers.LongNumber.{LongNumber}
-use Rattle.plain_words.specs.declared.sentence.Sentence.{Sentence}
-use Rattle.plain_words.specs.declared.sentence.Sentence.TheVariants.{Size, Hours, OfRule, OfSlip, NumericName, Counted}
-use Rattle.plain_words.specs.Sentences.{slips, counted_if, counted, rule_sentences, problem_sentences}
+use Rattle.plain_words.specs.declared.part.Part.{Part}
+use Rattle.plain_words.specs.declared.problem.Telling.TheVariants.{WithCounts}
+use Rattle.plain_words.specs.Statements.{Statement, Says, Named, Counted, said_if}
+use Rattle.plain_words.specs.Sentences.{size_statement, hours_statement, crossed_blocks, long_blocks, shift_slips, twice_at, pair_slips, triple_slips, crossed_slips, large_slips, demand_slips, full_slips, day_slips, slips, numeric_name, counted_at, counted, slip_statements, rule_statements, problem_statements}
 use Rattle.plain_words.specs.Counting.{is_misfit}
 use Rattle.plain_words.specs.Laws.{says_rule, RulesAreSaidOnce, CountedAreLeaves}
 use Rattle.plain_words.proofs.Misfits.{misfits_are_leaves}
 
-abbrev says_counted : Sentence → Bool
-says_counted (Counted x) = true
-says_counted s = false
-
--- no element passes, where none of either list does
-both_none : (q : Sentence → Bool) (xs ys : List Sentence) → filter q xs ≡ [] → filter q ys ≡ [] → filter q (xs ++ ys) ≡ []
+-- no element passes a test, where none of either list does
+both_none : (q : Statement → Bool) (xs ys : List Statement) → filter q xs ≡ [] → filter q ys ≡ [] → filter q (xs ++ ys) ≡ []
 both_none q xs ys none other = filter-append q xs ys ∙ ap (λ l. l ++ filter q ys) none ∙ other
 
-one_none : (q : Sentence → Bool) (s : Sentence) (xs : List Sentence) → q s ≡ false → filter q (s ∷ xs) ≡ filter q xs
+one_none : (q : Statement → Bool) (s : Statement) (xs : List Statement) → q s ≡ false → filter q (s ∷ xs) ≡ filter q xs
 one_none q s xs is = ap (λ t. cond t (s ∷ filter q xs) (filter q xs)) is
 
--- none of those that a list names
-named_none : {X : Type 0} (q : Sentence → Bool) (v : X → Sentence) → ((x : X) → q (v x) ≡ false) → (xs : List X) → filter q (map v xs) ≡ []
+named_none : {X : Type 0} (q : Statement → Bool) (v : X → Statement) → ((x : X) → q (v x) ≡ false) → (xs : List X) → filter q (map v xs) ≡ []
 named_none q v fails [] = refl
 named_none q v fails (x ∷ xs) = one_none q (v x) (map v xs) (fails x) ∙ named_none q v fails xs
 
-counted_none : (q : Sentence → Bool) (b : Bool) (x : Symbol) → q (Counted x) ≡ false → filter q (cond b (Counted x ∷ []) []) ≡ []
-counted_none q true x is = one_none q (Counted x) [] is
-counted_none q false x is = refl
+said_none : (q : Statement → Bool) (b : Bool) (s : Statement) → q s ≡ false → filter q (said_if b s) ≡ []
+said_none q true s is = one_none q s [] is
+said_none q false s is = refl
 
-pieces_none : (q : Sentence → Bool) (g : ℕ → List Sentence) (a n : ℕ) → ((k : ℕ) → filter q (g k) ≡ []) → filter q (flat_map g (range_with_len a n)) ≡ []
+pieces_none : (q : Statement → Bool) (g : ℕ → List Statement) (a n : ℕ) → ((k : ℕ) → filter q (g k) ≡ []) → filter q (flat_map g (range_with_len a n)) ≡ []
 pieces_none q g a zero none = refl
 pieces_none q g a (suc n) none = both_none q (g a) (flat_map g (range_with_len (a + 1) n)) (none a) (pieces_none q g (a + 1) n none)
 
+-- no sentence passes the test
+abbrev Misses : (Statement → Bool) → Type 0
+Misses q = (text : List ℕ) (parts : List Part) → q (Says text parts) ≡ false
+
+twice_none : (q : Statement → Bool) → Misses q → (P : Instance) (rule : ℕ → Rule) (k : ℕ) (first : Option ℕ) → filter q (twice_at P rule k first) ≡ []
+twice_none q misses P rule k None = refl
+twice_none q misses P rule k (Some i) = said_none q _ _ (misses _ _)
+
+blocks_none : (q : Statement → Bool) → Misses q → (P : Instance) (c : Class) → filter q (crossed_blocks P c) ≡ []
+blocks_none q misses P c = said_none q _ _ (misses _ _)
+
+demand_none : (q : Statement → Bool) → Misses q → (P : Instance) (is_sized : Bool) (j x : ℕ) → filter q (demand_slips P is_sized j x) ≡ []
+demand_none q misses P is_sized j x = both_none q (crossed_slips P j x) (large_slips P is_sized j x) (said_none q _ _ (misses _ _)) (said_none q _ _ (misses _ _))
+
+day_none : (q : Statement → Bool) → Misses q → (P : Instance) (is_sized : Bool) (j : ℕ) → filter q (day_slips P is_sized j) ≡ []
+day_none q misses P is_sized j =
+    both_none q (flat_map (demand_slips P is_sized j) (range_with_len 1 (shift_count P))) (full_slips P is_sized j) (pieces_none q (demand_slips P is_sized j) 1 (shift_count P) (demand_none q misses P is_sized j)) (said_none q _ _ (misses _ _))
+
+shift_none : (q : Statement → Bool) → Misses q → (P : Instance) (x : ℕ) → filter q (shift_slips P x) ≡ []
+shift_none q misses P x = both_none q (crossed_blocks P (Shift (symbol_numbered x))) (long_blocks P x) (blocks_none q misses P (Shift (symbol_numbered x))) (said_none q _ _ (misses _ _))
+
+slips_none : (q : Statement → Bool) → Misses q → (P : Instance) (is_sized : Bool) → filter q (slips P is_sized) ≡ []
+slips_none q misses P is_sized =
+    let shifts = pieces_none q (shift_slips P) 1 (shift_count P) (shift_none q misses P) in
+    let pairs = pieces_none q (pair_slips P) 0 (length P.pairs) (λ k. twice_none q misses P Pair k _) in
+    let triples = pieces_none q (triple_slips P) 0 (length P.triples) (λ k. twice_none q misses P Triple k _) in
+    let days = pieces_none q (day_slips P is_sized) 1 P.days (day_none q misses P is_sized) in
+    let blocks = both_none q _ _ (both_none q _ _ shifts (blocks_none q misses P Off)) (blocks_none q misses P Work) in
+    both_none q _ _ (both_none q _ _ (both_none q _ _ blocks pairs) triples) days
+
+-- nor a slip or a long name
+abbrev before_counts : Instance → List LongNumber → List Statement
+before_counts P names = slips P true ++ map numeric_name names
+
+names_none : (q : Statement → Bool) → Misses q → (P : Instance) (names : List LongNumber) → filter q (before_counts P names) ≡ []
+names_none q misses P names = both_none q (slips P true) (map numeric_name names) (slips_none q misses P true) (named_none q numeric_name (λ n. misses _ _) names)
+
 -- Rules.
 
-rules_kept : (a n : ℕ) → filter says_rule (map OfRule (range_with_len a n)) ≡ map OfRule (range_with_len a n)
+rules_kept : (a n : ℕ) → filter says_rule (map Named (range_with_len a n)) ≡ map Named (range_with_len a n)
 rules_kept a zero = refl
-rules_kept a (suc n) = ap (λ l. OfRule a ∷ l) (rules_kept (a + 1) n)
+rules_kept a (suc n) = ap (λ l. Named a ∷ l) (rules_kept (a + 1) n)
 
-counted_no_rule : (P : Instance) (x : Symbol) → filter says_rule (counted_if P x) ≡ []
-counted_no_rule P x = counted_none says_rule (is_misfit P x) x refl
-
-all_counted_no_rule : (P : Instance) → filter says_rule (counted P) ≡ []
-all_counted_no_rule P =
-    both_none says_rule (flat_map (λ x. counted_if P (symbol_numbered x)) (range_with_len 1 (shift_count P))) (counted_if P off_symbol)
-    (pieces_none says_rule (λ x. counted_if P (symbol_numbered x)) 1 (shift_count P) (λ k. counted_no_rule P (symbol_numbered k))) (counted_no_rule P off_symbol)
-
-none_behind : (q : Sentence → Bool) (xs ys : List Sentence) → filter q ys ≡ [] → filter q (xs ++ ys) ≡ filter q xs
-none_behind q xs ys none = filter-append q xs ys ∙ ap (λ l. filter q xs ++ l) none ∙ append-nil (filter q xs)
+counted_no_rule : (P : Instance) → filter says_rule (counted P) ≡ []
+counted_no_rule P =
+    both_none says_rule (flat_map (counted_at P) (range_with_len 1 (shift_count P))) (counted_at P 0)
+    (pieces_none says_rule (counted_at P) 1 (shift_count P) (λ k. said_none says_rule _ _ refl)) (said_none says_rule _ _ refl)
 
 pub rules_are_said_once : RulesAreSaidOnce
 rules_are_said_once P names =
-    let front = Size ∷ Hours ∷ [] in
-    let said = rule_sentences P in
-    let slipped = map OfSlip (slips P) in
-    let named = map NumericName names in
-    none_behind says_rule (front ++ said ++ slipped ++ named) (counted P) (all_counted_no_rule P)
-    ∙ none_behind says_rule (front ++ said ++ slipped) named (named_none says_rule NumericName (λ n. refl) names)
-    ∙ none_behind says_rule (front ++ said) slipped (named_none says_rule OfSlip (λ s. refl) (slips P))
-    ∙ filter-append says_rule front said ∙ rules_kept 1 (length (rules P))
+    let front = size_statement P ∷ hours_statement P ∷ [] in
+    let behind = both_none says_rule (before_counts P names) (counted P) (names_none says_rule (λ text parts. refl) P names) (counted_no_rule P) in
+    filter-append says_rule (front ++ rule_statements P) (slip_statements WithCounts P names)
+    ∙ ap (λ l. filter says_rule (front ++ rule_statements P) ++ l) behind ∙ append-nil (filter says_rule (front ++ rule_statements P))
+    ∙ filter-append says_rule front (rule_statements P) ∙ rules_kept 1 (length (rules P))
 
 -- Counting.
 
--- what passes isn't in a list of which nothing does
-later : (q : Sentence → Bool) (x : Sentence) (xs : List Sentence) (t : Bool) → q x ≡ t → filter q (x ∷ xs) ≡ [] → (filter q xs ≡ [] → ⊥) → ⊥
-later q x xs true here none more =
-    let front : filter q (x ∷ xs) ≡ x ∷ filter q xs = ap (λ t. cond t (x ∷ filter q xs) (filter q xs)) here in
-    absurd (let e : x ∷ filter q xs ≡ [] = sym front ∙ none in cc)
-later q x xs false here none more =
-    let front : filter q (x ∷ xs) ≡ filter q xs = ap (λ t. cond t (x ∷ filter q xs) (filter q xs)) here in
-    more (sym front ∙ none)
-
-not_there : (q : Sentence → Bool) (xs : List Sentence) (s : Sentence) (k : ℕ) → k < length xs → slice_index_or xs k s ≡ s → q s ≡ true → filter q xs ≡ [] → ⊥
-not_there q [] s k less is here none = absurd (omega (arith, less))
-not_there q (x ∷ xs) s zero less is here none =
-    let front : filter q (x ∷ xs) ≡ x ∷ filter q xs = ap (λ t. cond t (x ∷ filter q xs) (filter q xs)) (ap q is ∙ here) in
-    absurd (let e : x ∷ filter q xs ≡ [] = sym front ∙ none in cc)
-not_there q (x ∷ xs) s (suc k) less is here none = later q x xs (q x) refl none (λ none. not_there q xs s k (omega (arith, less)) is here none)
-
 -- a piece that has something
-record InPiece (f : ℕ → List Sentence) (a n : ℕ) (s : Sentence) : Type 0 where
+pub record InPiece (f : ℕ → List Statement) (a n : ℕ) (s : Statement) : Type 0 where
   pub place : ℕ
   pub within : place < n
   pub there : Contains (f (a + place)) s
 
-in_piece : (f : ℕ → List Sentence) (a n : ℕ) (s : Sentence) → Contains (flat_map f (range_with_len a n)) s → InPiece f a n s
+pub in_piece : (f : ℕ → List Statement) (a n : ℕ) (s : Statement) → Contains (flat_map f (range_with_len a n)) s → InPiece f a n s
 in_piece f a zero s h = absurd (omega (arith, h.1))
 in_piece f a (suc n) s h =
     let e : a ≡ a + 0 = omega arith in
@@ -106,7 +119,7 @@ in_piece f a (suc n) s h =
           record { place = suc found.place; within = omega (arith, less); there = subst (λ k. Contains (f k) s) next found.there }
     ]
 
-in_whole : (f : ℕ → List Sentence) (a n i : ℕ) (s : Sentence) → i < n → Contains (f (a + i)) s → Contains (flat_map f (range_with_len a n)) s
+in_whole : (f : ℕ → List Statement) (a n i : ℕ) (s : Statement) → i < n → Contains (f (a + i)) s → Contains (flat_map f (range_with_len a n)) s
 in_whole f a zero i s less h = absurd (omega (arith, less))
 in_whole f a (suc n) zero s less h =
     let e : a + zero ≡ a = omega arith in
@@ -115,70 +128,70 @@ in_whole f a (suc n) (suc i) s less h =
     let e : a + suc i ≡ a + 1 + i = omega arith in
     Contains-append_right (f a) (flat_map f (range_with_len (a + 1) n)) s (in_whole f (a + 1) n i s (omega (arith, less)) (subst (λ k. Contains (f k) s) e h))
 
--- the symbol that is counted
-abbrev counted_of : Sentence → Symbol
-counted_of (Counted x) = x
-counted_of s = off_symbol
-
-said_there : (b : Bool) (s t : Sentence) → Contains (cond b (s ∷ []) []) t → (b ≡ true) × (s ≡ t)
+pub said_there : (b : Bool) (s t : Statement) → Contains (said_if b s) t → (b ≡ true) × (s ≡ t)
 said_there true s t (zero, less, is) = (refl, is)
 said_there true s t (suc k, less, is) = absurd (omega (arith, less))
 said_there false s t h = absurd (omega (arith, h.1))
 
-there_said : (b : Bool) (s : Sentence) → b ≡ true → Contains (cond b (s ∷ []) []) s
+there_said : (b : Bool) (s : Statement) → b ≡ true → Contains (said_if b s) s
 there_said true s is = (0, omega arith, refl)
 there_said false s is = absurd (false≢true is)
 
-holds_there : (P : Instance) (x y : Symbol) → Contains (counted_if P y) (Counted x) → BlocksHold P x
-holds_there P x y h =
-    let said = said_there (is_misfit P y) (Counted y) (Counted x) h in
-    (misfits_are_leaves P x).0 (subst (λ z. is_misfit P z ≡ true) (ap counted_of said.1) said.0)
+same_symbol : (x y : Symbol) → Counted [] y ≡ Counted [] x → y ≡ x
+same_symbol x y e = cc
 
-counted_hold : (P : Instance) (x : Symbol) → Contains (counted P) (Counted x) → BlocksHold P x
+holds_there : (P : Instance) (x : Symbol) (n : ℕ) → Contains (counted_at P n) (Counted [] x) → BlocksHold P x
+holds_there P x n h =
+    let y = symbol_numbered n in
+    let said = said_there (is_misfit P y) (Counted [] y) (Counted [] x) h in
+    (misfits_are_leaves P x).0 (subst (λ z. is_misfit P z ≡ true) (same_symbol x y said.1) said.0)
+
+counted_hold : (P : Instance) (x : Symbol) → Contains (counted P) (Counted [] x) → BlocksHold P x
 counted_hold P x h =
-    elim (Contains-append_cases (flat_map (λ k. counted_if P (symbol_numbered k)) (range_with_len 1 (shift_count P))) (counted_if P off_symbol) (Counted x) h) [
+    elim (Contains-append_cases (flat_map (counted_at P) (range_with_len 1 (shift_count P))) (counted_at P 0) (Counted [] x) h) [
       | inl shift ↦
-          let found = in_piece (λ k. counted_if P (symbol_numbered k)) 1 (shift_count P) (Counted x) shift in
-          holds_there P x (symbol_numbered (1 + found.place)) found.there
-      | inr off ↦ holds_there P x off_symbol off
+          let found = in_piece (counted_at P) 1 (shift_count P) (Counted [] x) shift in
+          holds_there P x (1 + found.place) found.there
+      | inr off ↦ holds_there P x 0 off
     ]
 
-hold_counted : (P : Instance) (n : ℕ) → n ≤ shift_count P → BlocksHold P (symbol_numbered n) → Contains (counted P) (Counted (symbol_numbered n))
+counted_there : (P : Instance) (n : ℕ) → BlocksHold P (symbol_numbered n) → Contains (counted_at P n) (Counted [] (symbol_numbered n))
+counted_there P n hold = there_said (is_misfit P (symbol_numbered n)) (Counted [] (symbol_numbered n)) ((misfits_are_leaves P (symbol_numbered n)).1 hold)
+
+hold_counted : (P : Instance) (n : ℕ) → n ≤ shift_count P → BlocksHold P (symbol_numbered n) → Contains (counted P) (Counted [] (symbol_numbered n))
 hold_counted P zero known hold =
-    Contains-append_right (flat_map (λ k. counted_if P (symbol_numbered k)) (range_with_len 1 (shift_count P))) (counted_if P off_symbol) (Counted off_symbol) (there_said (is_misfit P off_symbol) (Counted off_symbol) ((misfits_are_leaves P off_symbol).1 hold))
+    Contains-append_right (flat_map (counted_at P) (range_with_len 1 (shift_count P))) (counted_at P 0) (Counted [] (symbol_numbered 0)) (counted_there P 0 hold)
 hold_counted P (suc k) known hold =
     let x = symbol_numbered (suc k) in
     let e : suc k ≡ 1 + k = omega arith in
-    let here : Contains (counted_if P x) (Counted x) = there_said (is_misfit P x) (Counted x) ((misfits_are_leaves P x).1 hold) in
-    Contains-append_left (flat_map (λ k. counted_if P (symbol_numbered k)) (range_with_len 1 (shift_count P))) (counted_if P off_symbol) (Counted x)
-    (in_whole (λ k. counted_if P (symbol_numbered k)) 1 (shift_count P) k (Counted x) (omega (arith, known)) (subst (λ n. Contains (counted_if P (symbol_numbered n)) (Counted x)) e here))
+    Contains-append_left (flat_map (counted_at P) (range_with_len 1 (shift_count P))) (counted_at P 0) (Counted [] x)
+    (in_whole (counted_at P) 1 (shift_count P) k (Counted [] x) (omega (arith, known)) (subst (λ n. Contains (counted_at P n) (Counted [] x)) e (counted_there P (suc k) hold)))
 
-not_in : (xs : List Sentence) (x : Symbol) → filter says_counted xs ≡ [] → Contains xs (Counted x) → ⊥
-not_in xs x none h = not_there says_counted xs (Counted x) h.0 h.1 h.2 refl none
+abbrev says_misfit : Statement → Bool
+says_misfit (Counted head x) = true
+says_misfit s = false
 
--- no sentence but those that are counted
-others_none : (P : Instance) (names : List LongNumber) → filter says_counted ((Size ∷ Hours ∷ []) ++ rule_sentences P ++ map OfSlip (slips P) ++ map NumericName names) ≡ []
-others_none P names =
-    let front = Size ∷ Hours ∷ [] in
-    let said = rule_sentences P in
-    let slipped = map OfSlip (slips P) in
-    let two = both_none says_counted front said refl (named_none says_counted OfRule (λ n. refl) (range_with_len 1 (length (rules P)))) in
-    let three = both_none says_counted (front ++ said) slipped two (named_none says_counted OfSlip (λ s. refl) (slips P)) in
-    both_none says_counted (front ++ said ++ slipped) (map NumericName names) three (named_none says_counted NumericName (λ n. refl) names)
+none_any : (q : Statement → Bool) (xs : List Statement) → filter q xs ≡ [] → list_any q xs ≡ false
+none_any q [] none = refl
+none_any q (x ∷ xs) none = elim (q x) as (λ b. cond b (x ∷ filter q xs) (filter q xs) ≡ [] → (b || list_any q xs) ≡ false) [
+  | true ↦ λ e. absurd (cc)
+  | false ↦ none_any q xs
+] none
 
-only_counted : (P : Instance) (names : List LongNumber) (x : Symbol) → Contains (problem_sentences P names) (Counted x) → Contains (counted P) (Counted x)
-only_counted P names x h =
-    let others = (Size ∷ Hours ∷ []) ++ rule_sentences P ++ map OfSlip (slips P) ++ map NumericName names in
-    elim (Contains-append_cases others (counted P) (Counted x) h) [
-      | inl here ↦ absurd (not_in others x (others_none P names) here)
-      | inr last ↦ last
-    ]
-
-counted_in : (P : Instance) (names : List LongNumber) (s : Sentence) → Contains (counted P) s → Contains (problem_sentences P names) s
-counted_in P names s h = Contains-append_right ((Size ∷ Hours ∷ []) ++ rule_sentences P ++ map OfSlip (slips P) ++ map NumericName names) (counted P) s h
+not_in : (xs : List Statement) (x : Symbol) → filter says_misfit xs ≡ [] → Contains xs (Counted [] x) → ⊥
+not_in xs x none h = both_ways (list_any says_misfit xs) (none_any says_misfit xs none) (list_any_at says_misfit xs h.0 (Counted [] x) h.1 (ap says_misfit h.2))
 
 pub counted_are_leaves : CountedAreLeaves
-counted_are_leaves P names x known = (
-  λ h. counted_hold P x (only_counted P names x h),
-  λ hold. counted_in P names (Counted x) (hold_counted P x.number known hold),
-)
+counted_are_leaves P names x known =
+    let front = (size_statement P ∷ hours_statement P ∷ []) ++ rule_statements P in
+    let early : filter says_misfit front ≡ [] = both_none says_misfit (size_statement P ∷ hours_statement P ∷ []) (rule_statements P) refl (named_none says_misfit Named (λ n. refl) (range_with_len 1 (length (rules P)))) in
+    let late = names_none says_misfit (λ text parts. refl) P names in (
+      λ h. elim (Contains-append_cases front (slip_statements WithCounts P names) (Counted [] x) h) [
+        | inl here ↦ absurd (not_in front x early here)
+        | inr behind ↦ elim (Contains-append_cases (before_counts P names) (counted P) (Counted [] x) behind) [
+          | inl here ↦ absurd (not_in (before_counts P names) x late here)
+          | inr last ↦ counted_hold P x last
+        ]
+      ],
+      λ hold. Contains-append_right front (slip_statements WithCounts P names) (Counted [] x) (Contains-append_right (before_counts P names) (counted P) (Counted [] x) (hold_counted P x.number known hold)),
+    )

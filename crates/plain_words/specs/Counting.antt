@@ -1,25 +1,21 @@
 -- What counting days alone says against a roster: which symbols have no number of blocks that fits, and why, in words.
-use Rattle.std.specs.Prelude.{ℕ, zero, suc, ◌+◌, ◌-◌, ◌*◌, ◌/◌, List, ◌++◌, Bool, ◌&&◌, ◌==◌, not, nat_lt, nat_le, min, pos, if◌then◌else◌}
-use Rattle.std.specs.Fmt.{decimal}
+use Rattle.std.specs.Prelude.{ℕ, zero, suc, ◌+◌, ◌-◌, ◌*◌, ◌/◌, ◌<◌, ◌≤◌, List, [], ◌∷◌, ◌++◌, Bool, ◌&&◌, ◌==◌, not, nat_lt, nat_le, min, pos, if◌then◌else◌}
 use Rattle.std.specs.Int.Signed.{le_z}
 use Rattle.std.specs.List.{list_any, range_with_len, sum_by}
 use Rattle.rwsp_terms.specs.declared.data.Bounds.{Bounds}
 use Rattle.rwsp_terms.specs.declared.data.Symbol.{Symbol}
 use Rattle.rwsp_terms.specs.declared.data.Class.{Class}
 use Rattle.rwsp_terms.specs.declared.data.Class.TheVariants.{Shift, Off, Work}
-use Rattle.rwsp_terms.specs.Instance.{Instance, bounds, cells, shift_demand, column_least, column_greatest, symbol_numbered}
+use Rattle.rwsp_terms.specs.Instance.{Instance, bounds, cells, shift_count, shift_demand, column_least, column_greatest, symbol_numbered}
 use Rattle.refutation_terms.specs.BlocksLeaf.{least_days, most_days, shortest}
-use Rattle.plain_words.specs.Words.{count_words, days_words}
-use Rattle.plain_words.specs.RuleWords.{class_words}
+use Rattle.plain_words.specs.declared.counted.Asked.{Asked}
+use Rattle.plain_words.specs.declared.counted.Asked.TheVariants.{Least, Most, Free, Needed}
+use Rattle.plain_words.specs.declared.part.Part.TheVariants.{Number, Days, BlocksHave, RoundsHave, DayRange, BlockRange, OfClass}
+use Rattle.plain_words.specs.Filled.{filled}
 use Rattle.plain_words.specs.Fixed.{fixed}
-use Rattle.plain_words.specs.declared.pieces.TheConstants.{AND_ALSO, AND_AT_MOST, AT_LEAST, BLOCK, BLOCKS, CANNOT_BE_MADE, COLON, COMMA, DAYS_OFF, DEMAND_LEAVES, DEMAND_NEEDS, FIXED_ROUNDS, HAS, HAVE, HAVE_AT_LEAST, HAVE_AT_MOST, MAKE, NO_BLOCK, OF, OF_WORK_THERE_ARE, ROUNDS, ROUNDS_TO, THERE_ARE, TO, UNLIKE}
+use Rattle.plain_words.specs.declared.pieces.TheConstants.{COMMA, DEMAND_LEAVES, DEMAND_NEEDS, FIXED_ROUNDS, MADE, MISFIT, NO_BLOCK, ROUNDS, UNLIKE}
 
 -- The tests of a leaf that counts blocks, as they are computed.
-
-abbrev pub shift_blocks_fit : Instance → (x k : ℕ) → Bool
-shift_blocks_fit P x k =
-    le_z (pos (k * shortest (bounds P (Shift (symbol_numbered x))))) (most_days P x)
-    && le_z (least_days P x) (pos (k * (bounds P (Shift (symbol_numbered x))).greatest))
 
 abbrev pub can_be : Bounds → (k t : ℕ) → Bool
 can_be b k t = nat_le (k * shortest b) t && nat_le t (k * b.greatest)
@@ -31,27 +27,15 @@ off_days_fit P k t =
 
 abbrev pub blocks_fit : Instance → (x k : ℕ) → Bool
 blocks_fit P zero k = list_any (off_days_fit P k) (range_with_len 0 (cells P + 1))
-blocks_fit P (suc x) k = shift_blocks_fit P (suc x) k
+blocks_fit P (suc x) k =
+    le_z (pos (k * shortest (bounds P (Shift (symbol_numbered (suc x)))))) (most_days P (suc x))
+    && le_z (least_days P (suc x)) (pos (k * (bounds P (Shift (symbol_numbered (suc x)))).greatest))
 
 -- no number of blocks of the symbol, up to one for each cell, has as many days as the demand asks for
 abbrev pub is_misfit : Instance → Symbol → Bool
 is_misfit P x = not (list_any (blocks_fit P x.number) (range_with_len 0 (cells P + 1)))
 
 -- Words.
-
--- so many days, from a least number to a greatest, which may be below it
-unfoldable pub span_words : Bounds → List ℕ
-span_words b =
-    if b.least == b.greatest then days_words b.least
-    else if nat_lt b.least b.greatest then decimal b.least ++ fixed TO.now ++ days_words b.greatest
-    else fixed AT_LEAST.now ++ decimal b.least ++ fixed AND_AT_MOST.now ++ days_words b.greatest
-
--- a number of blocks
-unfoldable pub blocks_words : ℕ → List ℕ
-blocks_words k = count_words k BLOCK.now BLOCKS.now
-
-abbrev pub have_words : ℕ → List ℕ
-have_words k = if k == 1 then fixed HAS.now else fixed HAVE.now
 
 -- the lengths of the blocks of a class, of at least one day
 abbrev pub lengths : Instance → Class → Bounds
@@ -65,21 +49,45 @@ room_for b days = days / b.least
 abbrev pub are_few : Bounds → Bounds → Bool
 are_few b days = nat_lt (room_for b days.greatest * b.greatest) days.least
 
--- `4 blocks have at most 12 days, and 5 at least 15`
-unfoldable pub room_words : (room : ℕ) → Bounds → List ℕ
-room_words room b =
-    blocks_words room ++ have_words room ++ fixed HAVE_AT_MOST.now ++ days_words (room * b.greatest) ++ fixed AND_ALSO.now
-    ++ decimal (room + 1) ++ fixed HAVE_AT_LEAST.now ++ decimal ((room + 1) * b.least)
+-- what is counted on a day: the demand of a shift at least, and at most in the weeks that there are; how many weeks the
+-- demand leaves the day off at least; and how many it needs for work
+abbrev pub asked_on : Instance → Asked → (j : ℕ) → ℕ
+asked_on P (Least x) j = (shift_demand P x j).least
+asked_on P (Most x) j = min (shift_demand P x j).greatest P.weeks
+asked_on P Free j = P.weeks - column_greatest P j
+asked_on P Needed j = column_least P j
 
--- `14 days of N cannot be made of blocks of 3 days: ` and that
-unfoldable pub misfit_words : Instance → Class → Bounds → List ℕ
-misfit_words P c days =
-    span_words days ++ class_words P c ++ fixed CANNOT_BE_MADE.now ++ span_words (lengths P c)
-    ++ fixed COLON.now ++ room_words (room_for (lengths P c) days.greatest) (lengths P c)
+-- its shift, if it names one, is the instance's
+abbrev pub IsAsked : Instance → Asked → Type 0
+IsAsked P (Least x) = (0 < x) × (x ≤ shift_count P)
+IsAsked P (Most x) = (0 < x) × (x ≤ shift_count P)
+IsAsked P what = Unit {0}
+
+-- on all days of the cycle
+abbrev pub days_asked : Instance → Asked → ℕ
+days_asked P what = sum_by (asked_on P what) (range_with_len 1 P.days)
+
+-- how many days a roster has of a class: of a shift as demanded; days off and days of work are all days
+abbrev pub days_of : Instance → Class → Bounds
+days_of P (Shift x) =
+    record { least = days_asked P (Least x.number); greatest = days_asked P (Most x.number) }
+days_of P Off = record { least = days_asked P Free; greatest = cells P - days_asked P Needed }
+days_of P Work = record { least = days_asked P Needed; greatest = cells P - days_asked P Free }
+
+-- `14 days of N cannot be made of blocks of 3 days: 4 blocks have at most 12 days, and 5 at least 15`
+abbrev pub misfit_by : Instance → Class → Bounds → Bounds → (room : ℕ) → List ℕ
+misfit_by P c days b room =
+    filled P MISFIT.now
+    (DayRange days ∷ OfClass c ∷ DayRange b ∷ BlocksHave room ∷ Days (room * b.greatest) ∷ Number (room + 1)
+    ∷ Number ((room + 1) * b.least) ∷ [])
+
+unfoldable pub misfit_words : Instance → Class → List ℕ
+misfit_words P c =
+    misfit_by P c (days_of P c) (lengths P c) (room_for (lengths P c) (days_of P c).greatest)
 
 -- `no block has at least 5 and at most 3 days of work`
 unfoldable pub no_block_words : Instance → Class → List ℕ
-no_block_words P c = fixed NO_BLOCK.now ++ span_words (lengths P c) ++ class_words P c
+no_block_words P c = filled P NO_BLOCK.now (DayRange (lengths P c) ∷ OfClass c ∷ [])
 
 -- how many blocks of these lengths make so many days: as many as reach the least, and as there is room for
 abbrev pub blocks_for : Bounds → Bounds → Bounds
@@ -88,50 +96,14 @@ blocks_for b days = record {
   greatest = room_for b days.greatest;
 }
 
--- a range of numbers of blocks
-unfoldable pub block_range_words : Bounds → List ℕ
-block_range_words k =
-    if k.least == k.greatest then blocks_words k.least else decimal k.least ++ fixed TO.now ++ blocks_words k.greatest
-
 -- `8 days off make 4 blocks of 2 days`
-unfoldable pub made_words : Instance → Class → Bounds → List ℕ
-made_words P c days =
-    span_words days ++ class_words P c ++ fixed MAKE.now ++ block_range_words (blocks_for (lengths P c) days)
-    ++ fixed OF.now ++ span_words (lengths P c)
-
--- Shifts.
-
--- on how many days of the cycle a shift is demanded, on each in the weeks that there are
-abbrev pub shift_least : Instance → (x : ℕ) → ℕ
-shift_least P x = sum_by (λ j. (shift_demand P x j).least) (range_with_len 1 P.days)
-
-abbrev pub greatest_in_weeks : Instance → (x j : ℕ) → ℕ
-greatest_in_weeks P x j = min (shift_demand P x j).greatest P.weeks
-
-abbrev pub shift_greatest : Instance → (x : ℕ) → ℕ
-shift_greatest P x = sum_by (greatest_in_weeks P x) (range_with_len 1 P.days)
-
-abbrev pub shift_days : Instance → (x : ℕ) → Bounds
-shift_days P x = record { least = shift_least P x; greatest = shift_greatest P x }
+unfoldable pub made_words : Instance → Class → List ℕ
+made_words P c =
+    filled P MADE.now
+    (DayRange (days_of P c) ∷ OfClass c ∷ BlockRange (blocks_for (lengths P c) (days_of P c)) ∷ DayRange (lengths P c)
+    ∷ [])
 
 -- The day off, and work between.
-
--- how many days of work the demand needs at least, and how many days off it leaves at least
-abbrev pub needed_days : Instance → ℕ
-needed_days P = sum_by (column_least P) (range_with_len 1 P.days)
-
-abbrev pub left_on_day : Instance → (j : ℕ) → ℕ
-left_on_day P j = P.weeks - column_greatest P j
-
-abbrev pub left_days : Instance → ℕ
-left_days P = sum_by (left_on_day P) (range_with_len 1 P.days)
-
--- days off and days of work are all days
-abbrev pub off_days : Instance → Bounds
-off_days P = record { least = left_days P; greatest = cells P - needed_days P }
-
-abbrev pub work_days : Instance → Bounds
-work_days P = record { least = needed_days P; greatest = cells P - left_days P }
 
 abbrev pub all_days : Instance → Bounds
 all_days P = record { least = cells P; greatest = cells P }
@@ -145,27 +117,25 @@ rounds P = record {
 
 -- `k blocks of days off and of work take 5k days, and there are 28`, where all are of one length; or
 -- `5 blocks of days off and of work have at most 25 days, 6 at least 30, and there are 28`
-unfoldable pub rounds_words : Bounds → (room days : ℕ) → List ℕ
-rounds_words b room days =
-    if b.least == b.greatest
-    then fixed FIXED_ROUNDS.now ++ decimal b.least ++ fixed ROUNDS_TO.now ++ decimal days
-    else blocks_words room ++ fixed ROUNDS.now ++ have_words room ++ fixed HAVE_AT_MOST.now
-    ++ days_words (room * b.greatest) ++ fixed COMMA.now ++ decimal (room + 1) ++ fixed HAVE_AT_LEAST.now
-    ++ decimal ((room + 1) * b.least) ++ fixed THERE_ARE.now ++ decimal days
+unfoldable pub rounds_words : Instance → Bounds → (room days : ℕ) → List ℕ
+rounds_words P b room days =
+    if b.least == b.greatest then filled P FIXED_ROUNDS.now (Number b.least ∷ Number days ∷ [])
+    else filled P ROUNDS.now
+    (RoundsHave room ∷ Days (room * b.greatest) ∷ Number (room + 1) ∷ Number ((room + 1) * b.least)
+    ∷ Number days ∷ [])
 
 -- days off, days of work and all days make different numbers of blocks
 unfoldable pub unlike_words : Instance → List ℕ
 unlike_words P =
-    made_words P Off (off_days P) ++ fixed COMMA.now ++ made_words P Work (work_days P) ++ fixed AND_ALSO.now
-    ++ days_words (cells P) ++ fixed MAKE.now ++ block_range_words (blocks_for (rounds P) (all_days P))
-    ++ fixed UNLIKE.now
+    made_words P Off ++ fixed COMMA.now ++ made_words P Work
+    ++ filled P UNLIKE.now (Days (cells P) ∷ BlockRange (blocks_for (rounds P) (all_days P)) ∷ [])
 
 -- the numbers of blocks of both together, of days off, of work, or all three
 unfoldable pub turns_words : Instance → List ℕ
 turns_words P =
-    if are_few (rounds P) (all_days P) then rounds_words (rounds P) (room_for (rounds P) (cells P)) (cells P)
-    else if are_few (lengths P Off) (off_days P) then misfit_words P Off (off_days P)
-    else if are_few (lengths P Work) (work_days P) then misfit_words P Work (work_days P)
+    if are_few (rounds P) (all_days P) then rounds_words P (rounds P) (room_for (rounds P) (cells P)) (cells P)
+    else if are_few (lengths P Off) (days_of P Off) then misfit_words P Off
+    else if are_few (lengths P Work) (days_of P Work) then misfit_words P Work
     else unlike_words P
 
 -- why no number of blocks has as many days off, and days of work between, as there have to be: the first of these that
@@ -173,10 +143,10 @@ turns_words P =
 -- lengths that no number meets come before numbers of blocks
 unfoldable pub off_misfit_words : Instance → List ℕ
 off_misfit_words P =
-    if nat_lt (cells P) (needed_days P)
-    then fixed DEMAND_NEEDS.now ++ days_words (needed_days P) ++ fixed OF_WORK_THERE_ARE.now ++ decimal (cells P)
-    else if nat_lt (off_days P).greatest (off_days P).least
-    then fixed DEMAND_LEAVES.now ++ span_words (off_days P) ++ fixed DAYS_OFF.now
+    if nat_lt (cells P) (days_asked P Needed)
+    then filled P DEMAND_NEEDS.now (Days (days_asked P Needed) ∷ Number (cells P) ∷ [])
+    else if nat_lt (days_of P Off).greatest (days_of P Off).least
+    then filled P DEMAND_LEAVES.now (DayRange (days_of P Off) ∷ [])
     else if nat_lt (lengths P Off).greatest (lengths P Off).least then no_block_words P Off
     else if nat_lt (lengths P Work).greatest (lengths P Work).least then no_block_words P Work
     else turns_words P
@@ -184,4 +154,4 @@ off_misfit_words P =
 -- why no number of blocks of the symbol fits
 unfoldable pub counted_words : Instance → Symbol → List ℕ
 counted_words P x =
-    if x.number == 0 then off_misfit_words P else misfit_words P (Shift x) (shift_days P x.number)
+    if x.number == 0 then off_misfit_words P else misfit_words P (Shift x)

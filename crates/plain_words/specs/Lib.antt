@@ -1,13 +1,10 @@
 pub mod Fixed
 pub mod Words
 pub mod RuleWords
+pub mod Filled
 pub mod Counting
-pub mod Sentences
-pub mod SentenceText
-pub mod ReasonWords
-pub mod BrokenWords
-pub mod WayWords
 pub mod Statements
+pub mod Sentences
 pub mod LogTold
 pub mod Told
 pub mod Laws

@@ -8,15 +8,14 @@ use Rattle.rwsp_terms.specs.declared.data.Class.{Class}
 use Rattle.rwsp_terms.specs.declared.data.Class.TheVariants.{Shift, Off, Work}
 use Rattle.rwsp_terms.specs.declared.data.Rule.{Rule}
 use Rattle.rwsp_terms.specs.declared.data.Rule.TheVariants.{MaxShift, MinShift, MaxOff, MinOff, MaxWork, MinWork, Pair, Triple, Day}
-use Rattle.rwsp_terms.specs.Rules.{rule_of}
-use Rattle.rwsp_terms.specs.Instance.{Instance, bounds, shift_count, shift_demand, column_least, column_greatest, name_of, symbol_numbered}
-use Rattle.plain_words.specs.Words.{days_words, weeks_words, range_words, name_words, symbol_words}
+use Rattle.rwsp_terms.specs.Instance.{Instance, bounds, shift_count, shift_demand, column_least, column_greatest}
+use Rattle.plain_words.specs.Words.{days_words, weeks_words, range_words, shift_words, symbol_words}
 use Rattle.plain_words.specs.Fixed.{fixed}
-use Rattle.plain_words.specs.declared.pieces.TheConstants.{AT_LEAST, AT_MOST, BLANK, COLON, COMMA, DAYS_OFF, DAY_FRONT, DOTS, FOR_OFF, IN_A_ROW, IS_CROSSED, NEEDS, NEVER, OF, OF_WORK, THEN}
+use Rattle.plain_words.specs.declared.pieces.TheConstants.{AT_LEAST, AT_MOST, BLANK, COLON, COMMA, DAYS_OFF, DAY_FRONT, DAY_OFF, DOTS, FOR_OFF, IN_A_ROW, IS_CROSSED, NEEDS, NEVER, OF, OF_WORK, THEN}
 
 -- the days that the blocks of a class are made of
 unfoldable pub class_words : Instance → Class → List ℕ
-class_words P (Shift x) = fixed OF.now ++ name_words (name_of P x)
+class_words P (Shift x) = fixed OF.now ++ shift_words P x.number
 class_words P Off = fixed DAYS_OFF.now
 class_words P Work = fixed OF_WORK.now
 
@@ -30,25 +29,21 @@ least_words P c = fixed AT_LEAST.now ++ days_words (bounds P c).least ++ class_w
 
 -- `never N, then D`
 unfoldable pub pair_words : Instance → Symbol × Symbol → List ℕ
-pair_words P x = fixed NEVER.now ++ symbol_words P x.0 ++ fixed THEN.now ++ symbol_words P x.1
+pair_words P x =
+    fixed NEVER.now ++ symbol_words P x.0 DAY_OFF.now ++ fixed THEN.now ++ symbol_words P x.1 DAY_OFF.now
 
 -- `never N, then a day off, then D`
 unfoldable pub triple_words : Instance → Symbol × Symbol × Symbol → List ℕ
 triple_words P x =
-    fixed NEVER.now ++ symbol_words P x.0 ++ fixed THEN.now ++ symbol_words P x.1 ++ fixed THEN.now
-    ++ symbol_words P x.2
+    pair_words P (x.0, x.1) ++ fixed THEN.now ++ symbol_words P x.2 DAY_OFF.now
 
-unfoldable pub pair_in_words : Instance → Option (Symbol × Symbol) → List ℕ
+abbrev pub pair_in_words : Instance → Option (Symbol × Symbol) → List ℕ
 pair_in_words P None = []
 pair_in_words P (Some x) = pair_words P x
 
-unfoldable pub triple_in_words : Instance → Option (Symbol × Symbol × Symbol) → List ℕ
+abbrev pub triple_in_words : Instance → Option (Symbol × Symbol × Symbol) → List ℕ
 triple_in_words P None = []
 triple_in_words P (Some x) = triple_words P x
-
--- the name of a shift by its number
-unfoldable pub shift_words : Instance → ℕ → List ℕ
-shift_words P x = name_words (name_of P (symbol_numbered x))
 
 -- what is demanded of a shift on a day, as `D 4 to 5, `
 unfoldable pub wanted_words : Instance → (j x : ℕ) → List ℕ
@@ -70,10 +65,10 @@ abbrev pub is_crossed : Instance → (j x : ℕ) → Bool
 is_crossed P j x = nat_lt (shift_demand P x j).greatest (shift_demand P x j).least
 
 -- `D 5..4: the least is above the greatest`
-unfoldable pub crossed_words : Instance → (j x : ℕ) → List ℕ
-crossed_words P j x =
-    shift_words P x ++ fixed BLANK.now ++ decimal (shift_demand P x j).least ++ fixed DOTS.now
-    ++ decimal (shift_demand P x j).greatest ++ fixed IS_CROSSED.now
+unfoldable pub crossed_words : Instance → (x : ℕ) → Bounds → List ℕ
+crossed_words P x b =
+    shift_words P x ++ fixed BLANK.now ++ decimal b.least ++ fixed DOTS.now ++ decimal b.greatest
+    ++ fixed IS_CROSSED.now
 
 -- the first shift whose demand no number meets on a day
 abbrev pub first_crossed : Instance → (j : ℕ) → Option ℕ
@@ -82,7 +77,7 @@ first_crossed P j = find (is_crossed P j) (range_with_len 1 (shift_count P))
 -- what is wanted on a day, shift by shift; or the first shift of which no number is
 unfoldable pub demand_words : Instance → (j : ℕ) → Option ℕ → List ℕ
 demand_words P j None = flat_map (wanted_words P j) (range_with_len 1 (shift_count P)) ++ off_words P j
-demand_words P j (Some x) = crossed_words P j x
+demand_words P j (Some x) = crossed_words P x (shift_demand P x j)
 
 unfoldable pub day_words : Instance → (j : ℕ) → List ℕ
 day_words P j = fixed DAY_FRONT.now ++ decimal j ++ fixed COLON.now ++ demand_words P j (first_crossed P j)
@@ -102,7 +97,3 @@ rule_words P (Day j) = day_words P j
 unfoldable pub rule_in_words : Instance → Option Rule → List ℕ
 rule_in_words P None = []
 rule_in_words P (Some r) = rule_words P r
-
--- a rule by its number: `5: at most 4 days of work in a row`
-unfoldable pub numbered_words : Instance → ℕ → List ℕ
-numbered_words P k = decimal k ++ fixed COLON.now ++ rule_in_words P (rule_of P k)

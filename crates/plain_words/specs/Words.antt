@@ -5,10 +5,10 @@ use Rattle.std.specs.List.{list_all}
 use Rattle.std.specs.Str.{bytes_eq}
 use Rattle.rwsp_terms.specs.declared.data.Bounds.{Bounds}
 use Rattle.rwsp_terms.specs.declared.data.Symbol.{Symbol}
-use Rattle.rwsp_terms.specs.Instance.{Instance, name_of}
+use Rattle.rwsp_terms.specs.Instance.{Instance, name_numbered}
 use Rattle.shown_names.specs.ShownNames.{shown}
 use Rattle.plain_words.specs.Fixed.{fixed}
-use Rattle.plain_words.specs.declared.pieces.TheConstants.{DAY, DAYS, DAY_OFF, QUOTE, TO, WEEK, WEEKS}
+use Rattle.plain_words.specs.declared.pieces.TheConstants.{DAY, DAYS, QUOTE, TO, WEEK, WEEKS}
 
 -- a number of things, by the words for one and for any other number
 unfoldable pub count_words : (n : ℕ) → (one many : List ℕ) → List ℕ
@@ -37,6 +37,10 @@ is_like_words name = bytes_eq name (codes "off") || bytes_eq name (codes "work")
 unfoldable pub name_words : List ℕ → List ℕ
 name_words name = if is_like_words name then fixed QUOTE.now ++ shown name ++ fixed QUOTE.now else shown name
 
--- a shift, or a day off, in a sentence
-unfoldable pub symbol_words : Instance → Symbol → List ℕ
-symbol_words P x = if x.number == 0 then fixed DAY_OFF.now else name_words (name_of P x)
+-- the name of a shift by its number
+unfoldable pub shift_words : Instance → ℕ → List ℕ
+shift_words P x = name_words (name_numbered P x)
+
+-- a shift in a sentence, or these words for the day off
+abbrev pub symbol_words : Instance → Symbol → (off : List ℕ) → List ℕ
+symbol_words P x off = if x.number == 0 then fixed off else shift_words P x.number

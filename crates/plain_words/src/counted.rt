@@ -1,24 +1,34 @@
 // What counting days alone says against a roster.
+#![tactic(auto, unfolding(crate::specs::Counting::misfit_words, crate::specs::Counting::no_block_words, crate::specs::Counting::made_words, crate::specs::Counting::rounds_words, crate::specs::Counting::unlike_words, crate::specs::Counting::turns_words, crate::specs::Counting::off_misfit_words, crate::specs::Counting::counted_words), using(crate::proofs::Joined::sum_more))]
+
 ghost use Rattle.std.specs.Prelude.{◌≡◌, ◌+◌, ◌*◌, ◌<◌, ◌≤◌, ◌++◌, nat_lt, OnOk};
 ghost use Rattle.rwsp_terms.specs.Instance.{cells, shift_count, IsClass, IsDay, IsSymbol};
 ghost use Rattle.rwsp_terms.specs.declared.data.Class.TheVariants.{Off, Work};
-ghost use Rattle.plain_words.specs.Counting.{is_misfit, lengths, shift_least, greatest_in_weeks, shift_greatest, shift_days, needed_days, left_on_day, left_days, off_days, work_days, rounds, are_few, all_days, rounds_words, unlike_words, turns_words, off_misfit_words, counted_words};
+ghost use Rattle.plain_words.specs.Counting.{is_misfit, lengths, asked_on, IsAsked, days_asked, days_of, rounds, room_for, are_few, all_days, misfit_words, no_block_words, blocks_for, made_words, rounds_words, unlike_words, turns_words, off_misfit_words, counted_words};
 
+use crate::filled::put_filled;
+use crate::part::Part::{BlockRange, BlocksHave, DayRange, Days, Number, OfClass, RoundsHave};
 use crate::pieces::{
-    AND_ALSO, COMMA, DAYS_OFF, DEMAND_LEAVES, DEMAND_NEEDS, Done, FIXED_ROUNDS, HAVE_AT_LEAST,
-    HAVE_AT_MOST, MAKE, OF_WORK_THERE_ARE, ROUNDS, ROUNDS_TO, THERE_ARE, UNLIKE, put,
+    COMMA, DEMAND_LEAVES, DEMAND_NEEDS, Done, FIXED_ROUNDS, MADE, MISFIT, NO_BLOCK, ROUNDS, UNLIKE,
+    put,
 };
 use crate::rule_words::least_of_day;
-use crate::span::{
-    MOST_ASKED, blocks_for, lengths_of, put_block_range, put_blocks, put_have, put_made,
-    put_misfit, put_no_block, put_span, room_for,
-};
-use crate::words::put_days;
 use domain_store::blocks_holds;
 use rwsp_model::Problem;
-use rwsp_terms::limits::{GREATEST_BOUND, MOST_WEEKS};
+use rwsp_terms::limits::{GREATEST_BOUND, MOST_DAYS, MOST_SYMBOLS, MOST_WEEKS};
 use rwsp_terms::{Bounds, Class, Symbol};
-use rwsp_text::put_number;
+
+/// What is counted of the demand: of a shift by its number at least or at most, or of days off or of work at least.
+#[derive(Clone, Copy)]
+pub enum Asked {
+    Least(u8),
+    Most(u8),
+    Free,
+    Needed,
+}
+
+/// The most days that a demand asks for.
+pub const MOST_ASKED: u32 = MOST_DAYS * MOST_WEEKS * MOST_SYMBOLS;
 
 /// Whether no number of blocks of the symbol has as many days as the demand asks for.
 pub fn is_misfit(problem: &Problem, x: Symbol) -> bool
@@ -28,113 +38,57 @@ pub fn is_misfit(problem: &Problem, x: Symbol) -> bool
     blocks_holds(problem, x)
 }
 
-// On how many days of the cycle a shift is demanded at least.
-#[tactic(auto, using(crate::proofs::Joined::sum_more))]
-fn shift_least(problem: &Problem, number: u8) -> u32
-    requires { (0 < number) × (number ≤ shift_count problem.now) }
-    ensures value { result ≡ shift_least problem.now number }
-    ensures few { result ≤ MOST_ASKED }
-{
-    let mut sum = 0;
-    for i in 0..problem.days() {
-        sum += problem.demand(Symbol { number }, i + 1).least;
-    }
-    sum
-}
-
-// The demand of a day for a shift at most, in the weeks that there are.
-fn greatest_in_weeks(problem: &Problem, number: u8, day: u32) -> u32
-    requires shift { (0 < number) × (number ≤ shift_count problem.now) }
+// What is counted on a day.
+fn asked_on(problem: &Problem, what: Asked, day: u32) -> u32
+    requires what { IsAsked problem.now what }
     requires day { IsDay problem.now day }
-    ensures value { result ≡ greatest_in_weeks problem.now number day }
-    ensures few { result ≤ MOST_WEEKS }
+    ensures value { result ≡ asked_on problem.now what day }
+    ensures few { result ≤ MOST_WEEKS * MOST_SYMBOLS }
 {
-    problem
-        .demand(Symbol { number }, day)
-        .greatest
-        .min(problem.weeks())
+    match what {
+        Asked::Least(number) => problem.demand(Symbol { number }, day).least,
+        Asked::Most(number) => {
+            let demand = problem.demand(Symbol { number }, day);
+            demand.greatest.min(problem.weeks())
+        }
+        Asked::Free => problem.demand_least(Symbol::OFF, day).max(0) as u32,
+        Asked::Needed => least_of_day(problem, day),
+    }
 }
 
-// On how many days of the cycle a shift is demanded at most.
-#[tactic(auto, using(crate::proofs::Joined::sum_more))]
-fn shift_greatest(problem: &Problem, number: u8) -> u32
-    requires { (0 < number) × (number ≤ shift_count problem.now) }
-    ensures value { result ≡ shift_greatest problem.now number }
+// What is counted on all days of the cycle.
+fn days_asked(problem: &Problem, what: Asked) -> u32
+    requires { IsAsked problem.now what }
+    ensures value { result ≡ days_asked problem.now what }
     ensures few { result ≤ MOST_ASKED }
 {
     let mut sum = 0;
     for i in 0..problem.days() {
-        sum += greatest_in_weeks(problem, number, i + 1);
+        sum += asked_on(problem, what, i + 1);
     }
     sum
 }
 
-// On how many days of the cycle a shift is demanded.
-fn shift_days(problem: &Problem, number: u8) -> Bounds
-    requires { (0 < number) × (number ≤ shift_count problem.now) }
-    ensures value { result ≡ shift_days problem.now number }
+// How many days a roster has of a class.
+fn days_of(problem: &Problem, class: Class) -> Bounds
+    requires { IsClass problem.now class }
+    ensures value { result ≡ days_of problem.now class }
     ensures few { (result.least ≤ MOST_ASKED) × (result.greatest ≤ MOST_ASKED) }
 {
-    Bounds {
-        least: shift_least(problem, number),
-        greatest: shift_greatest(problem, number),
-    }
-}
-
-// How many days of work the demand needs at least.
-#[tactic(auto, using(crate::proofs::Joined::sum_more))]
-fn needed_days(problem: &Problem) -> u32
-    ensures value { result ≡ needed_days problem.now }
-    ensures few { result ≤ MOST_ASKED }
-{
-    let mut sum = 0;
-    for i in 0..problem.days() {
-        sum += least_of_day(problem, i + 1);
-    }
-    sum
-}
-
-// How many weeks the demand of a day leaves the day off at least.
-fn left_on_day(problem: &Problem, day: u32) -> u32
-    requires { IsDay problem.now day }
-    ensures value { result ≡ left_on_day problem.now day }
-    ensures few { result ≤ MOST_WEEKS }
-{
-    problem.demand_least(Symbol::OFF, day).max(0) as u32
-}
-
-// How many days off the demand leaves at least.
-#[tactic(auto, using(crate::proofs::Joined::sum_more))]
-fn left_days(problem: &Problem) -> u32
-    ensures value { result ≡ left_days problem.now }
-    ensures few { result ≤ MOST_ASKED }
-{
-    let mut sum = 0;
-    for i in 0..problem.days() {
-        sum += left_on_day(problem, i + 1);
-    }
-    sum
-}
-
-// How many days a roster has off.
-fn off_days(problem: &Problem) -> Bounds
-    ensures value { result ≡ off_days problem.now }
-    ensures few { (result.least ≤ MOST_ASKED) × (result.greatest ≤ MOST_ASKED) }
-{
-    Bounds {
-        least: left_days(problem),
-        greatest: problem.cells().saturating_sub(needed_days(problem)),
-    }
-}
-
-// How many days of work a roster has.
-fn work_days(problem: &Problem) -> Bounds
-    ensures value { result ≡ work_days problem.now }
-    ensures few { (result.least ≤ MOST_ASKED) × (result.greatest ≤ MOST_ASKED) }
-{
-    Bounds {
-        least: needed_days(problem),
-        greatest: problem.cells().saturating_sub(left_days(problem)),
+    let cells = problem.cells();
+    match class {
+        Class::Shift(shift) => Bounds {
+            least: days_asked(problem, Asked::Least(shift.number)),
+            greatest: days_asked(problem, Asked::Most(shift.number)),
+        },
+        Class::Off => Bounds {
+            least: days_asked(problem, Asked::Free),
+            greatest: cells.saturating_sub(days_asked(problem, Asked::Needed)),
+        },
+        Class::Work => Bounds {
+            least: days_asked(problem, Asked::Needed),
+            greatest: cells.saturating_sub(days_asked(problem, Asked::Free)),
+        },
     }
 }
 
@@ -147,6 +101,20 @@ fn all_days(problem: &Problem) -> Bounds
     Bounds {
         least: cells,
         greatest: cells,
+    }
+}
+
+// The lengths of the blocks of a class, of at least one day.
+fn lengths_of(problem: &Problem, class: Class) -> Bounds
+    requires { IsClass problem.now class }
+    ensures value { result ≡ lengths problem.now class }
+    ensures some { 1 ≤ result.least }
+    ensures short { (result.least ≤ GREATEST_BOUND) × (result.greatest ≤ GREATEST_BOUND) }
+{
+    let bounds = problem.bounds(class);
+    Bounds {
+        least: bounds.least.max(1),
+        greatest: bounds.greatest,
     }
 }
 
@@ -164,6 +132,15 @@ fn rounds(problem: &Problem) -> Bounds
     }
 }
 
+// For how many blocks of the shortest length there is room in so many days.
+fn room_for(lengths: Bounds, days: u32) -> u32
+    requires { 1 ≤ lengths.least }
+    ensures value { result ≡ room_for lengths days }
+    ensures few { result ≤ days }
+{
+    days / lengths.least
+}
+
 // Whether as many blocks as there is room for have fewer days than the least.
 fn are_few(lengths: Bounds, days: Bounds) -> bool
     requires some { 1 ≤ lengths.least }
@@ -174,53 +151,97 @@ fn are_few(lengths: Bounds, days: Bounds) -> bool
     room_for(lengths, days.greatest) * lengths.greatest < days.least
 }
 
-// Appends how many days blocks of days off and of work take together, where there is room for so many.
-#[tactic(auto, unfolding(crate::specs::Counting::rounds_words))]
-fn put_rounds(out: &mut Vec<u8>, rounds: Bounds, room: u32, days: u32) -> Done
-    requires few { room ≤ MOST_ASKED }
-    requires short { (rounds.least ≤ 2 * GREATEST_BOUND) × (rounds.greatest ≤ 2 * GREATEST_BOUND) }
-    ensures { OnOk result (out.new.items ≡ out.old.items ++ rounds_words rounds room days) }
+// How many blocks of these lengths, of at least one day each, make so many days.
+fn blocks_for(lengths: Bounds, days: Bounds) -> Bounds
+    requires some { 1 ≤ lengths.least }
+    requires long { 1 ≤ lengths.greatest }
+    requires short { lengths.greatest ≤ 2 * GREATEST_BOUND }
+    requires few { days.least ≤ MOST_ASKED }
+    ensures { result ≡ blocks_for lengths days }
 {
-    if rounds.least == rounds.greatest {
-        put(out, FIXED_ROUNDS)?;
-        put_number(out, u64::from(rounds.least))?;
-        put(out, ROUNDS_TO)?;
-        put_number(out, u64::from(days))
-    } else {
-        put_blocks(out, room)?;
-        put(out, ROUNDS)?;
-        put_have(out, room)?;
-        put(out, HAVE_AT_MOST)?;
-        put_days(out, room * rounds.greatest)?;
-        put(out, COMMA)?;
-        put_number(out, u64::from(room + 1))?;
-        put(out, HAVE_AT_LEAST)?;
-        put_number(out, u64::from((room + 1) * rounds.least))?;
-        put(out, THERE_ARE)?;
-        put_number(out, u64::from(days))
+    Bounds {
+        least: (days.least + (lengths.greatest - 1)) / lengths.greatest,
+        greatest: room_for(lengths, days.greatest),
     }
 }
 
+// Appends that so many days of a class can't be made of its blocks.
+fn put_misfit(out: &mut Vec<u8>, problem: &Problem, class: Class) -> Done
+    requires { IsClass problem.now class }
+    ensures { OnOk result (out.new.items ≡ out.old.items ++ misfit_words problem.now class) }
+{
+    let days = days_of(problem, class);
+    let lengths = lengths_of(problem, class);
+    let room = room_for(lengths, days.greatest);
+    let parts = [
+        DayRange(days),
+        OfClass(class),
+        DayRange(lengths),
+        BlocksHave(room),
+        Days(room * lengths.greatest),
+        Number(room + 1),
+        Number((room + 1) * lengths.least),
+    ];
+    put_filled(out, problem, MISFIT, &parts)
+}
+
+// Appends that no block of a class has such a length.
+fn put_no_block(out: &mut Vec<u8>, problem: &Problem, class: Class) -> Done
+    requires { IsClass problem.now class }
+    ensures { OnOk result (out.new.items ≡ out.old.items ++ no_block_words problem.now class) }
+{
+    let parts = [DayRange(lengths_of(problem, class)), OfClass(class)];
+    put_filled(out, problem, NO_BLOCK, &parts)
+}
+
+// Appends how many blocks of a class so many of its days make.
+fn put_made(out: &mut Vec<u8>, problem: &Problem, class: Class) -> Done
+    requires class { IsClass problem.now class }
+    requires long { 1 ≤ (lengths problem.now class).greatest }
+    ensures { OnOk result (out.new.items ≡ out.old.items ++ made_words problem.now class) }
+{
+    let days = days_of(problem, class);
+    let lengths = lengths_of(problem, class);
+    let blocks = BlockRange(blocks_for(lengths, days));
+    let parts = [DayRange(days), OfClass(class), blocks, DayRange(lengths)];
+    put_filled(out, problem, MADE, &parts)
+}
+
+// Appends how many days blocks of days off and of work take together, where there is room for so many.
+fn put_rounds(out: &mut Vec<u8>, problem: &Problem, rounds: Bounds, room: u32, days: u32) -> Done
+    requires few { room ≤ MOST_ASKED }
+    requires short { (rounds.least ≤ 2 * GREATEST_BOUND) × (rounds.greatest ≤ 2 * GREATEST_BOUND) }
+    ensures { OnOk result (out.new.items ≡ out.old.items ++ rounds_words problem.now rounds room days) }
+{
+    if rounds.least == rounds.greatest {
+        let parts = [Number(rounds.least), Number(days)];
+        return put_filled(out, problem, FIXED_ROUNDS, &parts);
+    }
+    let parts = [
+        RoundsHave(room),
+        Days(room * rounds.greatest),
+        Number(room + 1),
+        Number((room + 1) * rounds.least),
+        Number(days),
+    ];
+    put_filled(out, problem, ROUNDS, &parts)
+}
+
 // Appends that days off, days of work and all days make different numbers of blocks.
-#[tactic(auto, unfolding(crate::specs::Counting::unlike_words))]
 fn put_unlike(out: &mut Vec<u8>, problem: &Problem) -> Done
     requires off { 1 ≤ (lengths problem.now Off).greatest }
     requires work { 1 ≤ (lengths problem.now Work).greatest }
     ensures { OnOk result (out.new.items ≡ out.old.items ++ unlike_words problem.now) }
 {
-    put_made(out, problem, Class::Off, off_days(problem))?;
+    put_made(out, problem, Class::Off)?;
     put(out, COMMA)?;
-    put_made(out, problem, Class::Work, work_days(problem))?;
-    put(out, AND_ALSO)?;
-    put_days(out, problem.cells())?;
-    put(out, MAKE)?;
-    put_block_range(out, blocks_for(rounds(problem), all_days(problem)))?;
-    put(out, UNLIKE)?;
-    Ok(())
+    put_made(out, problem, Class::Work)?;
+    let blocks = blocks_for(rounds(problem), all_days(problem));
+    let parts = [Days(problem.cells()), BlockRange(blocks)];
+    put_filled(out, problem, UNLIKE, &parts)
 }
 
 // Appends which numbers of blocks do not agree.
-#[tactic(auto, unfolding(crate::specs::Counting::turns_words))]
 fn put_turns(out: &mut Vec<u8>, problem: &Problem) -> Done
     requires off { 1 ≤ (lengths problem.now Off).greatest }
     requires work { 1 ≤ (lengths problem.now Work).greatest }
@@ -229,11 +250,17 @@ fn put_turns(out: &mut Vec<u8>, problem: &Problem) -> Done
     if are_few(rounds(problem), all_days(problem)) {
         let rounds = rounds(problem);
         let cells = problem.cells();
-        put_rounds(out, rounds, room_for(rounds, cells), cells)
-    } else if are_few(lengths_of(problem, Class::Off), off_days(problem)) {
-        put_misfit(out, problem, Class::Off, off_days(problem))
-    } else if are_few(lengths_of(problem, Class::Work), work_days(problem)) {
-        put_misfit(out, problem, Class::Work, work_days(problem))
+        put_rounds(out, problem, rounds, room_for(rounds, cells), cells)
+    } else if are_few(
+        lengths_of(problem, Class::Off),
+        days_of(problem, Class::Off),
+    ) {
+        put_misfit(out, problem, Class::Off)
+    } else if are_few(
+        lengths_of(problem, Class::Work),
+        days_of(problem, Class::Work),
+    ) {
+        put_misfit(out, problem, Class::Work)
     } else {
         put_unlike(out, problem)
     }
@@ -249,21 +276,17 @@ fn has_no_block(problem: &Problem, class: Class) -> bool
 }
 
 // Appends why no number of blocks has as many days off, and days of work between, as there have to be.
-#[tactic(auto, unfolding(crate::specs::Counting::off_misfit_words))]
 fn put_off_misfit(out: &mut Vec<u8>, problem: &Problem) -> Done
     ensures { OnOk result (out.new.items ≡ out.old.items ++ off_misfit_words problem.now) }
 {
-    let off = off_days(problem);
-    let needed = needed_days(problem);
-    if problem.cells() < needed {
-        put(out, DEMAND_NEEDS)?;
-        put_days(out, needed)?;
-        put(out, OF_WORK_THERE_ARE)?;
-        put_number(out, u64::from(problem.cells()))
+    let off = days_of(problem, Class::Off);
+    let needed = days_asked(problem, Asked::Needed);
+    let cells = problem.cells();
+    if cells < needed {
+        let parts = [Days(needed), Number(cells)];
+        put_filled(out, problem, DEMAND_NEEDS, &parts)
     } else if off.greatest < off.least {
-        put(out, DEMAND_LEAVES)?;
-        put_span(out, off)?;
-        put(out, DAYS_OFF)
+        put_filled(out, problem, DEMAND_LEAVES, &[DayRange(off)])
     } else if has_no_block(problem, Class::Off) {
         put_no_block(out, problem, Class::Off)
     } else if has_no_block(problem, Class::Work) {
@@ -274,7 +297,6 @@ fn put_off_misfit(out: &mut Vec<u8>, problem: &Problem) -> Done
 }
 
 /// Appends why no number of blocks of the symbol fits.
-#[tactic(auto, unfolding(crate::specs::Counting::counted_words))]
 pub fn put_counted(out: &mut Vec<u8>, problem: &Problem, x: Symbol) -> Done
     requires { IsSymbol problem.now x }
     ensures { OnOk result (out.new.items ≡ out.old.items ++ counted_words problem.now x) }
@@ -282,6 +304,6 @@ pub fn put_counted(out: &mut Vec<u8>, problem: &Problem, x: Symbol) -> Done
     if x.number == 0 {
         put_off_misfit(out, problem)
     } else {
-        put_misfit(out, problem, Class::Shift(x), shift_days(problem, x.number))
+        put_misfit(out, problem, Class::Shift(x))
     }
 }

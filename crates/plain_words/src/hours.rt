@@ -1,55 +1,19 @@
-// The size of a problem, and the hours a week that its demand comes to.
-ghost use Rattle.std.specs.Prelude.{◌≡◌, ◌+◌, ◌*◌, ◌<◌, ◌≤◌, ◌++◌, true, false, OnOk};
+// The hours a week that the demand of a problem comes to.
+#![tactic(auto, using(crate::proofs::Joined::sum_more))]
+
+ghost use Rattle.std.specs.Prelude.{◌≡◌, ◌+◌, ◌*◌, ◌<◌, ◌≤◌, ◌++◌, OnOk};
 ghost use Rattle.rwsp_terms.specs.Instance.{shift_count, IsDay};
 ghost use Rattle.rwsp_terms.specs.declared.limits.TheConstants.{GREATEST_BOUND, MOST_DAYS, MOST_SHIFTS, MOST_WEEKS};
-ghost use Rattle.plain_words.specs.SentenceText.{next_shift_words, other_shifts_words, size_words, minutes_of, end_of, demanded_minutes, day_minutes, all_minutes, mean_tenths, tenths_words, hours_words};
+ghost use Rattle.plain_words.specs.Statements.{said};
+ghost use Rattle.plain_words.specs.Sentences.{minutes_of, end_of, demanded_minutes, day_minutes, all_minutes, mean_tenths, hours_statement};
 
-use crate::pieces::{COMMA, DOT, Done, FROM, HOURS, OF, SHIFT, SHIFTS, TO, put};
-use crate::rule_words::put_shift;
-use crate::words::{put_count, put_days, put_weeks};
+use crate::part::Part::Length;
+use crate::pieces::{Done, HOURS, HOURS_RANGE};
+use crate::statement::{Teller, put_line};
 use rwsp_model::Problem;
 use rwsp_terms::{Bounds, Symbol};
-use rwsp_text::put_number;
-
-// Appends the name of a shift behind another.
-fn put_next_shift(out: &mut Vec<u8>, problem: &Problem, number: u8) -> Done
-    requires { (0 < number) × (number ≤ shift_count problem.now) }
-    ensures { OnOk result (out.new.items ≡ out.old.items ++ next_shift_words problem.now number) }
-{
-    put(out, COMMA)?;
-    put_shift(out, problem, number)
-}
-
-// Appends the names of all shifts but the first.
-#[tactic(auto, using(crate::proofs::Joined::piece_more))]
-fn put_other_shifts(out: &mut Vec<u8>, problem: &Problem) -> Done
-    ensures { OnOk result (out.new.items ≡ out.old.items ++ other_shifts_words problem.now) }
-{
-    problem.prove_limits();
-    let others = problem.shifts() - 1;
-    for place in 0..others {
-        put_next_shift(out, problem, place + 2)?;
-    }
-    Ok(())
-}
-
-/// Appends the weeks, the days and the shifts.
-#[tactic(auto, unfolding(crate::specs::SentenceText::size_words))]
-pub fn put_size(out: &mut Vec<u8>, problem: &Problem) -> Done
-    ensures { OnOk result (out.new.items ≡ out.old.items ++ size_words problem.now) }
-{
-    let shifts = problem.shifts();
-    put_weeks(out, problem.weeks())?;
-    put(out, OF)?;
-    put_days(out, problem.days())?;
-    put(out, COMMA)?;
-    put_count(out, u64::from(shifts), SHIFT, SHIFTS)?;
-    put_shift(out, problem, 1)?;
-    put_other_shifts(out, problem)
-}
 
 // How many minutes a shift has.
-#[tactic(auto, using(crate::proofs::Minutes::minutes_are))]
 fn minutes_of(problem: &Problem, number: u8) -> u32
     requires { (0 < number) × (number ≤ shift_count problem.now) }
     ensures value { result ≡ minutes_of problem.now number }
@@ -78,7 +42,6 @@ fn demanded_minutes(problem: &Problem, is_most: bool, day: u32, number: u8) -> u
 }
 
 // The minutes that a day demands.
-#[tactic(auto, using(crate::proofs::Joined::sum_more))]
 fn day_minutes(problem: &Problem, is_most: bool, day: u32) -> u64
     requires { IsDay problem.now day }
     ensures value { result ≡ day_minutes problem.now is_most day }
@@ -92,7 +55,6 @@ fn day_minutes(problem: &Problem, is_most: bool, day: u32) -> u64
 }
 
 // The minutes that all days demand.
-#[tactic(auto, using(crate::proofs::Joined::sum_more))]
 fn all_minutes(problem: &Problem, is_most: bool) -> u64
     ensures value { result ≡ all_minutes problem.now is_most }
     ensures few { result ≤ MOST_DAYS * (MOST_SHIFTS * (MOST_WEEKS * GREATEST_BOUND)) }
@@ -113,32 +75,22 @@ fn mean_tenths(problem: &Problem, is_most: bool) -> u64
     (all_minutes(problem, is_most) + 3 * weeks) / (6 * weeks)
 }
 
-// Appends tenths.
-#[tactic(auto, unfolding(crate::specs::SentenceText::tenths_words))]
-fn put_tenths(out: &mut Vec<u8>, tenths: u64) -> Done
-    ensures { OnOk result (out.new.items ≡ out.old.items ++ tenths_words tenths) }
-{
-    put_number(out, tenths / 10)?;
-    put(out, DOT)?;
-    put_number(out, tenths % 10)
-}
-
 /// Appends the mean of the hours a week that the demand comes to. It costs a step for each shift on each day.
-#[tactic(auto, unfolding(crate::specs::SentenceText::hours_words))]
-pub fn put_hours(out: &mut Vec<u8>, problem: &Problem) -> Done
-    ensures { OnOk result (out.new.items
-        ≡ out.old.items ++ hours_words (mean_tenths problem.now false) (mean_tenths problem.now true)) }
+pub fn put_hours(out: &mut Vec<u8>, by: &Teller) -> Done
+    ensures { OnOk result (out.new.items ≡ out.old.items ++ said by.now (hours_statement by.now.problem.now)) }
 {
-    let least = mean_tenths(problem, false);
-    let greatest = mean_tenths(problem, true);
-    if least == greatest {
-        put_tenths(out, least)?;
-        put(out, HOURS)
+    let least = mean_tenths(by.problem, false);
+    let greatest = mean_tenths(by.problem, true);
+    let text = if least == greatest {
+        HOURS
     } else {
-        put(out, FROM)?;
-        put_tenths(out, least)?;
-        put(out, TO)?;
-        put_tenths(out, greatest)?;
-        put(out, HOURS)
-    }
+        HOURS_RANGE
+    };
+    let parts = [
+        Length(least / 10),
+        Length(least % 10),
+        Length(greatest / 10),
+        Length(greatest % 10),
+    ];
+    put_line(out, by, text, &parts)
 }

@@ -1,42 +1,40 @@
 // A rule in words.
-ghost use Rattle.std.specs.Prelude.{◌≡◌, ◌++◌, ◌+◌, ◌-◌, ◌*◌, ◌<◌, ◌≤◌, length, slice_get, IfSome, OnOk, Some};
+#![tactic(auto, unfolding(crate::specs::RuleWords::class_words, crate::specs::RuleWords::most_words, crate::specs::RuleWords::least_words, crate::specs::RuleWords::pair_words, crate::specs::RuleWords::triple_words, crate::specs::RuleWords::wanted_words, crate::specs::RuleWords::off_words, crate::specs::RuleWords::crossed_words, crate::specs::RuleWords::demand_words, crate::specs::RuleWords::day_words, crate::specs::RuleWords::rule_words, crate::specs::RuleWords::rule_in_words), using(crate::proofs::Joined::piece_more, crate::proofs::Joined::none_found))]
+
+ghost use Rattle.std.specs.Prelude.{◌≡◌, ◌++◌, ◌+◌, ◌-◌, ◌*◌, ◌<◌, ◌≤◌, IfSome, OnOk, Some};
 ghost use Rattle.std.specs.List.{flat_map, range_with_len};
 ghost use Rattle.rwsp_terms.specs.declared.limits.TheConstants.{MOST_WEEKS, MOST_SHIFTS};
-ghost use Rattle.rwsp_terms.specs.Instance.{bounds, shift_count, column_least, column_greatest, IsClass, IsDay, symbol_numbered};
+ghost use Rattle.rwsp_terms.specs.Instance.{bounds, shift_count, column_least, column_greatest, IsClass, IsDay};
 ghost use Rattle.rwsp_terms.specs.Roster.{IsRule};
 ghost use Rattle.rwsp_terms.specs.Rules.{rule_of};
 ghost use Rattle.rwsp_model.specs.RuleNumbers.{place_of};
-ghost use Rattle.rwsp_model.specs.Sequences.{IsPairOf, IsTripleOf};
-ghost use Rattle.plain_words.specs.RuleWords.{class_words, most_words, least_words, pair_words, triple_words, pair_in_words, triple_in_words, shift_words, wanted_words, off_range, off_words, is_crossed, crossed_words, first_crossed, demand_words, day_words, rule_words, rule_in_words, numbered_words};
+ghost use Rattle.plain_words.specs.RuleWords.{class_words, most_words, least_words, pair_words, triple_words, wanted_words, off_range, off_words, is_crossed, crossed_words, first_crossed, demand_words, day_words, rule_words, rule_in_words};
 
 use crate::pieces::{
-    AT_LEAST, AT_MOST, BLANK, COLON, COMMA, DAY_FRONT, DAYS_OFF, DOTS, Done, FOR_OFF, IN_A_ROW,
-    IS_CROSSED, NEEDS, NEVER, OF, OF_WORK, THEN, put,
+    AT_LEAST, AT_MOST, BLANK, COLON, COMMA, DAY_FRONT, DAY_OFF, DAYS_OFF, DOTS, Done, FOR_OFF,
+    IN_A_ROW, IS_CROSSED, NEEDS, NEVER, OF, OF_WORK, THEN, put,
 };
-use crate::words::{put_days, put_name_words, put_range, put_symbol_words, put_weeks};
+use crate::words::{put_days, put_range, put_shift, put_symbol, put_weeks};
 use rwsp_model::{Problem, number_of, rule_at, rule_count};
 use rwsp_terms::{Bounds, Class, Rule, Symbol};
 use rwsp_text::put_number;
 
 /// Appends the days that the blocks of a class are made of.
-#[tactic(auto, unfolding(crate::specs::RuleWords::class_words))]
 pub fn put_class(out: &mut Vec<u8>, problem: &Problem, class: Class) -> Done
-    requires { IsClass problem.now class }
     ensures { OnOk result (out.new.items ≡ out.old.items ++ class_words problem.now class) }
 {
     match class {
         Class::Shift(shift) => {
             put(out, OF)?;
-            put_name_words(out, problem.name(shift))
+            put_shift(out, problem, u32::from(shift.number))
         }
         Class::Off => put(out, DAYS_OFF),
         Class::Work => put(out, OF_WORK),
     }
 }
 
-/// Appends the greatest length of the blocks of a class.
-#[tactic(auto, unfolding(crate::specs::RuleWords::most_words))]
-pub fn put_most(out: &mut Vec<u8>, problem: &Problem, class: Class) -> Done
+// Appends the greatest length of the blocks of a class.
+fn put_most(out: &mut Vec<u8>, problem: &Problem, class: Class) -> Done
     requires { IsClass problem.now class }
     ensures { OnOk result (out.new.items ≡ out.old.items ++ most_words problem.now class) }
 {
@@ -46,9 +44,8 @@ pub fn put_most(out: &mut Vec<u8>, problem: &Problem, class: Class) -> Done
     put(out, IN_A_ROW)
 }
 
-/// Appends the least length of the blocks of a class.
-#[tactic(auto, unfolding(crate::specs::RuleWords::least_words))]
-pub fn put_least(out: &mut Vec<u8>, problem: &Problem, class: Class) -> Done
+// Appends the least length of the blocks of a class.
+fn put_least(out: &mut Vec<u8>, problem: &Problem, class: Class) -> Done
     requires { IsClass problem.now class }
     ensures { OnOk result (out.new.items ≡ out.old.items ++ least_words problem.now class) }
 {
@@ -59,78 +56,38 @@ pub fn put_least(out: &mut Vec<u8>, problem: &Problem, class: Class) -> Done
 }
 
 // Appends a forbidden pair.
-#[tactic(auto, unfolding(crate::specs::RuleWords::pair_words))]
 fn put_pair(out: &mut Vec<u8>, problem: &Problem, pair: (Symbol, Symbol)) -> Done
-    requires { IsPairOf problem.now pair }
     ensures { OnOk result (out.new.items ≡ out.old.items ++ pair_words problem.now pair) }
 {
     put(out, NEVER)?;
-    put_symbol_words(out, problem, pair.0)?;
+    put_symbol(out, problem, pair.0, DAY_OFF)?;
     put(out, THEN)?;
-    put_symbol_words(out, problem, pair.1)
+    put_symbol(out, problem, pair.1, DAY_OFF)
 }
 
 // Appends a forbidden triple.
-#[tactic(auto, unfolding(crate::specs::RuleWords::triple_words))]
 fn put_triple(out: &mut Vec<u8>, problem: &Problem, triple: (Symbol, Symbol, Symbol)) -> Done
-    requires { IsTripleOf problem.now triple }
     ensures { OnOk result (out.new.items ≡ out.old.items ++ triple_words problem.now triple) }
 {
-    put(out, NEVER)?;
-    put_symbol_words(out, problem, triple.0)?;
+    put_pair(out, problem, (triple.0, triple.1))?;
     put(out, THEN)?;
-    put_symbol_words(out, problem, triple.1)?;
-    put(out, THEN)?;
-    put_symbol_words(out, problem, triple.2)
-}
-
-/// Appends the forbidden pair at a place.
-#[tactic(auto, unfolding(crate::specs::RuleWords::pair_in_words))]
-pub fn put_pair_at(out: &mut Vec<u8>, problem: &Problem, place: u32) -> Done
-    requires { place < length problem.now.pairs }
-    ensures { OnOk result (out.new.items
-        ≡ out.old.items ++ pair_in_words problem.now (slice_get problem.now.pairs place)) }
-{
-    problem.prove_limits();
-    put_pair(out, problem, problem.pairs()[place as usize])
-}
-
-/// Appends the forbidden triple at a place.
-#[tactic(auto, unfolding(crate::specs::RuleWords::triple_in_words))]
-pub fn put_triple_at(out: &mut Vec<u8>, problem: &Problem, place: u32) -> Done
-    requires { place < length problem.now.triples }
-    ensures { OnOk result (out.new.items
-        ≡ out.old.items ++ triple_in_words problem.now (slice_get problem.now.triples place)) }
-{
-    problem.prove_limits();
-    put_triple(out, problem, problem.triples()[place as usize])
-}
-
-/// Appends the name of a shift by its number.
-#[tactic(auto, unfolding(crate::specs::RuleWords::shift_words))]
-pub fn put_shift(out: &mut Vec<u8>, problem: &Problem, number: u8) -> Done
-    requires { (0 < number) × (number ≤ shift_count problem.now) }
-    ensures { OnOk result (out.new.items ≡ out.old.items ++ shift_words problem.now number) }
-{
-    put_name_words(out, problem.name(Symbol { number }))
+    put_symbol(out, problem, triple.2, DAY_OFF)
 }
 
 // Appends what is demanded of a shift on a day.
-#[tactic(auto, unfolding(crate::specs::RuleWords::wanted_words))]
 fn put_wanted(out: &mut Vec<u8>, problem: &Problem, day: u32, number: u8) -> Done
     requires day { IsDay problem.now day }
     requires shift { (0 < number) × (number ≤ shift_count problem.now) }
     ensures { OnOk result (out.new.items ≡ out.old.items ++ wanted_words problem.now day number) }
 {
-    put_shift(out, problem, number)?;
+    put_shift(out, problem, u32::from(number))?;
     put(out, BLANK)?;
     put_range(out, problem.demand(Symbol { number }, day))?;
     put(out, COMMA)
 }
 
-/// Appends what is demanded of each shift on a day.
-#[tactic(auto, using(crate::proofs::Joined::piece_more))]
-pub(crate) fn put_all_wanted(out: &mut Vec<u8>, problem: &Problem, day: u32) -> Done
+// Appends what is demanded of each shift on a day.
+fn put_all_wanted(out: &mut Vec<u8>, problem: &Problem, day: u32) -> Done
     requires { IsDay problem.now day }
     ensures { OnOk result (out.new.items
         ≡ out.old.items ++ flat_map (wanted_words problem.now day) (range_with_len 1 (shift_count problem.now))) }
@@ -151,7 +108,7 @@ pub fn least_of_day(problem: &Problem, day: u32) -> u32
 }
 
 /// Of how many weeks the shifts of a day leave the day off.
-pub(crate) fn off_range(problem: &Problem, day: u32) -> Bounds
+pub fn off_range(problem: &Problem, day: u32) -> Bounds
     requires { IsDay problem.now day }
     ensures { result ≡ off_range problem.now day }
 {
@@ -162,7 +119,6 @@ pub(crate) fn off_range(problem: &Problem, day: u32) -> Bounds
 }
 
 // Appends what the shifts of a day leave for the day off, or that they need more weeks than there are.
-#[tactic(auto, unfolding(crate::specs::RuleWords::off_words))]
 fn put_off(out: &mut Vec<u8>, problem: &Problem, day: u32) -> Done
     requires { IsDay problem.now day }
     ensures { OnOk result (out.new.items ≡ out.old.items ++ off_words problem.now day) }
@@ -189,14 +145,10 @@ pub fn is_crossed(problem: &Problem, day: u32, number: u8) -> bool
     range.greatest < range.least
 }
 
-/// Appends that no number meets the demand of a shift on a day.
-#[tactic(auto, unfolding(crate::specs::RuleWords::crossed_words))]
-pub fn put_crossed(out: &mut Vec<u8>, problem: &Problem, day: u32, number: u8) -> Done
-    requires day { IsDay problem.now day }
-    requires shift { (0 < number) × (number ≤ shift_count problem.now) }
-    ensures { OnOk result (out.new.items ≡ out.old.items ++ crossed_words problem.now day number) }
+/// Appends that no number meets the demand of a shift.
+pub fn put_crossed(out: &mut Vec<u8>, problem: &Problem, number: u32, range: Bounds) -> Done
+    ensures { OnOk result (out.new.items ≡ out.old.items ++ crossed_words problem.now number range) }
 {
-    let range = problem.demand(Symbol { number }, day);
     put_shift(out, problem, number)?;
     put(out, BLANK)?;
     put_number(out, u64::from(range.least))?;
@@ -206,8 +158,7 @@ pub fn put_crossed(out: &mut Vec<u8>, problem: &Problem, day: u32, number: u8) -
 }
 
 /// The first shift whose demand no number meets on a day.
-#[tactic(auto, using(crate::proofs::Joined::none_found))]
-pub(crate) fn first_crossed(problem: &Problem, day: u32) -> Option<u8>
+pub fn first_crossed(problem: &Problem, day: u32) -> Option<u8>
     requires { IsDay problem.now day }
     ensures value { result ≡ first_crossed problem.now day }
     ensures within { IfSome result (λ x. (0 < x) × (x ≤ shift_count problem.now)) }
@@ -221,14 +172,16 @@ pub(crate) fn first_crossed(problem: &Problem, day: u32) -> Option<u8>
 }
 
 // Appends what is wanted on a day.
-#[tactic(auto, unfolding(crate::specs::RuleWords::demand_words))]
 fn put_demand(out: &mut Vec<u8>, problem: &Problem, day: u32) -> Done
     requires { IsDay problem.now day }
     ensures { OnOk result (out.new.items
         ≡ out.old.items ++ demand_words problem.now day (first_crossed problem.now day)) }
 {
     match first_crossed(problem, day) {
-        Some(number) => put_crossed(out, problem, day, number),
+        Some(number) => {
+            let range = problem.demand(Symbol { number }, day);
+            put_crossed(out, problem, u32::from(number), range)
+        }
         None => {
             put_all_wanted(out, problem, day)?;
             put_off(out, problem, day)
@@ -237,7 +190,6 @@ fn put_demand(out: &mut Vec<u8>, problem: &Problem, day: u32) -> Done
 }
 
 // Appends the rule of a day.
-#[tactic(auto, unfolding(crate::specs::RuleWords::day_words))]
 fn put_day(out: &mut Vec<u8>, problem: &Problem, day: u32) -> Done
     requires { IsDay problem.now day }
     ensures { OnOk result (out.new.items ≡ out.old.items ++ day_words problem.now day) }
@@ -254,6 +206,7 @@ pub fn put_rule_words(out: &mut Vec<u8>, problem: &Problem, rule: Rule) -> Done
     requires { IsRule problem.now rule }
     ensures { OnOk result (out.new.items ≡ out.old.items ++ rule_words problem.now rule) }
 {
+    problem.prove_limits();
     match rule {
         Rule::MaxShift(shift) => put_most(out, problem, Class::Shift(shift)),
         Rule::MinShift(shift) => put_least(out, problem, Class::Shift(shift)),
@@ -261,14 +214,14 @@ pub fn put_rule_words(out: &mut Vec<u8>, problem: &Problem, rule: Rule) -> Done
         Rule::MinOff => put_least(out, problem, Class::Off),
         Rule::MaxWork => put_most(out, problem, Class::Work),
         Rule::MinWork => put_least(out, problem, Class::Work),
-        Rule::Pair(place) => put_pair_at(out, problem, place),
-        Rule::Triple(place) => put_triple_at(out, problem, place),
+        Rule::Pair(place) => put_pair(out, problem, problem.pairs()[place as usize]),
+        Rule::Triple(place) => put_triple(out, problem, problem.triples()[place as usize]),
         Rule::Day(day) => put_day(out, problem, day),
     }
 }
 
 /// The number of a rule.
-pub(crate) fn rule_number(problem: &Problem, rule: Rule) -> u32
+pub fn rule_number(problem: &Problem, rule: Rule) -> u32
     requires { IsRule problem.now rule }
     ensures value { result ≡ place_of problem.now rule + 1 }
     ensures named { rule_of problem.now result ≡ Some rule }
@@ -276,9 +229,8 @@ pub(crate) fn rule_number(problem: &Problem, rule: Rule) -> u32
     number_of(problem, rule)
 }
 
-// Appends the rule with a number, or nothing where there is none.
-#[tactic(auto, unfolding(crate::specs::RuleWords::rule_in_words))]
-pub(crate) fn put_rule_in(out: &mut Vec<u8>, problem: &Problem, number: u32) -> Done
+/// Appends the rule with a number, or nothing where there is none.
+pub fn put_rule_in(out: &mut Vec<u8>, problem: &Problem, number: u32) -> Done
     ensures { OnOk result (out.new.items ≡ out.old.items ++ rule_in_words problem.now (rule_of problem.now number)) }
 {
     if 0 < number && number <= rule_count(problem) {
@@ -286,14 +238,4 @@ pub(crate) fn put_rule_in(out: &mut Vec<u8>, problem: &Problem, number: u32) -> 
     } else {
         Ok(())
     }
-}
-
-/// Appends a rule behind its number.
-#[tactic(auto, unfolding(crate::specs::RuleWords::numbered_words))]
-pub(crate) fn put_numbered(out: &mut Vec<u8>, problem: &Problem, number: u32) -> Done
-    ensures { OnOk result (out.new.items ≡ out.old.items ++ numbered_words problem.now number) }
-{
-    put_number(out, u64::from(number))?;
-    put(out, COLON)?;
-    put_rule_in(out, problem, number)
 }

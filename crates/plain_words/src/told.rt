@@ -1,186 +1,276 @@
-// What is told of refusals, of rosters that break a rule, of verdicts on numbers of weeks and of changes.
-ghost use Rattle.std.specs.Prelude.{◌≡◌, ◌↔◌, ◌*◌, ◌++◌, ◌∷◌, ◌≤◌, ◌<◌, [], length, All, IfSome, OnOk, IsTrue, count_by};
-ghost use Rattle.std.specs.List.{AllZip, list_any, flat_map};
-ghost use Rattle.rwsp_terms.specs.Instance.{shift_count, IsDay, IsSymbol};
-ghost use Rattle.rwsp_terms.specs.Roster.{weeks_with};
-ghost use Rattle.refutation_log.specs.RefusalText.{HasSymbols};
+// What is told of refusals, of rosters that break a rule and of verdicts on numbers of weeks.
+#![tactic(auto, unfolding(crate::specs::Statements::next_symbol, crate::specs::Statements::row_words, crate::specs::Statements::line, crate::specs::Statements::statement_words), using(crate::proofs::Joined::one_of, crate::proofs::Lines::own_sized, crate::proofs::Lines::sized_failure))]
+
+ghost use Rattle.std.specs.Prelude.{◌≡◌, ◌*◌, ◌++◌, ◌∷◌, ◌≤◌, [], length, IfSome, OnOk, IsTrue};
+ghost use Rattle.std.specs.List.{find, flat_map, range_with_len};
+ghost use Rattle.rwsp_terms.specs.Instance.{shift_count, IsDay};
 ghost use Rattle.roster_checker.specs.BreaksText.{HasBroken};
 ghost use Rattle.crew_size.specs.RefusalText.{NamesItsOwn};
 ghost use Rattle.crew_size.specs.Sizes.{with_weeks, IsSize};
-ghost use Rattle.ways_out.specs.Answers.{HasSteps};
-ghost use Rattle.ways_out.specs.Changes.{changes};
-ghost use Rattle.ways_out.specs.Loosened.{IsChange};
-ghost use Rattle.ways_out.specs.Texts.{is_open, is_way};
 ghost use Rattle.plain_words.specs.Statements as Told;
-ghost use Rattle.plain_words.specs.Statements.{next_symbol, row_words, statement_words, told_line, told_lines};
+ghost use Rattle.plain_words.specs.Statements.{next_symbol, row_words, said, told_line, told_lines};
 ghost use Rattle.plain_words.specs.RuleWords.{first_crossed};
-ghost use Rattle.plain_words.specs.Told.{log_refusal_statement, roster_refusal_statement, is_size, failure_statement, failed_size, staff_refusal_statements, staffed_statements, is_outside, first_outside, broken_day, broken_statement, way_statement, way_statements, ways_front, ways_statements};
+ghost use Rattle.plain_words.specs.Told.{at_line, at_rule, log_refusal_statement, roster_refusal_statement, breaks, rule_broken, wanted_range, class_of, is_outside, first_outside, broken_day, broken_statement, is_size, failure_statement, failed_size, staff_refusal_statements, staffed_statements};
 
-use crate::broken::{put_breaks_line, put_broken, put_miscounted_line};
+use crate::filled::put_filled;
+use crate::part::Part::{Days, Number, OfClass, Range, Rule as Stated, Weeks};
 use crate::pieces::{
-    COLON, COMMA, Done, ESCAPES, FOR_WEEKS, LINE, LINE_END, LISTS_RULE, LOG_ENDS, LOG_EXTRA,
-    LOG_FAILS, LOG_FORM, LOG_IDLE, LOG_NAME, LOG_OPEN, LOG_TURN, LONG_RULE, OF_RULES_FRONT,
-    OTHER_WEEKS, ROSTER_HAS, ROSTER_UNKNOWN, ROSTER_WIDTH, STAFF_ENDS, STAFF_FORM, STAFF_PASSES,
-    TOLD, UNNAMED, WAYS_FRONT, put,
+    BREAKS, COMMA, DAY_OFF, Done, ESCAPES, FOR_WEEKS, FORBIDDEN, LINE_END, LOG_ENDS, LOG_EXTRA,
+    LOG_FAILS, LOG_FORM, LOG_IDLE, LOG_NAME, LOG_OPEN, LOG_TURN, LONG_RULE, MISCOUNTED,
+    ROSTER_UNKNOWN, ROSTER_WEEKS, ROSTER_WIDTH, STAFF_ENDS, STAFF_FORM, STAFF_PASSES, TOLD,
+    TOO_LONG, TOO_SHORT, UNNAMED, put,
 };
-use crate::rule_words::{first_crossed, put_rule_in};
-use crate::statement::{put_least_line, put_none_line, put_numbered_told, put_plain_told};
-use crate::way_words::{put_others_line, put_way_line};
-use crate::words::{put_symbol_words, put_weeks};
+use crate::rule_words::{first_crossed, off_range};
+use crate::statement::{Teller, put_enough_told, put_line, put_none_told, put_told, told_by};
+use crate::words::put_symbol;
 use crew_size::{StaffRefusal, Staffed, with_weeks};
 use refutation_terms::LogRefusal;
 use roster_checker::Broken;
 use roster_print::RosterRefusal;
 use rwsp_model::{Problem, rule_at, weeks_with};
 use rwsp_terms::limits::{MOST_CELLS, MOST_WEEKS};
-use rwsp_terms::{Rule, Symbol};
-use rwsp_text::put_number;
-use ways_out::{Change, Outcome, changes_in};
-
-// Appends a number of a line and why the line is refused, or another number between two pieces.
-#[tactic(auto, unfolding(crate::specs::Statements::statement_words))]
-fn put_around(
-    out: &mut Vec<u8>,
-    problem: &Problem,
-    front: &[u8],
-    number: u32,
-    behind: &[u8],
-) -> Done
-    ensures { OnOk result (out.new.items
-        ≡ out.old.items ++ statement_words problem.now (Told.Numbered front.now number behind.now)) }
-{
-    put(out, front)?;
-    put_number(out, u64::from(number))?;
-    put(out, behind)
-}
-
-// Appends a rule that a line of a log may not rest on or list, and why.
-#[tactic(auto, unfolding(crate::specs::Statements::statement_words))]
-fn put_bad_rule(
-    out: &mut Vec<u8>,
-    problem: &Problem,
-    line: u32,
-    does: &[u8],
-    rule: u32,
-    why: &[u8],
-) -> Done
-    ensures { OnOk result (out.new.items
-        ≡ out.old.items ++ statement_words problem.now (Told.BadRule line does.now rule why.now)) }
-{
-    put(out, LINE)?;
-    put_number(out, u64::from(line))?;
-    put(out, does)?;
-    put_number(out, u64::from(rule))?;
-    put(out, why)?;
-    put_rule_in(out, problem, rule)
-}
-
-// Appends a symbol behind another.
-#[tactic(auto, unfolding(crate::specs::Statements::next_symbol))]
-fn put_next(out: &mut Vec<u8>, problem: &Problem, x: Symbol) -> Done
-    requires { IsSymbol problem.now x }
-    ensures { OnOk result (out.new.items ≡ out.old.items ++ next_symbol problem.now x) }
-{
-    put(out, COMMA)?;
-    put_symbol_words(out, problem, x)
-}
+use rwsp_terms::{Bounds, Class, Rule, Symbol};
 
 // Appends those behind the first.
 fn put_others(out: &mut Vec<u8>, problem: &Problem, symbols: &[Symbol]) -> Done
-    requires { All (IsSymbol problem.now) symbols.now }
     ensures { OnOk result (out.new.items ≡ out.old.items ++ flat_map (next_symbol problem.now) symbols.now) }
 {
     for symbol in symbols {
-        put_next(out, problem, *symbol)?;
+        put(out, COMMA)?;
+        put_symbol(out, problem, *symbol, DAY_OFF)?;
     }
     Ok(())
 }
 
 // Appends symbols in a row.
-#[tactic(auto, unfolding(crate::specs::Statements::row_words))]
 fn put_row(out: &mut Vec<u8>, problem: &Problem, symbols: &[Symbol]) -> Done
-    requires { All (IsSymbol problem.now) symbols.now }
     ensures { OnOk result (out.new.items ≡ out.old.items ++ row_words problem.now symbols.now) }
 {
     let Some((first, others)) = symbols.split_first() else {
         return Ok(());
     };
-    put_symbol_words(out, problem, *first)?;
+    put_symbol(out, problem, *first, DAY_OFF)?;
     put_others(out, problem, others)
 }
 
-// Appends which days in a row escape a line of a log.
-#[tactic(auto, unfolding(crate::specs::Statements::statement_words))]
-fn put_escapes(out: &mut Vec<u8>, problem: &Problem, line: u32, word: &[Symbol]) -> Done
-    requires { All (IsSymbol problem.now) word.now }
-    ensures { OnOk result (out.new.items
-        ≡ out.old.items ++ statement_words problem.now (Told.Escapes line word.now)) }
+// Appends the line of which days in a row escape a line of a log.
+fn put_escapes(out: &mut Vec<u8>, by: &Teller, number: u32, word: &[Symbol]) -> Done
+    ensures { OnOk result (out.new.items ≡ out.old.items ++ said by.now (Told.Escapes number word.now)) }
 {
-    put(out, LINE)?;
-    put_number(out, u64::from(line))?;
-    put(out, ESCAPES)?;
-    put_row(out, problem, word)
+    put(out, by.front)?;
+    put_filled(out, by.problem, ESCAPES, &[Number(number)])?;
+    put_row(out, by.problem, word)?;
+    put(out, LINE_END)
 }
 
-// Appends why a log is refused.
-#[tactic(auto, unfolding(crate::specs::Statements::statement_words))]
-fn put_log_refusal(out: &mut Vec<u8>, problem: &Problem, why: &LogRefusal) -> Done
-    requires { HasSymbols problem.now why.now }
-    ensures { OnOk result (out.new.items
-        ≡ out.old.items ++ statement_words problem.now (log_refusal_statement why.now)) }
+// Appends why a line of a text is refused, or another sentence with one number.
+fn put_at(out: &mut Vec<u8>, by: &Teller, text: &[u8], number: u32) -> Done
+    ensures { OnOk result (out.new.items ≡ out.old.items ++ said by.now (at_line text.now number)) }
+{
+    put_line(out, by, text, &[Number(number)])
+}
+
+// Appends why a line of a log is refused that rests on a rule, or lists one.
+fn put_at_rule(out: &mut Vec<u8>, by: &Teller, text: &[u8], number: u32, rule: u32) -> Done
+    ensures { OnOk result (out.new.items ≡ out.old.items ++ said by.now (at_rule text.now number rule)) }
+{
+    let parts = [Number(number), Number(rule), Stated(rule)];
+    put_line(out, by, text, &parts)
+}
+
+/// Appends why a log is refused.
+pub fn put_log_refusal(out: &mut Vec<u8>, by: &Teller, why: &LogRefusal) -> Done
+    ensures { OnOk result (out.new.items ≡ out.old.items ++ said by.now (log_refusal_statement why.now)) }
 {
     match why {
-        LogRefusal::Form(line) => put_around(out, problem, LINE, *line, LOG_FORM),
-        LogRefusal::Name(line) => put_around(out, problem, LINE, *line, LOG_NAME),
-        LogRefusal::Unnamed(line, rule) => {
-            put_bad_rule(out, problem, *line, OF_RULES_FRONT, *rule, UNNAMED)
-        }
-        LogRefusal::Idle(line) => put_around(out, problem, LINE, *line, LOG_IDLE),
-        LogRefusal::Long(line, rule) => {
-            put_bad_rule(out, problem, *line, LISTS_RULE, *rule, LONG_RULE)
-        }
-        LogRefusal::Fails(line) => put_around(out, problem, LINE, *line, LOG_FAILS),
-        LogRefusal::Escape(line, word) => put_escapes(out, problem, *line, word.symbols()),
-        LogRefusal::Unfinished(line) => put_around(out, problem, LINE, *line, LOG_OPEN),
-        LogRefusal::Ends => put(out, LOG_ENDS),
-        LogRefusal::Extra(line) => put_around(out, problem, LINE, *line, LOG_EXTRA),
-        LogRefusal::Turn(line) => put_around(out, problem, LINE, *line, LOG_TURN),
+        LogRefusal::Form(n) => put_at(out, by, LOG_FORM, *n),
+        LogRefusal::Name(n) => put_at(out, by, LOG_NAME, *n),
+        LogRefusal::Unnamed(n, rule) => put_at_rule(out, by, UNNAMED, *n, *rule),
+        LogRefusal::Idle(n) => put_at(out, by, LOG_IDLE, *n),
+        LogRefusal::Long(n, rule) => put_at_rule(out, by, LONG_RULE, *n, *rule),
+        LogRefusal::Fails(n) => put_at(out, by, LOG_FAILS, *n),
+        LogRefusal::Escape(n, word) => put_escapes(out, by, *n, word.symbols()),
+        LogRefusal::Unfinished(n) => put_at(out, by, LOG_OPEN, *n),
+        LogRefusal::Ends => put_line(out, by, LOG_ENDS, &[]),
+        LogRefusal::Extra(n) => put_at(out, by, LOG_EXTRA, *n),
+        LogRefusal::Turn(n) => put_at(out, by, LOG_TURN, *n),
     }
 }
 
 /// Tells why a log is refused.
-#[tactic(auto, unfolding(crate::specs::Statements::told_line), using(crate::proofs::Joined::one_of))]
 pub fn put_log_refusal_told(out: &mut Vec<u8>, problem: &Problem, why: &LogRefusal) -> Done
-    requires { HasSymbols problem.now why.now }
     ensures { OnOk result (out.new.items
         ≡ out.old.items ++ told_lines problem.now (log_refusal_statement why.now ∷ [])) }
 {
-    put(out, TOLD)?;
-    put_log_refusal(out, problem, why)?;
-    put(out, LINE_END)
+    put_log_refusal(out, &told_by(problem), why)
 }
 
 // Appends why a roster is refused.
-fn put_roster_refusal(out: &mut Vec<u8>, problem: &Problem, why: RosterRefusal) -> Done
-    ensures { OnOk result (out.new.items
-        ≡ out.old.items ++ statement_words problem.now (roster_refusal_statement why)) }
+fn put_roster_refusal(out: &mut Vec<u8>, by: &Teller, why: RosterRefusal) -> Done
+    ensures { OnOk result (out.new.items ≡ out.old.items ++ said by.now (roster_refusal_statement why)) }
 {
     match why {
-        RosterRefusal::Unknown(line) => put_around(out, problem, LINE, line, ROSTER_UNKNOWN),
-        RosterRefusal::Width(line) => put_around(out, problem, LINE, line, ROSTER_WIDTH),
-        RosterRefusal::Weeks(weeks) => put_around(out, problem, ROSTER_HAS, weeks, OTHER_WEEKS),
+        RosterRefusal::Unknown(n) => put_at(out, by, ROSTER_UNKNOWN, n),
+        RosterRefusal::Width(n) => put_at(out, by, ROSTER_WIDTH, n),
+        RosterRefusal::Weeks(n) => put_at(out, by, ROSTER_WEEKS, n),
     }
 }
 
 /// Tells why a roster is refused.
-#[tactic(auto, unfolding(crate::specs::Statements::told_line), using(crate::proofs::Joined::one_of))]
 pub fn put_roster_refusal_told(out: &mut Vec<u8>, problem: &Problem, why: RosterRefusal) -> Done
     ensures { OnOk result (out.new.items
         ≡ out.old.items ++ told_lines problem.now (roster_refusal_statement why ∷ [])) }
 {
-    put(out, TOLD)?;
-    put_roster_refusal(out, problem, why)?;
-    put(out, LINE_END)
+    put_roster_refusal(out, &told_by(problem), why)
+}
+
+// Appends that a roster breaks a rule, and the place, with so many days there.
+fn put_breaks(out: &mut Vec<u8>, by: &Teller, text: &[u8], broken: Broken, days: u32) -> Done
+    ensures { OnOk result (out.new.items ≡ out.old.items ++ said by.now (breaks text.now broken days)) }
+{
+    let parts = [
+        Number(broken.rule),
+        Stated(broken.rule),
+        Number(broken.week),
+        Number(broken.day),
+        Days(days),
+    ];
+    put_line(out, by, text, &parts)
+}
+
+// Appends how a roster breaks a rule.
+fn put_rule_broken(out: &mut Vec<u8>, by: &Teller, broken: Broken, rule: Rule) -> Done
+    ensures { OnOk result (out.new.items ≡ out.old.items ++ said by.now (rule_broken broken rule)) }
+{
+    let days = broken.length;
+    match rule {
+        Rule::MaxShift(_) | Rule::MaxOff | Rule::MaxWork => {
+            put_breaks(out, by, TOO_LONG, broken, days)
+        }
+        Rule::MinShift(_) | Rule::MinOff | Rule::MinWork => {
+            put_breaks(out, by, TOO_SHORT, broken, days.saturating_sub(2))
+        }
+        Rule::Pair(_) | Rule::Triple(_) => { put_breaks(out, by, FORBIDDEN, broken, days) }
+        Rule::Day(_) => put_breaks(out, by, BREAKS, broken, days),
+    }
+}
+
+// In which range the number of a symbol on a day has to be.
+fn wanted_range(problem: &Problem, number: u8, day: u32) -> Bounds
+    requires day { IsDay problem.now day }
+    requires number { number ≤ shift_count problem.now }
+    ensures { result ≡ wanted_range problem.now number day }
+{
+    if number == 0 {
+        off_range(problem, day)
+    } else {
+        problem.demand(Symbol { number }, day)
+    }
+}
+
+// The class of one symbol.
+fn class_of(number: u8) -> Class
+    ensures { result ≡ class_of number }
+{
+    if number == 0 {
+        Class::Off
+    } else {
+        Class::Shift(Symbol { number })
+    }
+}
+
+// Whether the number of weeks with the symbol on the day is not in the range that is demanded.
+fn is_outside(problem: &Problem, cells: &[Symbol], day: u32, number: u8) -> bool
+    requires cells { length cells.now ≡ problem.now.weeks * problem.now.days }
+    requires day { IsDay problem.now day }
+    requires number { number ≤ shift_count problem.now }
+    ensures { result ≡ is_outside problem.now cells.now day number }
+{
+    let symbol = Symbol { number };
+    let weeks = weeks_with(problem, cells, symbol, day) as i32;
+    !(problem.demand_least(symbol, day) <= weeks && weeks <= problem.demand_greatest(symbol, day))
+}
+
+// The first shift for which it isn't.
+#[tactic(auto, using(crate::proofs::Joined::none_found))]
+fn first_shift_outside(problem: &Problem, cells: &[Symbol], day: u32) -> Option<u8>
+    requires cells { length cells.now ≡ problem.now.weeks * problem.now.days }
+    requires day { IsDay problem.now day }
+    ensures value { result
+        ≡ find (is_outside problem.now cells.now day) (range_with_len 1 (shift_count problem.now)) }
+    ensures within { IfSome result (λ x. x ≤ shift_count problem.now) }
+{
+    for place in 0..problem.shifts() {
+        if is_outside(problem, cells, day, place + 1) {
+            return Some(place + 1);
+        }
+    }
+    None
+}
+
+// That shift, or else the day off, if it is outside.
+fn first_outside(problem: &Problem, cells: &[Symbol], day: u32) -> Option<u8>
+    requires cells { length cells.now ≡ problem.now.weeks * problem.now.days }
+    requires day { IsDay problem.now day }
+    ensures value { result ≡ first_outside problem.now cells.now day }
+    ensures within { IfSome result (λ x. x ≤ shift_count problem.now) }
+{
+    match first_shift_outside(problem, cells, day) {
+        Some(number) => Some(number),
+        None if is_outside(problem, cells, day, 0) => Some(0),
+        None => None,
+    }
+}
+
+// Tells how a roster breaks the rule of a day: how often it has a symbol, and how often it should.
+fn put_broken_day(
+    out: &mut Vec<u8>,
+    problem: &Problem,
+    cells: &[Symbol],
+    broken: Broken,
+    day: u32,
+) -> Done
+    requires cells { length cells.now ≡ problem.now.weeks * problem.now.days }
+    requires day { IsDay problem.now day }
+    ensures { OnOk result (out.new.items ≡ out.old.items ++ told_line problem.now
+        (broken_day problem.now cells.now broken day
+        (first_crossed problem.now day) (first_outside problem.now cells.now day))) }
+{
+    match (
+        first_crossed(problem, day),
+        first_outside(problem, cells, day),
+    ) {
+        (None, Some(number)) => {
+            let parts = [
+                Number(broken.rule),
+                Number(day),
+                Number(weeks_with(problem, cells, Symbol { number }, day)),
+                OfClass(class_of(number)),
+                Range(wanted_range(problem, number, day)),
+            ];
+            put_line(out, &told_by(problem), MISCOUNTED, &parts)
+        }
+        _ => put_rule_broken(out, &told_by(problem), broken, Rule::Day(day)),
+    }
+}
+
+/// Tells which rule a roster with these cells breaks, and where: of the rule of a day, how often the day has the first
+/// shift for which that isn't in its range, or the day off, and that range.
+pub fn put_broken_told(
+    out: &mut Vec<u8>,
+    problem: &Problem,
+    cells: &[Symbol],
+    broken: Broken,
+) -> Done
+    requires cells { length cells.now ≡ problem.now.weeks * problem.now.days }
+    requires broken { HasBroken problem.now broken }
+    ensures { OnOk result (out.new.items
+        ≡ out.old.items ++ told_lines problem.now (broken_statement problem.now cells.now broken ∷ [])) }
+{
+    match rule_at(problem, broken.rule) {
+        Rule::Day(day) => put_broken_day(out, problem, cells, broken, day),
+        rule => put_rule_broken(out, &told_by(problem), broken, rule),
+    }
 }
 
 // Whether the problem may have so many weeks.
@@ -204,59 +294,38 @@ fn failed_size(why: &StaffRefusal) -> Option<u32>
 }
 
 // Appends why a staff text fails.
-#[tactic(auto, unfolding(crate::specs::Statements::statement_words))]
-fn put_failure(out: &mut Vec<u8>, problem: &Problem, why: &StaffRefusal) -> Done
-    requires { NamesItsOwn problem.now why.now }
-    ensures { OnOk result (out.new.items ≡ out.old.items ++ statement_words problem.now (failure_statement why.now)) }
+fn put_failure(out: &mut Vec<u8>, by: &Teller, why: &StaffRefusal) -> Done
+    requires { NamesItsOwn by.now.problem.now why.now }
+    ensures { OnOk result (out.new.items
+        ≡ out.old.items ++ said by.now (failure_statement by.now.problem.now why.now)) }
 {
     match why {
-        StaffRefusal::Form(line) => put_around(out, problem, LINE, *line, STAFF_FORM),
-        StaffRefusal::Log(_, why) => put_log_refusal(out, problem, why),
-        StaffRefusal::Roster(_, why) => put_roster_refusal(out, problem, *why),
-        StaffRefusal::Breaks(_, broken) => put_broken(out, problem, *broken),
-        StaffRefusal::Ends => put(out, STAFF_ENDS),
+        StaffRefusal::Form(n) => put_at(out, by, STAFF_FORM, *n),
+        StaffRefusal::Log(_, why) => put_log_refusal(out, by, why),
+        StaffRefusal::Roster(_, why) => put_roster_refusal(out, by, *why),
+        StaffRefusal::Breaks(_, broken) => {
+            put_rule_broken(out, by, *broken, rule_at(by.problem, broken.rule))
+        }
+        StaffRefusal::Ends => put_line(out, by, STAFF_ENDS, &[]),
     }
 }
 
-// Appends why it fails, of the problem with so many weeks.
-#[tactic(auto, using(crate::proofs::Elements::own_sized))]
-fn put_sized(out: &mut Vec<u8>, problem: &Problem, weeks: u32, why: &StaffRefusal) -> Done
-    requires size { IsSize problem.now weeks }
-    requires own { NamesItsOwn problem.now why.now }
-    ensures { OnOk result (out.new.items
-        ≡ out.old.items ++ statement_words (with_weeks problem.now weeks) (failure_statement why.now)) }
-{
-    let sized = with_weeks(problem, weeks)?;
-    put_failure(out, &sized, why)?;
-    Ok(())
-}
-
 // Tells why it fails for so many weeks, of the problem with these.
-#[tactic(auto, unfolding(crate::specs::Statements::told_line, crate::specs::Statements::statement_words), using(crate::proofs::Joined::one_of))]
 fn put_sized_failure(out: &mut Vec<u8>, problem: &Problem, weeks: u32, why: &StaffRefusal) -> Done
     requires size { IsSize problem.now weeks }
     requires own { NamesItsOwn problem.now why.now }
-    ensures { OnOk result (out.new.items
-        ≡ out.old.items ++ told_lines problem.now (Told.ForSize weeks (failure_statement why.now) ∷ [])) }
+    ensures { OnOk result (out.new.items ≡ out.old.items ++ told_lines problem.now
+        (Told.ForSize weeks (failure_statement (with_weeks problem.now weeks) why.now) ∷ [])) }
 {
+    let sized = with_weeks(problem, weeks)?;
     put(out, TOLD)?;
-    put(out, FOR_WEEKS)?;
-    put_weeks(out, weeks)?;
-    put(out, COLON)?;
-    put_sized(out, problem, weeks, why)?;
-    put(out, LINE_END)
-}
-
-// Tells why it fails where no number of weeks is at stake.
-#[tactic(auto, unfolding(crate::specs::Statements::told_line), using(crate::proofs::Joined::one_of))]
-fn put_whole_failure(out: &mut Vec<u8>, problem: &Problem, why: &StaffRefusal) -> Done
-    requires { NamesItsOwn problem.now why.now }
-    ensures { OnOk result (out.new.items
-        ≡ out.old.items ++ told_lines problem.now (failure_statement why.now ∷ [])) }
-{
-    put(out, TOLD)?;
-    put_failure(out, problem, why)?;
-    put(out, LINE_END)
+    put_filled(out, problem, FOR_WEEKS, &[Weeks(weeks)])?;
+    let by = Teller {
+        front: b"".as_slice(),
+        problem: &sized,
+    };
+    put_failure(out, &by, why)?;
+    Ok(())
 }
 
 /// Tells why a staff text is refused; nothing, where it is for a number of weeks that the problem can't have.
@@ -266,7 +335,7 @@ pub fn put_staff_refusal_told(out: &mut Vec<u8>, problem: &Problem, why: &StaffR
         ≡ out.old.items ++ told_lines problem.now (staff_refusal_statements problem.now why.now)) }
 {
     match failed_size(why) {
-        None => put_whole_failure(out, problem, why),
+        None => put_failure(out, &told_by(problem), why),
         Some(weeks) if is_size(problem, weeks) => put_sized_failure(out, problem, weeks, why),
         Some(_) => Ok(()),
     }
@@ -276,159 +345,9 @@ pub fn put_staff_refusal_told(out: &mut Vec<u8>, problem: &Problem, why: &StaffR
 pub fn put_staffed_told(out: &mut Vec<u8>, problem: &Problem, staffed: Staffed) -> Done
     ensures { OnOk result (out.new.items ≡ out.old.items ++ told_lines problem.now (staffed_statements staffed)) }
 {
-    put_plain_told(out, problem, STAFF_PASSES)?;
+    put_told(out, problem, STAFF_PASSES, &[])?;
     match staffed {
-        Staffed::Least(low, weeks) => put_least_line(out, problem, low, weeks),
-        Staffed::NoneTo(low, last) => put_none_line(out, problem, low, last),
+        Staffed::Least(low, weeks) => put_enough_told(out, problem, low, weeks),
+        Staffed::NoneTo(low, last) => put_none_told(out, problem, low, last),
     }
-}
-
-// Whether the number of weeks with the symbol on the day is not in the range that is demanded.
-fn is_outside(problem: &Problem, cells: &[Symbol], day: u32, number: u8) -> bool
-    requires cells { length cells.now ≡ problem.now.weeks * problem.now.days }
-    requires day { IsDay problem.now day }
-    requires number { number ≤ shift_count problem.now }
-    ensures { result ≡ is_outside problem.now cells.now day number }
-{
-    let symbol = Symbol { number };
-    let weeks = weeks_with(problem, cells, symbol, day) as i32;
-    !(problem.demand_least(symbol, day) <= weeks && weeks <= problem.demand_greatest(symbol, day))
-}
-
-// The first shift for which it isn't, or else the day off.
-fn first_outside(problem: &Problem, cells: &[Symbol], day: u32) -> Option<u8>
-    requires cells { length cells.now ≡ problem.now.weeks * problem.now.days }
-    requires day { IsDay problem.now day }
-    ensures value { result ≡ first_outside problem.now cells.now day }
-    ensures within { IfSome result (λ x. x ≤ shift_count problem.now) }
-{
-    for place in 0..problem.shifts() {
-        if is_outside(problem, cells, day, place + 1) {
-            return Some(place + 1);
-        }
-    }
-    if is_outside(problem, cells, day, 0) {
-        Some(0)
-    } else {
-        None
-    }
-}
-
-// Tells how a roster breaks the rule of a day.
-fn put_broken_day_told(
-    out: &mut Vec<u8>,
-    problem: &Problem,
-    cells: &[Symbol],
-    broken: Broken,
-    day: u32,
-) -> Done
-    requires cells { length cells.now ≡ problem.now.weeks * problem.now.days }
-    requires day { IsDay problem.now day }
-    requires broken { HasBroken problem.now broken }
-    ensures { OnOk result (out.new.items ≡ out.old.items ++ told_line problem.now
-        (broken_day problem.now cells.now broken day
-        (first_crossed problem.now day) (first_outside problem.now cells.now day))) }
-{
-    match (
-        first_crossed(problem, day),
-        first_outside(problem, cells, day),
-    ) {
-        (None, Some(number)) => {
-            let count = weeks_with(problem, cells, Symbol { number }, day);
-            put_miscounted_line(out, problem, broken.rule, day, number, count)
-        }
-        _ => put_breaks_line(out, problem, broken),
-    }
-}
-
-/// Tells which rule a roster with these cells breaks, and where: of the rule of a day, how often the day has the first
-/// shift for which that isn't in its range, or the day off, and that range.
-#[tactic(auto, using(crate::proofs::Joined::one_of))]
-pub fn put_broken_told(
-    out: &mut Vec<u8>,
-    problem: &Problem,
-    cells: &[Symbol],
-    broken: Broken,
-) -> Done
-    requires cells { length cells.now ≡ problem.now.weeks * problem.now.days }
-    requires broken { HasBroken problem.now broken }
-    ensures { OnOk result (out.new.items
-        ≡ out.old.items ++ told_lines problem.now (broken_statement problem.now cells.now broken ∷ [])) }
-{
-    match rule_at(problem, broken.rule) {
-        Rule::Day(day) => put_broken_day_told(out, problem, cells, broken, day),
-        _ => put_breaks_line(out, problem, broken),
-    }
-}
-
-// Whether a change helps.
-fn has_way(outcomes: &[Outcome]) -> bool
-    ensures { result ≡ list_any is_way outcomes.now }
-{
-    outcomes
-        .iter()
-        .any(|outcome| matches!(outcome, Outcome::Helps { .. }))
-}
-
-// How many changes were left open.
-fn count_open(outcomes: &[Outcome]) -> usize
-    ensures { result ≡ count_by is_open outcomes.now }
-{
-    outcomes
-        .iter()
-        .filter(|outcome| matches!(outcome, Outcome::Open))
-        .count()
-}
-
-// Tells what is said before changes.
-fn put_ways_front(out: &mut Vec<u8>, problem: &Problem, is_first: bool) -> Done
-    ensures { OnOk result (out.new.items ≡ out.old.items ++ told_lines problem.now (ways_front is_first)) }
-{
-    if is_first {
-        Ok(())
-    } else {
-        put_plain_told(out, problem, WAYS_FRONT)
-    }
-}
-
-// Tells of a change, if it helps.
-#[tactic(auto, using(crate::proofs::Joined::one_of))]
-fn put_outcome_told(out: &mut Vec<u8>, problem: &Problem, change: Change, outcome: Outcome) -> Done
-    requires change { IsChange problem.now change }
-    requires steps { HasSteps problem.now change outcome }
-    ensures { OnOk result (out.new.items ≡ out.old.items ++ told_lines problem.now (way_statement change outcome)) }
-{
-    match outcome {
-        Outcome::Helps { steps, is_nearest } => {
-            put_way_line(out, problem, change, steps, is_nearest)
-        }
-        Outcome::Shut | Outcome::Open => Ok(()),
-    }
-}
-
-// Tells of each change that helps.
-fn put_outcomes_told(out: &mut Vec<u8>, problem: &Problem, outcomes: &[Outcome]) -> Done
-    requires { AllZip (HasSteps problem.now) (changes problem.now) outcomes.now }
-    ensures { OnOk result (out.new.items
-        ≡ out.old.items ++ told_lines problem.now (way_statements (changes problem.now) outcomes.now)) }
-{
-    let changes = changes_in(*out.allocator(), problem)?;
-    for (place, outcome) in outcomes.iter().enumerate() {
-        put_outcome_told(out, problem, changes[place], *outcome)?;
-    }
-    Ok(())
-}
-
-/// Tells of the changes of a problem without a roster: each that helps, and how many were left open.
-#[tactic(auto, using(crate::proofs::Lines::told_last))]
-pub fn put_ways_told(out: &mut Vec<u8>, problem: &Problem, outcomes: &[Outcome]) -> Done
-    requires { AllZip (HasSteps problem.now) (changes problem.now) outcomes.now }
-    ensures { OnOk result (out.new.items
-        ≡ out.old.items ++ told_lines problem.now (ways_statements problem.now outcomes.now)) }
-{
-    let is_first = !has_way(outcomes);
-    let left = count_open(outcomes);
-    put_ways_front(out, problem, is_first)?;
-    put_outcomes_told(out, problem, outcomes)?;
-    put_others_line(out, problem, is_first, left)
 }

@@ -1,8 +1,10 @@
 // Words that sentences have in common.
+#![tactic(auto, unfolding(crate::specs::Words::count_words, crate::specs::Words::days_words, crate::specs::Words::weeks_words, crate::specs::Words::range_words, crate::specs::Words::name_words, crate::specs::Words::shift_words))]
+
 ghost use Rattle.std.specs.Prelude.{◌≡◌, ◌++◌, OnOk};
 ghost use Rattle.std.specs.List.{list_all};
-ghost use Rattle.rwsp_terms.specs.Instance.{IsSymbol};
-ghost use Rattle.plain_words.specs.Words.{count_words, days_words, weeks_words, range_words, is_of_number, is_like_words, name_words, symbol_words};
+ghost use Rattle.rwsp_terms.specs.Instance.{name_numbered};
+ghost use Rattle.plain_words.specs.Words.{count_words, days_words, weeks_words, range_words, is_of_number, is_like_words, name_words, shift_words, symbol_words};
 
 use crate::pieces::{DAY, DAY_OFF, DAYS, Done, QUOTE, TO, WEEK, WEEKS, put};
 use rwsp_model::Problem;
@@ -11,8 +13,7 @@ use rwsp_text::put_number;
 use shown_names::put_shown;
 
 /// Appends a number of things, by the words for one and for any other number.
-#[tactic(auto, unfolding(crate::specs::Words::count_words))]
-pub(crate) fn put_count(out: &mut Vec<u8>, count: u64, one: &[u8], many: &[u8]) -> Done
+pub fn put_count(out: &mut Vec<u8>, count: u64, one: &[u8], many: &[u8]) -> Done
     ensures { OnOk result (out.new.items ≡ out.old.items ++ count_words count one.now many.now) }
 {
     put_number(out, count)?;
@@ -24,7 +25,6 @@ pub(crate) fn put_count(out: &mut Vec<u8>, count: u64, one: &[u8], many: &[u8]) 
 }
 
 /// Appends a number of days.
-#[tactic(auto, unfolding(crate::specs::Words::days_words))]
 pub fn put_days(out: &mut Vec<u8>, count: u32) -> Done
     ensures { OnOk result (out.new.items ≡ out.old.items ++ days_words count) }
 {
@@ -32,7 +32,6 @@ pub fn put_days(out: &mut Vec<u8>, count: u32) -> Done
 }
 
 /// Appends a number of weeks.
-#[tactic(auto, unfolding(crate::specs::Words::weeks_words))]
 pub fn put_weeks(out: &mut Vec<u8>, count: u32) -> Done
     ensures { OnOk result (out.new.items ≡ out.old.items ++ weeks_words count) }
 {
@@ -40,7 +39,6 @@ pub fn put_weeks(out: &mut Vec<u8>, count: u32) -> Done
 }
 
 /// Appends a range of numbers, of which one alone stands where both are it.
-#[tactic(auto, unfolding(crate::specs::Words::range_words))]
 pub fn put_range(out: &mut Vec<u8>, range: Bounds) -> Done
     ensures { OnOk result (out.new.items ≡ out.old.items ++ range_words range) }
 {
@@ -74,8 +72,7 @@ fn is_like_words(name: &[u8]) -> bool
 }
 
 /// Appends a name as it is shown, in quotes where it could be taken for a word or a number of the sentence.
-#[tactic(auto, unfolding(crate::specs::Words::name_words))]
-pub fn put_name_words(out: &mut Vec<u8>, name: &[u8]) -> Done
+fn put_name_words(out: &mut Vec<u8>, name: &[u8]) -> Done
     ensures { OnOk result (out.new.items ≡ out.old.items ++ name_words name.now) }
 {
     if is_like_words(name) {
@@ -87,15 +84,33 @@ pub fn put_name_words(out: &mut Vec<u8>, name: &[u8]) -> Done
     }
 }
 
-/// Appends a shift, or a day off, as it stands in a sentence.
-#[tactic(auto, unfolding(crate::specs::Words::symbol_words))]
-pub fn put_symbol_words(out: &mut Vec<u8>, problem: &Problem, symbol: Symbol) -> Done
-    requires { IsSymbol problem.now symbol }
-    ensures { OnOk result (out.new.items ≡ out.old.items ++ symbol_words problem.now symbol) }
+// The name of a symbol by its number, or none where there is no such symbol.
+fn name_numbered(problem: &Problem, number: u32) -> &[u8]
+    ensures { result.now ≡ name_numbered problem.now number }
 {
-    if symbol.number == 0 {
-        put(out, DAY_OFF)
+    if number <= u32::from(problem.shifts()) {
+        problem.name(Symbol {
+            number: number as u8,
+        })
     } else {
-        put_name_words(out, problem.name(symbol))
+        b"".as_slice()
+    }
+}
+
+/// Appends the name of a shift by its number.
+pub fn put_shift(out: &mut Vec<u8>, problem: &Problem, number: u32) -> Done
+    ensures { OnOk result (out.new.items ≡ out.old.items ++ shift_words problem.now number) }
+{
+    put_name_words(out, name_numbered(problem, number))
+}
+
+/// Appends the name of a shift, or these words for the day off.
+pub fn put_symbol(out: &mut Vec<u8>, problem: &Problem, x: Symbol, off: &[u8]) -> Done
+    ensures { OnOk result (out.new.items ≡ out.old.items ++ symbol_words problem.now x off.now) }
+{
+    if x.number == 0 {
+        put(out, off)
+    } else {
+        put_shift(out, problem, u32::from(x.number))
     }
 }

@@ -8,8 +8,8 @@ use Rattle.rwsp_model.proofs.Limits.{valid_keeps}
 use Rattle.rwsp_file.specs.Laws.{TextsSpellOne}
 use Rattle.rwsp_file.specs.Spelling.{SpellsProblem}
 use Rattle.rwsp_file.specs.LongNumbers.{long_numbers}
-use Rattle.plain_words.specs.SentenceText.{slip_lines}
-use Rattle.plain_words.specs.declared.sentence.Telling.{Telling}
+use Rattle.plain_words.specs.Sentences.{slip_lines}
+use Rattle.plain_words.specs.declared.problem.Telling.{Telling}
 use Rattle.command_line.specs.Commands.{file_of}
 use Rattle.command_line.specs.declared.command.Command.{Command}
 use Rattle.command_line.proofs.OneForm.{one_form}

@@ -1,28 +1,27 @@
 -- The rules that are told are rules of the log.
-use Rattle.std.proofs.Common.{◌≡◌, ℕ, zero, suc, ◌<◌, List, [], ◌∷◌, ◌++◌, length, refl, ap, sym, ◌∙◌, subst, arith, inl, inr, ⊎_elim, Bool, true, false, Option, Some, None}
-use Rattle.std.specs.Prelude.{Contains, count_by, reverse, map, nat_lt, nat_le, if◌then◌else◌}
+use Rattle.std.proofs.Common.{◌≡◌, ℕ, zero, suc, List, [], ◌∷◌, ◌++◌, length, refl, ap, sym, ◌∙◌, subst, arith, inl, inr, ⊎_elim, Bool, true, false, Option, None}
+use Rattle.std.specs.Prelude.{Contains, reverse, map, nat_lt, if◌then◌else◌}
 use Rattle.std.specs.List.{flat_map}
 use Rattle.std.proofs.lemmas.Grind.{flat_map-append}
+use Rattle.std.proofs.lemmas.List.{append-nil}
 use Rattle.std.proofs.lemmas.List.Elements.{Contains-append_cases}
 use Rattle.rwsp_terms.specs.Instance.{Instance}
-use Rattle.refutation_terms.specs.declared.lines.Line.{Line}
-use Rattle.refutation_terms.specs.declared.lines.Line.TheVariants.{Closing}
-use Rattle.refutation_terms.specs.declared.lines.Leaf.TheVariants.{Blocks, Words}
-use Rattle.refutation_terms.specs.declared.lines.WordClaim.TheVariants.{Light}
 use Rattle.refutation_terms.specs.declared.lines.Opening.{Opening}
-use Rattle.refutation_terms.specs.declared.lines.Opening.TheVariants.{Full, Turned, Given}
 use Rattle.refutation_terms.specs.Log.{Log}
 use Rattle.refutation_checker.specs.declared.verdict.PassedLog.{PassedLog}
-use Rattle.refutation_terms.specs.Strip.{strip, StripsTo, ReducesIn, IsReduced}
+use Rattle.refutation_terms.specs.Strip.{strip, StripsTo, ReducesIn}
 use Rattle.rule_reducer.proofs.Kept.{was_listed}
 use Rattle.plain_words.specs.declared.reason.Rosters.{Rosters}
 use Rattle.plain_words.specs.declared.reason.Rosters.TheVariants.{Every}
-use Rattle.plain_words.specs.Statements.{Statement, Leaves}
-use Rattle.plain_words.specs.LogTold.{IsSaidBy, accepted_statements, begin_statement, rosters_by, end_statement, is_open, rule_statement}
+use Rattle.plain_words.specs.declared.part.Part.{Part}
+use Rattle.plain_words.specs.declared.part.Part.TheVariants.{Length}
+use Rattle.plain_words.specs.declared.pieces.TheConstants.{LEAVES, MEND_LOOKS, REDUCE_MAY}
+use Rattle.plain_words.specs.Statements.{Statement, Says, plain, said_if}
+use Rattle.plain_words.specs.LogTold.{reason_statements, spent_statement, log_statements, accepted_statements, rosters_by, rule_statement}
 use Rattle.plain_words.specs.Laws.{rule_in}
-use Rattle.plain_words.proofs.SaidLaws.{rules_said}
+use Rattle.plain_words.proofs.SaidLaws.{named_rules, begin_rule, named_rules_are_said}
 use Rattle.commands.specs.Plan.{IsSaidShortly}
-use Rattle.commands.specs.declared.plan.TheConstants.{MOST_LINES_REDUCED}
+use Rattle.commands.specs.Told.{refuted_statements}
 use Rattle.rwsp_run.specs.Laws.{ToldLogsWereJudged, ToldRulesAreNamed}
 
 -- a log without some rules names no others
@@ -44,68 +43,51 @@ Tells statements k = Contains (flat_map rule_in statements) k
 none : (k : ℕ) (R : List ℕ) → R ≡ [] → Contains R k → ⊥
 none k R e has = let empty = subst (λ (l : List ℕ). Contains l k) e has in omega (arith, empty.1)
 
-said_by : (n : ℕ) (P : Instance) (w : Rosters) (g : Log) (statements : List Statement) (k : ℕ) → IsSaidBy n P w g statements → Tells statements k → Contains g.named k
-said_by zero P w g statements k is has = subst (λ (l : List ℕ). Contains l k) (rules_said P w g statements is) has
-said_by (suc n) P w g statements k is has = absurd (none k (flat_map rule_in statements) (ap (flat_map rule_in) is) has)
+said_by : (b : Bool) (P : Instance) (w : Rosters) (g : Log) (k : ℕ) → Tells (if b then reason_statements P w g else spent_statement w g.lines ∷ []) k → Contains g.named k
+said_by true P w g k has = subst (λ (l : List ℕ). Contains l k) (named_rules_are_said P w g) has
+said_by false P w g k has = absurd (none k [] refl has)
 
 either : (first behind statements : List Statement) (k : ℕ) (Q : Type 0) → statements ≡ first ++ behind → (Tells first k → Q) → (Tells behind k → Q) → Tells statements k → Q
 either first behind statements k Q e f g has =
     ⊎_elim f g
     (Contains-append_cases (flat_map rule_in first) (flat_map rule_in behind) k (subst (λ (l : List ℕ). Contains l k) (ap (flat_map rule_in) e ∙ flat_map-append rule_in first behind) has))
 
-leaves_none : (b : Bool) (before after : ℕ) → flat_map rule_in (if b then Leaves before after ∷ [] else []) ≡ []
-leaves_none true before after = refl
-leaves_none false before after = refl
+unruled : (b : Bool) (text : List ℕ) (parts : List Part) → flat_map rule_in (said_if b (Says text parts)) ≡ []
+unruled true text parts = refl
+unruled false text parts = refl
 
-said_shortly : (b : Bool) (P : Instance) (g : Log) (statements : List Statement) (k : ℕ) → IsSaidShortly b P g statements → Tells statements k → Contains g.named k
-said_shortly true P g statements k is has =
+said_shortly : (b : Bool) (P : Instance) (g : Log) (said : List Statement) (k : ℕ) → IsSaidShortly b P g said → Tells said k → Contains g.named k
+said_shortly true P g said k is has =
     let h = is.0 in
-    let said = is.2 in
-    either said.0 said.1 statements k (Contains g.named k) said.4
-    (λ t. absurd (none k (flat_map rule_in said.0) (ap (flat_map rule_in) said.2 ∙ leaves_none (nat_lt (length h.named) (length g.named)) (length g.named) (length h.named)) t))
-    (λ t. reduced P is.1.0 g h k is.1.1 (said_by (count_by is_open h.lines) P Every h said.1 k said.3 t))
+    let left = said_if (nat_lt (length h.named) (length g.named)) (Says LEAVES.now (Length (length g.named) ∷ Length (length h.named) ∷ [])) in
+    either left (log_statements P Every h) said k (Contains g.named k) is.2
+    (λ t. absurd (none k (flat_map rule_in left) (unruled (nat_lt (length h.named) (length g.named)) _ _) t))
+    (λ t. reduced P is.1.0 g h k is.1.1 (said_by _ P Every h k t))
     has
-said_shortly false P g statements k is has =
-    either is.0 is.1 statements k (Contains g.named k) is.4
-    (λ t. said_by (count_by is_open g.lines) P Every g is.0 k is.2 t)
-    (λ t. absurd (none k (flat_map rule_in is.1) (ap (flat_map rule_in) is.3) t))
+said_shortly false P g said k is has =
+    either (log_statements P Every g) (plain REDUCE_MAY.now ∷ []) said k (Contains g.named k) is
+    (λ t. said_by _ P Every g k t)
+    (λ t. absurd (none k [] refl t))
     has
-
-end_none : (lines : List Line) → rule_in (end_statement lines) ++ [] ≡ []
-end_none [] = refl
-end_none (Closing (Blocks x) ∷ []) = refl
-end_none (Closing (Words p R (Light turns reward y)) ∷ []) = refl
-end_none (line ∷ []) = refl
-end_none (Closing (Blocks x) ∷ next ∷ lines) = refl
-end_none (Closing (Words p R (Light turns reward y)) ∷ next ∷ lines) = refl
-end_none (line ∷ next ∷ lines) = refl
 
 pub told_rules_named : ToldRulesAreNamed
 told_rules_named P g statements k is has =
-    let rest = is.3 in
-    either is.0 is.1 statements k (Contains g.named k) is.4
-    (λ t. absurd (none k (flat_map rule_in is.0) (ap (flat_map rule_in) is.2 ∙ end_none g.lines) t))
-    (either rest.0 rest.1 is.1 k (Contains g.named k) rest.4
-    (λ t. said_shortly (nat_le (length g.lines) MOST_LINES_REDUCED) P g rest.0 k rest.2 t)
-    (λ t. absurd (none k (flat_map rule_in rest.1) (ap (flat_map rule_in) rest.3) t)))
+    let refuted = refuted_statements g in
+    either (refuted ++ is.0) (plain MEND_LOOKS.now ∷ []) statements k (Contains g.named k) is.2
+    (λ t. either refuted is.0 (refuted ++ is.0) k (Contains g.named k) refl
+    (λ u. absurd (none k [] refl u))
+    (λ u. said_shortly _ P g is.0 k is.1 u) t)
+    (λ t. absurd (none k [] refl t))
     has
 
 -- and so does what is told of a log that was judged
 
-rules_in : (P : Instance) (R : List ℕ) → flat_map rule_in (map (rule_statement P None) R ++ []) ≡ R
-rules_in P [] = refl
-rules_in P (k ∷ R) = ap (λ (l : List ℕ). k ∷ l) (rules_in P R)
-
-first_none : (o : Opening) (w : Rosters) (R : List ℕ) → rule_in (begin_statement o w R) ≡ []
-first_none (Given given) w R = refl
-first_none Full w [] = refl
-first_none Full w (k ∷ R) = refl
-first_none (Turned t) w [] = refl
-first_none (Turned t) w (k ∷ R) = refl
-
 judged_rules : (P : Instance) (o : Opening) (goal : Option ℕ) (R : List ℕ) → flat_map rule_in (accepted_statements P o goal R) ≡ R
 judged_rules P o goal R =
-    ap (λ (l : List ℕ). l ++ flat_map rule_in (map (rule_statement P None) R ++ [])) (first_none o (rosters_by goal) R) ∙ rules_in P R
+    let said = rule_statement P None in
+    ap (λ (l : List ℕ). l ++ flat_map rule_in (map said R)) (begin_rule o (rosters_by goal) R)
+    ∙ ap (flat_map rule_in) (sym (append-nil (map said R)))
+    ∙ named_rules said (λ k. refl) R [] refl
 
 pub told_logs_judged : ToldLogsWereJudged
 told_logs_judged P kind bytes passed is =

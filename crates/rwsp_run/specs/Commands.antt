@@ -11,8 +11,8 @@ use Rattle.refutation_log.specs.declared.best_found.BestFound.TheVariants as Bes
 use Rattle.crew_size.specs.declared.run.StaffEnd.{StaffEnd}
 use Rattle.crew_size.specs.declared.run.StaffEnd.TheVariants as Ends
 use Rattle.ways_out.specs.declared.answer.WaysOut.TheVariants as Ways
-use Rattle.plain_words.specs.declared.sentence.Telling.{Telling}
-use Rattle.plain_words.specs.declared.sentence.Telling.TheVariants.{LongNames, Slips, Unsized, WithCounts}
+use Rattle.plain_words.specs.declared.problem.Telling.{Telling}
+use Rattle.plain_words.specs.declared.problem.Telling.TheVariants.{LongNames, Slips, Unsized, WithCounts}
 use Rattle.commands.specs.declared.staff.Answer.TheVariants as Staffs
 use Rattle.commands.specs.declared.fill.Answer.TheVariants as Fills
 use Rattle.command_line.specs.declared.command.Command.{Command}

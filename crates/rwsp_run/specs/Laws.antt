@@ -229,7 +229,7 @@ WorkersMakeNoDifference =
 abbrev pub ToldRulesAreNamed : Type 0
 ToldRulesAreNamed =
     (P : Instance) (g : Log) (statements : List Statement) (k : ℕ)
-    → ArePlanStatements P (Founds.NoRoster g) statements → Contains (flat_map rule_in statements) k
+    → ArePlanStatements P g statements → Contains (flat_map rule_in statements) k
     → Contains g.named k
 
 -- what `check`, `check-free` and `check-fill` tell as judged was judged: the bytes spell a log that passes, and it names the rules

@@ -4,8 +4,8 @@ use Rattle.std.specs.Fmt.{decimal}
 use Rattle.std.specs.Io.KnownBytes.{Appends, Keeps}
 use Rattle.rwsp_io.specs.Told.{Told, Silent}
 use Rattle.rwsp_file.specs.LongNumbers.{long_numbers}
-use Rattle.plain_words.specs.SentenceText.{slip_lines}
-use Rattle.plain_words.specs.declared.sentence.Telling.{Telling}
+use Rattle.plain_words.specs.Sentences.{slip_lines}
+use Rattle.plain_words.specs.declared.problem.Telling.{Telling}
 use Rattle.plain_words.specs.declared.pieces.TheConstants.{HORIZON, NOT_WEEKLY, OPEN_WORD}
 use Rattle.command_line.specs.Commands.{CommandWords, file_of}
 use Rattle.command_line.specs.declared.command.Command.{Command}

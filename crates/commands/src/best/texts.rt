@@ -6,7 +6,8 @@ ghost use Rattle.refutation_log.specs.declared.best_found.BestFound.TheVariants.
 ghost use Rattle.commands.specs.Best.{IsBestTold, counted_text, found_text, IsWeeklyRoster, IsRosterFound};
 
 use crate::telling::put_refuted;
-use plain_words::{put_log_told, put_weekends_told, rosters_of};
+use plain_words::pieces::HAS_WEEKENDS;
+use plain_words::{Part, put_log_told, put_told, rosters_of};
 use refutation_log::{Log, print_log};
 use roster_checker::free_weekends;
 use roster_print::print_roster;
@@ -84,7 +85,8 @@ pub fn best_told(
     ensures { IfOk result (λ v. IsBestTold problem.now (Best roster.now proof.now) v.items) }
 {
     let mut out = Vec::new(alloc);
-    put_weekends_told(&mut out, problem, free_weekends(problem, roster))?;
+    let weekends = Part::Weekends(free_weekends(problem, roster));
+    put_told(&mut out, problem, HAS_WEEKENDS, &[weekends])?;
     put_log_told(&mut out, problem, rosters_of(proof), proof)?;
     Ok(out)
 }

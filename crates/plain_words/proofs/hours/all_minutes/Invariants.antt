@@ -1,6 +1,6 @@
 use Rattle.std.proofs.Common.{◌≡◌, ◌*◌, ◌≤◌}
 use Rattle.std.specs.List.{range_with_len, sum_by}
-use Rattle.plain_words.specs.SentenceText.{day_minutes}
+use Rattle.plain_words.specs.Sentences.{day_minutes}
 use Rattle.plain_words.proofs.hours.all_minutes.Given as goal
 
 abbrev pub invariant-loop-i : goal.invariant-loop-i

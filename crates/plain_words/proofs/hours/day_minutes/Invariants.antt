@@ -1,6 +1,6 @@
 use Rattle.std.proofs.Common.{◌≡◌, ◌*◌, ◌≤◌}
 use Rattle.std.specs.List.{range_with_len, sum_by}
-use Rattle.plain_words.specs.SentenceText.{demanded_minutes}
+use Rattle.plain_words.specs.Sentences.{demanded_minutes}
 use Rattle.plain_words.proofs.hours.day_minutes.Given as goal
 
 abbrev pub invariant-loop-place : goal.invariant-loop-place

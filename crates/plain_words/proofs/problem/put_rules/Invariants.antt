@@ -1,8 +1,7 @@
 use Rattle.std.proofs.Common.{◌≡◌, ◌++◌, map}
 use Rattle.std.specs.List.{range_with_len}
-use Rattle.plain_words.specs.declared.sentence.Sentence.TheVariants.{OfRule}
-use Rattle.plain_words.specs.SentenceText.{lines}
+use Rattle.plain_words.specs.Statements.{Named, lines}
 use Rattle.plain_words.proofs.problem.put_rules.Given as goal
 
 abbrev pub invariant-loop-place : goal.invariant-loop-place
-invariant-loop-place l = l.out.items ≡ l.fn.out.items ++ lines l.telling l.problem (map OfRule (range_with_len 1 l.place))
+invariant-loop-place l = l.out.items ≡ l.fn.out.items ++ lines l.by (map Named (range_with_len 1 l.place))

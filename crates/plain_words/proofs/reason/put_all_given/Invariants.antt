@@ -1,6 +1,6 @@
 use Rattle.std.proofs.Common.{◌≡◌, ◌++◌, take}
 use Rattle.std.specs.List.{flat_map}
-use Rattle.plain_words.specs.ReasonWords.{given_words}
+use Rattle.plain_words.specs.Statements.{given_words}
 use Rattle.plain_words.proofs.reason.put_all_given.Given as goal
 
 abbrev pub invariant-loop-cell : goal.invariant-loop-cell

@@ -1,6 +1,6 @@
 use Rattle.std.proofs.Common.{◌≡◌, ◌++◌, take}
 use Rattle.std.specs.List.{flat_map}
-use Rattle.plain_words.specs.ReasonWords.{next_number}
+use Rattle.plain_words.specs.Statements.{next_number}
 use Rattle.plain_words.proofs.reason.put_numbers.Given as goal
 
 abbrev pub invariant-loop-rule : goal.invariant-loop-rule

@@ -1,8 +1,8 @@
 use Rattle.std.proofs.Common.{◌≡◌, ◌++◌}
 use Rattle.std.specs.List.{flat_map, range_with_len}
+use Rattle.plain_words.specs.Statements.{lines}
 use Rattle.plain_words.specs.Sentences.{demand_slips}
-use Rattle.plain_words.specs.SentenceText.{slips_lines}
 use Rattle.plain_words.proofs.slips.put_shifts_of_day.Given as goal
 
 abbrev pub invariant-loop-place : goal.invariant-loop-place
-invariant-loop-place l = l.out.items ≡ l.fn.out.items ++ slips_lines l.telling l.problem (flat_map (demand_slips l.problem l.day) (range_with_len 1 l.place))
+invariant-loop-place l = l.out.items ≡ l.fn.out.items ++ lines l.by (flat_map (demand_slips l.by.problem.now l.is_sized l.day) (range_with_len 1 l.place))

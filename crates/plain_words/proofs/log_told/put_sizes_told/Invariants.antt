@@ -1,0 +1,8 @@
+use Rattle.std.proofs.Common.{◌≡◌, ◌++◌}
+use Rattle.std.specs.List.{flat_map, range_with_len}
+use Rattle.plain_words.specs.Statements.{told_lines}
+use Rattle.plain_words.specs.LogTold.{size_in}
+use Rattle.plain_words.proofs.log_told.put_sizes_told.Given as goal
+
+abbrev pub invariant-loop-place : goal.invariant-loop-place
+invariant-loop-place l = l.out.items ≡ l.fn.out.items ++ told_lines l.problem (flat_map (size_in l.low l.logs) (range_with_len 0 l.place))
