@@ -14,9 +14,9 @@ use Rattle.rwsp_terms.specs.Instance.{Instance}
 use Rattle.refutation_terms.specs.declared.lines.Line.{Line}
 use Rattle.refutation_terms.specs.declared.lines.Opening.{Opening}
 use Rattle.refutation_terms.specs.declared.lines.Opening.TheVariants.{Full, Turned, Given}
-use Rattle.refutation_terms.specs.LogText.{RawLine, raw, raw_fields, line_text, line_kinds, version_kinds, version_of, named_cell}
+use Rattle.refutation_terms.specs.LogText.{line_fields, line_text, line_kinds, version_kinds, version_of, named_cell}
 use Rattle.refutation_terms.specs.TextLaws.{HasNames}
-use Rattle.refutation_terms.proofs.LineTables.{rules_fields, version_fields, version_line, raw_line, spelled_raw}
+use Rattle.refutation_terms.proofs.LineTables.{rules_fields, version_fields, version_line, line_line}
 use Rattle.refutation_terms.proofs.Texts.{lines_fields, log_fields, log_written, log_words, third_fields, each_fits}
 use Rattle.refutation_log.proofs.OneText.{is_writable, has_names}
 use Rattle.refutation_terms.specs.declared.lines.Version.{Version}
@@ -153,10 +153,9 @@ line_kinds_other P None true = refl
 line_kinds_other P (Some goal) false = refl
 line_kinds_other P (Some goal) true = refl
 
-line_other : (P : Instance) (goal : Option ℕ) (counts : Bool) (line : Line) → HasNames P → LineFits P goal counts line → (t : List ℕ) → opens (line_text P (raw P goal line) ++ t) ≡ false
+line_other : (P : Instance) (goal : Option ℕ) (counts : Bool) (line : Line) → HasNames P → LineFits P goal counts line → (t : List ℕ) → opens (line_text P goal line ++ t) ≡ false
 line_other P goal counts line names fits t =
-    let written : RawLine = raw P goal line in
-    kinds_other (line_kinds P goal counts) (raw_fields P written) written t (line_kinds_other P goal counts) (raw_line P goal counts written (spelled_raw P goal counts line names fits).0)
+    kinds_other (line_kinds P goal counts) (line_fields P goal line) (Some line) t (line_kinds_other P goal counts) (line_line P goal counts line names fits)
 
 lines_other : (P : Instance) (goal : Option ℕ) (counts : Bool) (lines : List Line) → HasNames P → AllByRecursion (LineFits P goal counts) lines → AreLines (lines_fields P goal lines) → AreOther (lines_fields P goal lines)
 lines_other P goal counts [] names fit are = tt

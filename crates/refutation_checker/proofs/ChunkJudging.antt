@@ -10,7 +10,7 @@ use Rattle.refutation_terms.specs.declared.lines.Line.{Line}
 use Rattle.refutation_terms.specs.declared.lines.Opening.{Opening}
 use Rattle.refutation_terms.specs.declared.lines.LogRefusal.{LogRefusal}
 use Rattle.refutation_terms.specs.Tree.{IsTree}
-use Rattle.refutation_terms.specs.LogText.{raw, line_text, lines_text}
+use Rattle.refutation_terms.specs.LogText.{line_text, lines_text}
 use Rattle.rwsp_text.specs.Lines.{IsNextLine}
 use Rattle.refutation_terms.specs.Verdict.{header_lines}
 use Rattle.domain_store.specs.States.{State, IsStateOf}
@@ -52,7 +52,7 @@ read_on : (J : Judging) (o : Opening) (earlier : List Line) (all left bytes rest
 read_on J o earlier all left bytes rest w new number line so e reads =
     let P = J.problem in
     let read = reads o (earlier ++ so.lines) so.state in
-    let one : lines_text P J.goal (line ∷ []) ≡ bytes = append-nil (line_text P (raw P J.goal line)) ∙ sym read.spelled in
+    let one : lines_text P J.goal (line ∷ []) ≡ bytes = append-nil (line_text P J.goal line) ∙ sym read.spelled in
     let longer : (earlier ++ so.lines) ++ line ∷ [] ≡ earlier ++ (so.lines ++ line ∷ []) = append_assoc earlier so.lines (line ∷ []) in
     let count : length ((earlier ++ so.lines) ++ line ∷ []) ≡ length (earlier ++ so.lines) + 1 = length-append (earlier ++ so.lines) (line ∷ []) in
     record {

@@ -5,7 +5,7 @@ use Rattle.std.proofs.lemmas.List.{append-nil}
 use Rattle.std.proofs.lemmas.List.Elements.{All-head, All-tail}
 use Rattle.rwsp_terms.specs.Instance.{Instance}
 use Rattle.refutation_terms.specs.declared.lines.Line.{Line}
-use Rattle.refutation_terms.specs.LogText.{raw, line_text, raw_fields, lines_text}
+use Rattle.refutation_terms.specs.LogText.{line_text, line_fields, lines_text}
 use Rattle.rwsp_text.specs.Lines.{HasNoFeed}
 use Rattle.refutation_log.proofs.LogLines.{some_bytes}
 
@@ -25,10 +25,10 @@ no_feed_at_end (x ∷ a) line (y ∷ b) some none e = let rest : a ++ line ≡ b
 
 -- the text of lines ends with LF
 ends_with_feed : (P : Instance) (goal : Option ℕ) (line : Line) (lines : List Line) → (b : List ℕ) × (lines_text P goal (line ∷ lines) ≡ b ++ 10 ∷ [])
-ends_with_feed P goal line [] = (join_with_byte 32 (raw_fields P (raw P goal line)), append-nil (line_text P (raw P goal line)))
+ends_with_feed P goal line [] = (join_with_byte 32 (line_fields P goal line), append-nil (line_text P goal line))
 ends_with_feed P goal line (m ∷ lines) =
     let rest = ends_with_feed P goal m lines in
-    (line_text P (raw P goal line) ++ rest.0, ap (λ t. line_text P (raw P goal line) ++ t) rest.1 ∙ sym (append_assoc (line_text P (raw P goal line)) rest.0 (10 ∷ [])))
+    (line_text P goal line ++ rest.0, ap (λ t. line_text P goal line ++ t) rest.1 ∙ sym (append_assoc (line_text P goal line) rest.0 (10 ∷ [])))
 
 pub not_at_end : (P : Instance) (goal : Option ℕ) (lines : List Line) (front line : List ℕ) → line ≢ [] → HasNoFeed line → lines_text P goal lines ≡ front ++ line → ⊥
 not_at_end P goal [] front line some none e =

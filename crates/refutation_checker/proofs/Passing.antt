@@ -25,7 +25,7 @@ use Rattle.refutation_terms.specs.declared.lines.LogRefusal.TheVariants as Refus
 use Rattle.refutation_terms.specs.Tree.{IsTree, after_trees, lines_in, opening, lines_leave, domains_at}
 use Rattle.refutation_terms.specs.Log.{Log, Fits, Holds, OpeningFits, OpeningCites, GoalFits, Passes}
 use Rattle.refutation_terms.specs.Ranges.{AreRules}
-use Rattle.refutation_terms.specs.LogText.{raw, line_text, log_text, header_text, turn_text, raw_fields, lines_text}
+use Rattle.refutation_terms.specs.LogText.{line_text, log_text, header_text, turn_text, line_fields, lines_text}
 use Rattle.refutation_terms.specs.Verdict.{kind_by, kind_of_log, BeforeTurn, front_text, IsRefused, TurnCause, header_lines}
 use Rattle.refutation_terms.proofs.LineTables.{fitting_lines_are_spelled}
 use Rattle.refutation_terms.proofs.Trees.{part_is_not_whole, tree_is_whole}
@@ -105,7 +105,7 @@ passed_next P J g i number line w new answer judge fits tree here before is h =
 
 -- the text of the lines at which a log is refused
 
-lines_cut : (P : Instance) (goal : Option ℕ) (lines : List Line) (i : ℕ) (line : Line) → slice_get lines i ≡ Some line → lines_text P goal lines ≡ lines_text P goal (take i lines) ++ (line_text P (raw P goal line) ++ lines_text P goal (drop (suc i) lines))
+lines_cut : (P : Instance) (goal : Option ℕ) (lines : List Line) (i : ℕ) (line : Line) → slice_get lines i ≡ Some line → lines_text P goal lines ≡ lines_text P goal (take i lines) ++ (line_text P goal line ++ lines_text P goal (drop (suc i) lines))
 lines_cut P goal lines i line here =
     let f = line_piece P goal in
     let before = take i lines in
@@ -121,7 +121,7 @@ refused_at : (P : Instance) (g : Log) (i : ℕ) (why : LogRefusal) → KeepsLimi
 refused_at P g i why limits fits at =
     let J : Judging = judging_of P g in
     let front = take i g.lines in
-    let bytes = line_text P (raw P g.goal at.line) in
+    let bytes = line_text P g.goal at.line in
     let less = slice_get_within g.lines i at.line at.here in
     let fit = fits.lines i at.line at.here in
     let long : length front ≡ i = length-take-le i g.lines (omega (arith, less)) in
@@ -131,7 +131,7 @@ refused_at P g i why limits fits at =
       rest = lines_text P g.goal (drop (suc i) g.lines);
       sound = at.sound;
       text = lines_cut P g.goal g.lines i at.line at.here ∙ sym (append_assoc (lines_text P g.goal front) bytes (lines_text P g.goal (drop (suc i) g.lines)));
-      is_line = inl (join_with_byte 32 (raw_fields P (raw P g.goal at.line)), body_feedless P g.goal g.counts at.line limits fit, refl);
+      is_line = inl (join_with_byte 32 (line_fields P g.goal at.line), body_feedless P g.goal g.counts at.line limits fit, refl);
       cause = refused_next J g.opening front bytes at.line (header_lines g.opening g.goal g.counts + i + 1) why (fitting_lines_are_spelled P g.goal g.counts at.line (has_names P limits) fit)
           at.in_tree (ap (λ n. header_lines g.opening g.goal g.counts + n + 1) (sym long)) at.cause;
     }

@@ -23,9 +23,9 @@ use Rattle.refutation_terms.specs.declared.lines.LogRefusal.TheVariants as Refus
 use Rattle.refutation_terms.specs.Tree.{IsTree, domains_at}
 use Rattle.refutation_terms.specs.Log.{Log}
 use Rattle.refutation_terms.specs.Ranges.{AreRules}
-use Rattle.refutation_terms.specs.LogText.{RawLine, IsWritten, line_of, raw, line_text, version_text, rules_text, turn_text, no_turn_text, goal_text, cells_text, header_text, lines_text}
+use Rattle.refutation_terms.specs.LogText.{IsWritten, line_text, version_text, rules_text, turn_text, no_turn_text, goal_text, cells_text, header_text, lines_text}
 use Rattle.rwsp_text.specs.Lines.{IsNextLine}
-use Rattle.refutation_terms.specs.Verdict.{kind_of, Front, Start, Versioned, BeforeTurn, BeforeGoal, BeforeCells, turn_version, goal_version, front_text, header_lines, HasNoCause, IsWhole, Cause, SpellsNoOpening, TurnCause, CauseBehind, Spells, SpellsTurn, IsUnnamed, IsVerdict}
+use Rattle.refutation_terms.specs.Verdict.{kind_of, Front, Start, Versioned, BeforeTurn, BeforeGoal, BeforeCells, turn_version, goal_version, front_text, header_lines, HasNoCause, IsWhole, Cause, SpellsNoOpening, TurnCause, CauseBehind, SpellsTurn, IsUnnamed, IsVerdict}
 use Rattle.refutation_terms.proofs.LineTables.{spelled_lines_fit, symbol_of-name}
 use Rattle.refutation_log.specs.Headers.{BeginsWithHeader}
 use Rattle.refutation_log.specs.ReadLog.{HasLogsOf}
@@ -79,10 +79,10 @@ first_line b (c ∷ bytes) = line_with b c bytes (cases_Bool (b == 10)) (first_l
 
 -- the lines behind a header, of which some have been read
 
-text_on : (P : Instance) (goal : Option ℕ) (body left line rest : List ℕ) (lines : List Line) (l : Line) → body ≡ lines_text P goal lines ++ left → left ≡ line ++ rest → line ≡ line_text P (raw P goal l) → body ≡ lines_text P goal (lines ++ l ∷ []) ++ rest
+text_on : (P : Instance) (goal : Option ℕ) (body left line rest : List ℕ) (lines : List Line) (l : Line) → body ≡ lines_text P goal lines ++ left → left ≡ line ++ rest → line ≡ line_text P goal l → body ≡ lines_text P goal (lines ++ l ∷ []) ++ rest
 text_on P goal body left line rest lines l text whole spelled =
     let front = lines_text P goal lines in
-    let own = line_text P (raw P goal l) in
+    let own = line_text P goal l in
     text
     ∙ ap (λ t. front ++ t) (whole ∙ ap (λ t. t ++ rest) (spelled ∙ sym (append-nil own)))
     ∙ sym (append_assoc front (own ++ []) rest)
@@ -92,24 +92,23 @@ abbrev RefusesNone : Judging → Opening → List Line → List ℕ → Type 0
 RefusesNone J o lines line = (why : LogRefusal) → CauseBehind J.problem (log_of J o lines) line why → ⊥
 
 abbrev Takes : Judging → Opening → List Line → List ℕ → Line → Type 0
-Takes J o lines line l = (line ≡ line_text J.problem (raw J.problem J.goal l)) × IsSoundNext J o lines l
+Takes J o lines line l = (line ≡ line_text J.problem J.goal l) × IsSoundNext J o lines l
 
 -- a line that is refused for no cause is a sound next line
-spelled_stands : (J : Judging) (o : Opening) (lines : List Line) (line : List ℕ) (written : RawLine) → RefusesNone J o lines line → ((l : Line) → Takes J o lines line l → ⊥) → (IsTree lines → ⊥) → IsWritten J.problem J.goal J.counts line written → (found : Option Line) → line_of J.problem written ≡ found → ⊥
-spelled_stands J o lines line written none goes part w None e = none (Refusals.Name (header_lines o J.goal J.counts + length lines + 1)) (inr (part, (refl, (written, w, e))))
-spelled_stands J o lines line written none goes part w (Some l) e =
+spelled_stands : (J : Judging) (o : Opening) (lines : List Line) (line : List ℕ) → RefusesNone J o lines line → ((l : Line) → Takes J o lines line l → ⊥) → (IsTree lines → ⊥) → (found : Option Line) → IsWritten J.problem J.goal J.counts line found → ⊥
+spelled_stands J o lines line none goes part None w = none (Refusals.Name (header_lines o J.goal J.counts + length lines + 1)) (inr (part, (refl, w)))
+spelled_stands J o lines line none goes part (Some l) w =
     let n = header_lines o J.goal J.counts + length lines + 1 in
     let D = domains_at J.problem o lines (length lines) in
-    let spells : Spells J.problem J.goal J.counts line l = (written, w, e) in
-    let fits = spelled_lines_fit J.problem J.goal J.counts line l spells in
-    line_stands J.problem J.goal J.counts J.named D n l fits.0 (λ why c. none why (refused_next J o lines line l n why spells part refl c))
+    let fits = spelled_lines_fit J.problem J.goal J.counts line l w in
+    line_stands J.problem J.goal J.counts J.named D n l fits.0 (λ why c. none why (refused_next J o lines line l n why w part refl c))
     (λ sound. goes l (fits.1, record { in_tree = part; fits = fits.0; sound = sound }))
 
 line_read : (J : Judging) (o : Opening) (lines : List Line) (line : List ℕ) → RefusesNone J o lines line → ((l : Line) → Takes J o lines line l → ⊥) → ⊥
 line_read J o lines line none goes =
     let n = header_lines o J.goal J.counts + length lines + 1 in
     let part : IsTree lines → ⊥ = λ t. none (Refusals.Extra n) (inl (t, refl)) in
-    none (Refusals.Form n) (inr (part, (refl, λ written w. spelled_stands J o lines line written none goes part w (line_of J.problem written) refl)))
+    none (Refusals.Form n) (inr (part, (refl, spelled_stands J o lines line none goes part)))
 
 -- the lines behind a header, some of which have been read
 lines_on : (J : Judging) (kind : LogKind) (text body : List ℕ) (o : Opening) → HasHeader J kind text o body → HasNoVerdict J.problem kind text → (n : ℕ) (lines : List Line) (left : List ℕ) → length left < n → AreSoundBehind J o [] lines → body ≡ lines_text J.problem J.goal lines ++ left → ⊥

@@ -15,7 +15,7 @@ use Rattle.refutation_terms.specs.declared.lines.LogRefusal.TheVariants.{Ends}
 use Rattle.refutation_terms.specs.Tree.{lines_in, IsTree, opening, lines_leave}
 use Rattle.refutation_terms.proofs.Trees.{tree_has_lines}
 use Rattle.refutation_terms.specs.Log.{Log, Holds, Passes, GoalFits}
-use Rattle.refutation_terms.specs.LogText.{raw, line_text, log_text, lines_text, header_text}
+use Rattle.refutation_terms.specs.LogText.{line_text, log_text, lines_text, header_text}
 use Rattle.refutation_terms.specs.Verdict.{Reading, IsSoundSoFar, IsRefused}
 use Rattle.refutation_log.specs.Headers.{BeginsWithHeader}
 use Rattle.refutation_log.specs.ReadLog.{HasLogsOf}
@@ -30,7 +30,7 @@ use Rattle.refutation_checker.proofs.HeaderFaults.{refused_at_line}
 pub lines_joined : (P : Instance) (goal : Option ℕ) (a b : List Line) → lines_text P goal (a ++ b) ≡ lines_text P goal a ++ lines_text P goal b
 lines_joined P goal [] b = refl
 lines_joined P goal (l ∷ a) b =
-    ap (λ t. line_text P (raw P goal l) ++ t) (lines_joined P goal a b) ∙ sym (append_assoc (line_text P (raw P goal l)) (lines_text P goal a) (lines_text P goal b))
+    ap (λ t. line_text P goal l ++ t) (lines_joined P goal a b) ∙ sym (append_assoc (line_text P goal l) (lines_text P goal a) (lines_text P goal b))
 
 pub sound_joined : (J : Judging) (o : Opening) (earlier a b : List Line) → AreSoundBehind J o earlier a → AreSoundBehind J o (earlier ++ a) b → AreSoundBehind J o earlier (a ++ b)
 sound_joined J o earlier [] b h k = subst (λ ls. AreSoundBehind J o ls b) (append-nil earlier) k

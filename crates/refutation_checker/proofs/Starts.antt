@@ -10,7 +10,7 @@ use Rattle.refutation_terms.specs.declared.lines.Line.{Line}
 use Rattle.refutation_terms.specs.declared.lines.Line.TheVariants.{Split, Unfinished}
 use Rattle.refutation_terms.specs.declared.lines.Opening.{Opening}
 use Rattle.refutation_terms.specs.Tree.{IsTree, domains_at, is_idle}
-use Rattle.refutation_terms.specs.LogText.{raw, line_text, lines_text}
+use Rattle.refutation_terms.specs.LogText.{line_text, lines_text}
 use Rattle.rwsp_text.specs.Lines.{IsNextLine}
 use Rattle.refutation_terms.specs.Verdict.{Spells}
 use Rattle.refutation_terms.proofs.Causes.{not_unknown}
@@ -39,7 +39,7 @@ same_text : (P : Instance) (goal : Option ℕ) (counts : Bool) (bytes : List ℕ
 same_text P goal counts bytes line p x limits spells g =
     let f = spelled_lines_fit P goal counts bytes line spells in
     let one : lines_text P goal (line ∷ []) ≡ lines_text P goal (Split p x ∷ []) =
-    append-nil (line_text P (raw P goal line)) ∙ sym f.1 ∙ g.text ∙ sym (append-nil (line_text P (raw P goal (Split p x)))) in
+    append-nil (line_text P goal line) ∙ sym f.1 ∙ g.text ∙ sym (append-nil (line_text P goal (Split p x))) in
     let same : line ∷ [] ≡ Split p x ∷ [] = one_list P goal counts (line ∷ []) (Split p x ∷ []) limits (f.0, tt) (g.fits, tt) one in
     cc
 

@@ -12,8 +12,8 @@ use Rattle.refutation_terms.specs.declared.lines.Line.TheVariants.{Split, Unfini
 use Rattle.refutation_terms.specs.declared.lines.Leaf.{Leaf}
 use Rattle.refutation_terms.specs.Tree.{IsLeaf, IsTree, Node, lines_in}
 use Rattle.refutation_terms.specs.Log.{LineFits}
-use Rattle.refutation_terms.specs.LogText.{RawLine, raw, raw_fields, line_of, line_text, lines_text, split_kind, line_kinds}
-use Rattle.refutation_terms.proofs.LineTables.{raw_line, spelled_raw}
+use Rattle.refutation_terms.specs.LogText.{line_fields, line_text, lines_text, split_kind, line_kinds}
+use Rattle.refutation_terms.proofs.LineTables.{line_line}
 use Rattle.rwsp_text.specs.Fields.{Words, text_of}
 use Rattle.rwsp_text.specs.Kinds.{Kind, IsLine, IsOfKind}
 use Rattle.rwsp_text.specs.Lines.{IsNextLine}
@@ -90,23 +90,23 @@ side_crossed P goal counts splits outer after u lines is first to h =
 -- which lines begin as a split does
 
 -- no kind of the table has a word that begins so
-abbrev NoneBegins : List (Kind RawLine) → Type 0
+abbrev NoneBegins : List (Kind (Option Line)) → Type 0
 NoneBegins [] = Unit {0}
 NoneBegins (kind ∷ table) = ((get_or kind.word 0 115 == 115) ≡ false) × NoneBegins table
 
 -- the same by computing over the table
-abbrev none_begins : List (Kind RawLine) → Bool
+abbrev none_begins : List (Kind (Option Line)) → Bool
 none_begins [] = true
 none_begins (kind ∷ table) = not (get_or kind.word 0 115 == 115) && none_begins table
 
-not_begun : (table : List (Kind RawLine)) → none_begins table ≡ true → NoneBegins table
+not_begun : (table : List (Kind (Option Line))) → none_begins table ≡ true → NoneBegins table
 not_begun [] h = tt
 not_begun (kind ∷ table) h =
     let parts = and_parts (not (get_or kind.word 0 115 == 115)) (none_begins table) h in
     (not-true (get_or kind.word 0 115 == 115) parts.0, not_begun table parts.1)
 
 -- the kinds of leaves: the table behind the split
-abbrev leaf_kinds : Instance → Option ℕ → Bool → List (Kind RawLine)
+abbrev leaf_kinds : Instance → Option ℕ → Bool → List (Kind (Option Line))
 leaf_kinds P goal counts = drop 1 (line_kinds P goal counts)
 
 leaves_begin : (P : Instance) (goal : Option ℕ) (counts : Bool) → none_begins (leaf_kinds P goal counts) ≡ true
@@ -120,7 +120,7 @@ first_letter [] ws other = absurd (cc)
 first_letter (b ∷ w) [] other = other
 first_letter (b ∷ w) (v ∷ ws) other = other
 
-line_begins : (table : List (Kind RawLine)) (ws : Words) (l : RawLine) → NoneBegins table → IsLine table ws l → (get_or (text_of ws) 0 0 == 115) ≡ false
+line_begins : (table : List (Kind (Option Line))) (ws : Words) (l : Option Line) → NoneBegins table → IsLine table ws l → (get_or (text_of ws) 0 0 == 115) ≡ false
 line_begins [] ws l none h = absurd h
 line_begins (kind ∷ table) [] l none (inl h) = absurd h
 line_begins (kind ∷ table) (w ∷ ws) l none (inl h) = first_letter w ws (subst (λ v. (get_or v 0 115 == 115) ≡ false) (sym h.0) none.0)
@@ -131,20 +131,19 @@ no_leaf p None leaf e = cc
 no_leaf p (Some x) leaf e = cc
 
 -- the line of a split says no leaf
-split_says_none : (P : Instance) (ws : Words) (l : RawLine) (leaf : Leaf) → IsOfKind (split_kind P) ws l → line_of P l ≡ Some (Closing leaf) → ⊥
-split_says_none P [] l leaf h e = h
-split_says_none P (w ∷ ws) l leaf h e = no_leaf h.1.values.0 (symbol_of P h.1.values.1.0) leaf (ap (line_of P) h.1.made ∙ e)
+split_says_none : (P : Instance) (ws : Words) (leaf : Leaf) → IsOfKind (split_kind P) ws (Some (Closing leaf)) → ⊥
+split_says_none P [] leaf h = h
+split_says_none P (w ∷ ws) leaf h = no_leaf h.1.values.0 (symbol_of P h.1.values.1.0) leaf h.1.made
 
-leaf_begins : (P : Instance) (goal : Option ℕ) (counts : Bool) (leaf : Leaf) → KeepsLimits P → LineFits P goal counts (Closing leaf) → (get_or (line_text P (raw P goal (Closing leaf))) 0 0 == 115) ≡ false
+leaf_begins : (P : Instance) (goal : Option ℕ) (counts : Bool) (leaf : Leaf) → KeepsLimits P → LineFits P goal counts (Closing leaf) → (get_or (line_text P goal (Closing leaf)) 0 0 == 115) ≡ false
 leaf_begins P goal counts leaf limits fits =
-    let l = raw P goal (Closing leaf) in
-    let s = spelled_raw P goal counts (Closing leaf) (has_names P limits) fits in
-    elim (raw_line P goal counts l s.0) [
-      | inl split ↦ absurd (split_says_none P (raw_fields P l) l leaf split s.1)
-      | inr other ↦ line_begins (leaf_kinds P goal counts) (raw_fields P l) l (not_begun (leaf_kinds P goal counts) (leaves_begin P goal counts)) other
+    let ws = line_fields P goal (Closing leaf) in
+    elim (line_line P goal counts (Closing leaf) (has_names P limits) fits) [
+      | inl split ↦ absurd (split_says_none P ws leaf split)
+      | inr other ↦ line_begins (leaf_kinds P goal counts) ws (Some (Closing leaf)) (not_begun (leaf_kinds P goal counts) (leaves_begin P goal counts)) other
     ]
 
-pub by_letter : (P : Instance) (goal : Option ℕ) (counts : Bool) (l : Line) (t : Bool) → KeepsLimits P → LineFits P goal counts l → (get_or (line_text P (raw P goal l)) 0 0 == 115) ≡ t → MatchBool t ((p : ℕ) × (x : Symbol) × (l ≡ Split p x)) (IsLeaf l)
+pub by_letter : (P : Instance) (goal : Option ℕ) (counts : Bool) (l : Line) (t : Bool) → KeepsLimits P → LineFits P goal counts l → (get_or (line_text P goal l) 0 0 == 115) ≡ t → MatchBool t ((p : ℕ) × (x : Symbol) × (l ≡ Split p x)) (IsLeaf l)
 by_letter P goal counts (Split p x) true limits fits e = (p, x, refl)
 by_letter P goal counts (Split p x) false limits fits e = absurd (cc)
 by_letter P goal counts (Closing leaf) true limits fits e = let other = leaf_begins P goal counts leaf limits fits in absurd (cc)

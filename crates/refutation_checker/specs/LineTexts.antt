@@ -8,7 +8,7 @@ use Rattle.refutation_terms.specs.Tree.{IsTree, domains_at}
 use Rattle.refutation_terms.specs.Word.{Domains}
 use Rattle.refutation_terms.specs.Log.{Log, LineFits, Holds}
 use Rattle.refutation_terms.specs.Verdict.{CauseBehind, Escapes, header_lines}
-use Rattle.refutation_terms.specs.LogText.{raw, line_text}
+use Rattle.refutation_terms.specs.LogText.{line_text}
 use Rattle.refutation_terms.specs.declared.lines.Line.TheVariants.{Split}
 use Rattle.refutation_terms.specs.declared.lines.LogRefusal.{LogRefusal}
 use Rattle.refutation_terms.specs.declared.lines.LogRefusal.TheVariants as Refusals
@@ -68,7 +68,7 @@ pub record IsSoundNext (J : Judging) (o : Opening) (lines : List Line) (line : L
 -- the bytes are the text of such a line, which is this one, and the walk has read it
 pub record IsLineRead (J : Judging) (o : Opening) (lines : List Line) (bytes : List ℕ) (w : State)
     (line : Line) : Type 0 where
-  pub spelled : bytes ≡ line_text J.problem (raw J.problem J.goal line)
+  pub spelled : bytes ≡ line_text J.problem J.goal line
   pub sound : IsSoundNext J o lines line
   pub walked : IsStateOf J.problem o (lines ++ line ∷ []) w
 

@@ -8,7 +8,7 @@ use Rattle.refutation_terms.specs.declared.lines.Line.TheVariants.{Split}
 use Rattle.refutation_terms.specs.declared.lines.Opening.{Opening}
 use Rattle.refutation_terms.specs.Log.{LineFits}
 use Rattle.refutation_terms.specs.Tree.{IsTree, domains_at, is_idle}
-use Rattle.refutation_terms.specs.LogText.{raw, line_text, lines_text}
+use Rattle.refutation_terms.specs.LogText.{line_text, lines_text}
 use Rattle.refutation_log.specs.Printing.{EachFits}
 use Rattle.domain_store.specs.Splits.{IsFirstSide, NoLines}
 use Rattle.domain_store.specs.States.{State, IsStateOf}
@@ -21,7 +21,7 @@ pub record UnreadSplit : Type 0 where
 -- the bytes are the text of this line, which fits the problem, in a log with this goal or none, which may count or not
 pub record IsLineText (P : Instance) (goal : Option ℕ) (counts : Bool) (bytes : List ℕ) (line : Line) : Type 0 where
   pub fits : LineFits P goal counts line
-  pub text : bytes ≡ line_text P (raw P goal line)
+  pub text : bytes ≡ line_text P goal line
 
 -- the lines lead into these splits, the outermost first, and there are followed by lines as Q says
 abbrev pub LeadInto : Instance → Option ℕ → Bool → (List Line → Type 0) → List UnreadSplit → List Line → Type 0

@@ -6,7 +6,7 @@ use Rattle.std.specs.List.{join_with_byte}
 use Rattle.rwsp_text.specs.Fields.{Words, NamedWeight, ◌>>=◌, read, number_at, place_at, word_at, done_at}
 use Rattle.rwsp_text.specs.Kinds.{read_line}
 use Rattle.rwsp_text.specs.Lines.{words_of}
-use Rattle.rwsp_text.proofs.KindLaws.{line_found, line_only}
+use Rattle.rwsp_text.proofs.KindLaws.{line_found, line_only, lines_are_words}
 use Rattle.rwsp_text.proofs.LineLaws.{text_words, words_text}
 use Rattle.rwsp_terms.specs.declared.limits.TheConstants.{GREATEST_REWARD, LONGEST_WORD}
 use Rattle.std.proofs.Math.Nat.{div-le_self}
@@ -17,10 +17,13 @@ use Rattle.rwsp_model.specs.declared.fail.Fail.{Fail}
 use Rattle.rwsp_model.specs.declared.fail.Fail.TheVariants.{Refused, Memory}
 use Rattle.rwsp_model.proofs.Numbering.{rules_are_many}
 use Rattle.refutation_terms.specs.declared.lines.Line.{Line}
-use Rattle.refutation_terms.specs.LogText.{RawLine, RawDead, RawBound, RawFew, RawFree, IsWritten, raw_fields, line_of, WeightsAscend, line_kinds, own_kinds, last_kinds, most_turns, split_kind, window_kind, day_kind, dead_kind, bound_kind, free_kind}
+use Rattle.refutation_terms.specs.declared.lines.Line.TheVariants.{Closing}
+use Rattle.refutation_terms.specs.declared.lines.Leaf.TheVariants as Leaves
+use Rattle.refutation_terms.specs.declared.lines.WordClaim.TheVariants.{Dead}
+use Rattle.refutation_terms.specs.LogText.{IsWritten, named_light, WeightsAscend, line_kinds, own_kinds, last_kinds, most_turns, split_kind, window_kind, day_kind, dead_kind, bound_kind, free_kind}
 use Rattle.refutation_terms.specs.Verdict.{Spells}
 use Rattle.refutation_terms.specs.TextLaws.{IsWritable}
-use Rattle.refutation_terms.proofs.LineTables.{lines_readable, raw_line, raw_found, raw_words}
+use Rattle.refutation_terms.proofs.LineTables.{lines_readable}
 use Rattle.refutation_log.specs.Refusals.{IsLineRefused}
 use Rattle.refutation_log.specs.declared.refusal.LineRefusal.{LineRefusal}
 use Rattle.refutation_log.specs.declared.refusal.LineRefusal.TheVariants.{Form, Name}
@@ -56,10 +59,10 @@ head_then P high ws k = then_three (place_at P.weeks P.days ws) (λ p. number_at
 
 pub dead_is : (P : Instance) (ws : Words) → dead_at P ws ≡ read (dead_kind P).fields (dead_kind P).make ws
 unfolding dead_at
-dead_is P ws = head_then P LONGEST_WORD ws (λ head. done_at (RawDead head.0.0 head.0.1 (rules_in P head.1).0) (rules_in P head.1).1)
+dead_is P ws = head_then P LONGEST_WORD ws (λ head. done_at (Some (Closing (Leaves.Words head.0.0 (rules_in P head.1).0 (Dead head.0.1)))) (rules_in P head.1).1)
 
 -- rules and weights, read at once or one by one
-weighed_then : (P : Instance) (ws : Words) (k : List ℕ → List NamedWeight → RawLine) → (weighed_at P ws >>= (λ v. Some (k v.0 v.1))) ≡ (word_at (codes "weights") (rules_in P ws).1 >>= (λ rest. all_weights_at P rest >>= (λ y. Some (k (rules_in P ws).0 y))))
+weighed_then : (P : Instance) (ws : Words) (k : List ℕ → List NamedWeight → Option Line) → (weighed_at P ws >>= (λ v. Some (k v.0 v.1))) ≡ (word_at (codes "weights") (rules_in P ws).1 >>= (λ rest. all_weights_at P rest >>= (λ y. Some (k (rules_in P ws).0 y))))
 unfolding weighed_at
 weighed_then P ws k = then_two (word_at (codes "weights") (rules_in P ws).1) (λ rest. all_weights_at P rest) (λ rest y. ((rules_in P ws).0, y)) (λ v. Some (k v.0 v.1))
 
@@ -70,36 +73,36 @@ then_same (Some a) f g h = h a
 pub bound_is : (P : Instance) (ws : Words) → bound_at P ws ≡ read (bound_kind P).fields (bound_kind P).make ws
 unfolding bound_at
 bound_is P ws =
-    then_same (head_at P (most_turns P) ws) (λ head. weighed_at P head.1 >>= (λ v. Some (RawBound head.0.0 head.0.1 v.0 v.1)))
-    (λ head. word_at (codes "weights") (rules_in P head.1).1 >>= (λ rest. all_weights_at P rest >>= (λ y. Some (RawBound head.0.0 head.0.1 (rules_in P head.1).0 y))))
-    (λ head. weighed_then P head.1 (RawBound head.0.0 head.0.1))
-    ∙ head_then P (most_turns P) ws (λ head. word_at (codes "weights") (rules_in P head.1).1 >>= (λ rest. all_weights_at P rest >>= (λ y. Some (RawBound head.0.0 head.0.1 (rules_in P head.1).0 y))))
+    then_same (head_at P (most_turns P) ws) (λ head. weighed_at P head.1 >>= (λ v. Some (named_light P head.0.0 head.0.1 0 v.0 v.1)))
+    (λ head. word_at (codes "weights") (rules_in P head.1).1 >>= (λ rest. all_weights_at P rest >>= (λ y. Some (named_light P head.0.0 head.0.1 0 (rules_in P head.1).0 y))))
+    (λ head. weighed_then P head.1 (named_light P head.0.0 head.0.1 0))
+    ∙ head_then P (most_turns P) ws (λ head. word_at (codes "weights") (rules_in P head.1).1 >>= (λ rest. all_weights_at P rest >>= (λ y. Some (named_light P head.0.0 head.0.1 0 (rules_in P head.1).0 y))))
 
 pub free_is : (P : Instance) (ws : Words) → free_at P ws ≡ read (free_kind P).fields (free_kind P).make ws
 unfolding free_at free_head_at
 free_is P ws =
-    then_same (free_head_at P ws) (λ head. weighed_at P head.1 >>= (λ v. Some (RawFree head.0.0 head.0.1 v.0 v.1)))
-    (λ head. word_at (codes "weights") (rules_in P head.1).1 >>= (λ rest. all_weights_at P rest >>= (λ y. Some (RawFree head.0.0 head.0.1 (rules_in P head.1).0 y))))
-    (λ head. weighed_then P head.1 (RawFree head.0.0 head.0.1))
+    then_same (free_head_at P ws) (λ head. weighed_at P head.1 >>= (λ v. Some (named_light P 0 head.0.0 head.0.1 v.0 v.1)))
+    (λ head. word_at (codes "weights") (rules_in P head.1).1 >>= (λ rest. all_weights_at P rest >>= (λ y. Some (named_light P 0 head.0.0 head.0.1 (rules_in P head.1).0 y))))
+    (λ head. weighed_then P head.1 (named_light P 0 head.0.0 head.0.1))
     ∙ then_three (number_at 1 (most_turns P) ws) (λ turns. number_at 0 GREATEST_REWARD turns.1) (λ reward. word_at (codes "rules") reward.1) (λ turns reward rest. ((turns.0, reward.0), rest))
-    (λ head. word_at (codes "weights") (rules_in P head.1).1 >>= (λ rest. all_weights_at P rest >>= (λ y. Some (RawFree head.0.0 head.0.1 (rules_in P head.1).0 y))))
+    (λ head. word_at (codes "weights") (rules_in P head.1).1 >>= (λ rest. all_weights_at P rest >>= (λ y. Some (named_light P 0 head.0.0 head.0.1 (rules_in P head.1).0 y))))
 
 -- the last kinds, and those that logs with a goal, or without one, have alone
-last_is : (counts : Bool) (w : List ℕ) (ws : Words) → last_at counts w ws ≡ read_line (last_kinds counts) (w ∷ ws)
+last_is : (P : Instance) (counts : Bool) (w : List ℕ) (ws : Words) → last_at P counts w ws ≡ read_line (last_kinds P counts) (w ∷ ws)
 unfolding last_at blocks_at read_line
-last_is false w ws = refl
-last_is true w ws = refl
+last_is P false w ws = refl
+last_is P true w ws = refl
 
 own_is : (P : Instance) (goal : Option ℕ) (counts : Bool) (w : List ℕ) (ws : Words) → own_at P goal counts w ws ≡ read_line (own_kinds P goal counts) (w ∷ ws)
 unfolding without_goal_at with_goal_at read_line
 own_is P None counts w ws =
-    ap (λ b. cond (bytes_eq w (codes "bound")) b (last_at counts w ws)) (bound_is P ws)
-    ∙ ap (λ l. cond (bytes_eq w (codes "bound")) (read (bound_kind P).fields (bound_kind P).make ws) l) (last_is counts w ws)
+    ap (λ b. cond (bytes_eq w (codes "bound")) b (last_at P counts w ws)) (bound_is P ws)
+    ∙ ap (λ l. cond (bytes_eq w (codes "bound")) (read (bound_kind P).fields (bound_kind P).make ws) l) (last_is P counts w ws)
 own_is P (Some goal) counts w ws =
-    ap (λ f. cond (bytes_eq w (codes "few")) (done_at RawFew ws) (cond (bytes_eq w (codes "free")) f (last_at counts w ws))) (free_is P ws)
-    ∙ ap (λ l. cond (bytes_eq w (codes "few")) (done_at RawFew ws) (cond (bytes_eq w (codes "free")) (read (free_kind P).fields (free_kind P).make ws) l)) (last_is counts w ws)
+    ap (λ f. cond (bytes_eq w (codes "few")) (done_at (Some (Closing Leaves.Few)) ws) (cond (bytes_eq w (codes "free")) f (last_at P counts w ws))) (free_is P ws)
+    ∙ ap (λ l. cond (bytes_eq w (codes "few")) (done_at (Some (Closing Leaves.Few)) ws) (cond (bytes_eq w (codes "free")) (read (free_kind P).fields (free_kind P).make ws) l)) (last_is P counts w ws)
 
-abbrev with_dead : Instance → List ℕ → Words → Option RawLine → Option RawLine → Option RawLine
+abbrev with_dead : Instance → List ℕ → Words → Option (Option Line) → Option (Option Line) → Option (Option Line)
 with_dead P w ws dead own =
     cond (bytes_eq w (codes "split")) (read (split_kind P).fields (split_kind P).make ws)
     (cond (bytes_eq w (codes "window")) (read (window_kind P).fields (window_kind P).make ws)
@@ -114,40 +117,44 @@ raw_is P goal counts (w ∷ ws) =
     ∙ ap (with_dead P w ws (read (dead_kind P).fields (dead_kind P).make ws)) (own_is P goal counts w ws)
 
 -- what is written is read
-pub written_read : (P : Instance) (goal : Option ℕ) (counts : Bool) (bytes body : List ℕ) (raw : RawLine) → IsWritable P → bytes ≡ body ++ 10 ∷ [] → IsWritten P goal counts bytes raw → read_line (line_kinds P goal counts) (words_of body) ≡ Some raw
-written_read P goal counts bytes body raw s e h =
-    ap (read_line (line_kinds P goal counts)) (text_words bytes body (raw_fields P raw) (raw_words P goal counts raw s h.in_range) e h.spelled)
-    ∙ line_only (line_kinds P goal counts) (raw_fields P raw) raw (lines_readable P goal counts s) (raw_line P goal counts raw h.in_range)
+pub written_read : (P : Instance) (goal : Option ℕ) (counts : Bool) (bytes body : List ℕ) (named : Option Line) → IsWritable P → bytes ≡ body ++ 10 ∷ [] → IsWritten P goal counts bytes named → read_line (line_kinds P goal counts) (words_of body) ≡ Some named
+written_read P goal counts bytes body named s e h =
+    let kinds = line_kinds P goal counts in
+    let readable = lines_readable P goal counts s in
+    ap (read_line kinds) (text_words bytes body h.fields (lines_are_words kinds h.fields named readable h.is_line) e h.spelled)
+    ∙ line_only kinds h.fields named readable h.is_line
 
-pub read_written : (P : Instance) (goal : Option ℕ) (counts : Bool) (bytes body : List ℕ) (raw : RawLine) → bytes ≡ body ++ 10 ∷ [] → read_line (line_kinds P goal counts) (words_of body) ≡ Some raw → IfSome (line_of P raw) WeightsAscend → IsWritten P goal counts bytes raw
-read_written P goal counts bytes body raw e h up =
-    let f = raw_found P goal counts (words_of body) raw (line_found (line_kinds P goal counts) (words_of body) raw h) in
-    record { spelled = words_text bytes body (raw_fields P raw) e f.0; in_range = f.1; ascends = up }
+pub read_written : (P : Instance) (goal : Option ℕ) (counts : Bool) (bytes body : List ℕ) (named : Option Line) → bytes ≡ body ++ 10 ∷ [] → read_line (line_kinds P goal counts) (words_of body) ≡ Some named → IfSome named WeightsAscend → IsWritten P goal counts bytes named
+read_written P goal counts bytes body named e h up = record {
+  fields = words_of body;
+  spelled = words_text bytes body (words_of body) e refl;
+  is_line = line_found (line_kinds P goal counts) (words_of body) named h;
+  ascends = up;
+}
 
-answer_by : (P : Instance) (goal : Option ℕ) (counts : Bool) (bytes body : List ℕ) (o : Option RawLine) (result : Result Line (Fail LineRefusal)) → IsWritable P → bytes ≡ body ++ 10 ∷ [] → read_line (line_kinds P goal counts) (words_of body) ≡ o → Answers P o result → MatchAnswer result (Spells P goal counts bytes) (IsLineRefused P goal counts bytes)
+answer_by : (P : Instance) (goal : Option ℕ) (counts : Bool) (bytes body : List ℕ) (o : Option (Option Line)) (result : Result Line (Fail LineRefusal)) → IsWritable P → bytes ≡ body ++ 10 ∷ [] → read_line (line_kinds P goal counts) (words_of body) ≡ o → Answers o result → MatchAnswer result (Spells P goal counts bytes) (IsLineRefused P goal counts bytes)
 answer_by P goal counts bytes body None (Ok line) s e r a = absurd a
-answer_by P goal counts bytes body (Some raw) (Ok line) s e r a =
-    (raw, read_written P goal counts bytes body raw e r (subst (λ o. IfSome o WeightsAscend) (sym a.0) a.1), a.0)
+answer_by P goal counts bytes body (Some named) (Ok line) s e r a =
+    read_written P goal counts bytes body (Some line) e (r ∙ ap (λ (o : Option Line). Some o) a.0) a.1
 answer_by P goal counts bytes body o (Err Memory) s e r a = tt
 answer_by P goal counts bytes body None (Err (Refused Form)) s e r a =
-    λ raw h. let w : read_line (line_kinds P goal counts) (words_of body) ≡ Some raw = written_read P goal counts bytes body raw s e h in absurd (cc)
-answer_by P goal counts bytes body (Some raw) (Err (Refused Form)) s e r a =
+    λ named h. let w : read_line (line_kinds P goal counts) (words_of body) ≡ Some named = written_read P goal counts bytes body named s e h in absurd (cc)
+answer_by P goal counts bytes body (Some named) (Err (Refused Form)) s e r a =
     λ other h.
     let w : read_line (line_kinds P goal counts) (words_of body) ≡ Some other = written_read P goal counts bytes body other s e h in
-    let same : other ≡ raw = let z : Some other ≡ Some raw = sym w ∙ r in cc in
-    let up : IfSome (line_of P raw) WeightsAscend = subst (λ q. IfSome (line_of P q) WeightsAscend) same h.ascends in
-    let up' : IfSome (Some a.0) WeightsAscend = subst (λ o. IfSome o WeightsAscend) a.1 up in
-    a.2 up'
+    let same : other ≡ Some a.0 = let z : Some other ≡ Some named = sym w ∙ r in let y : other ≡ named = cc in y ∙ a.1 in
+    let up : IfSome (Some a.0) WeightsAscend = subst (λ o. IfSome o WeightsAscend) same h.ascends in
+    a.2 up
 answer_by P goal counts bytes body None (Err (Refused Name)) s e r a = absurd a
-answer_by P goal counts bytes body (Some raw) (Err (Refused Name)) s e r a =
-    (raw, read_written P goal counts bytes body raw e r (subst (λ o. IfSome o WeightsAscend) (sym a) tt), a)
+answer_by P goal counts bytes body (Some named) (Err (Refused Name)) s e r a =
+    read_written P goal counts bytes body None e (r ∙ ap (λ (o : Option Line). Some o) a) tt
 
-pub line_answered : (P : Instance) (goal : Option ℕ) (counts : Bool) (bytes body : List ℕ) (result : Result Line (Fail LineRefusal)) → KeepsLimits P → bytes ≡ body ++ 10 ∷ [] → Answers P (raw_at P goal counts (words_of body)) result → MatchAnswer result (Spells P goal counts bytes) (IsLineRefused P goal counts bytes)
+pub line_answered : (P : Instance) (goal : Option ℕ) (counts : Bool) (bytes body : List ℕ) (result : Result Line (Fail LineRefusal)) → KeepsLimits P → bytes ≡ body ++ 10 ∷ [] → Answers (raw_at P goal counts (words_of body)) result → MatchAnswer result (Spells P goal counts bytes) (IsLineRefused P goal counts bytes)
 line_answered P goal counts bytes body result k e a =
-    answer_by P goal counts bytes body (read_line (line_kinds P goal counts) (words_of body)) result (is_writable P k) e refl (subst (λ o. Answers P o result) (raw_is P goal counts (words_of body)) a)
+    answer_by P goal counts bytes body (read_line (line_kinds P goal counts) (words_of body)) result (is_writable P k) e refl (subst (λ o. Answers o result) (raw_is P goal counts (words_of body)) a)
 
 pub no_feed_no_line : (P : Instance) (goal : Option ℕ) (counts : Bool) (bytes : List ℕ) → ((body : List ℕ) → bytes ≢ body ++ 10 ∷ []) → IsLineRefused P goal counts bytes Form
-no_feed_no_line P goal counts bytes none = λ raw h. none (join_with_byte 32 (raw_fields P raw)) h.spelled
+no_feed_no_line P goal counts bytes none = λ named h. none (join_with_byte 32 h.fields) h.spelled
 
 pub small_from : (P : Instance) → KeepsLimits P → IsWritable P
 small_from P limits = is_writable P limits

@@ -17,7 +17,7 @@ use Rattle.refutation_terms.specs.declared.lines.LogRefusal.TheVariants as Refus
 use Rattle.refutation_terms.specs.Tree.{IsTree, after_trees}
 use Rattle.refutation_terms.specs.Log.{Log, LineFits, OpeningFits, GoalFits, CountsFit}
 use Rattle.refutation_terms.specs.Ranges.{AreRules}
-use Rattle.refutation_terms.specs.LogText.{raw, line_text, lines_text, log_text, header_text}
+use Rattle.refutation_terms.specs.LogText.{line_text, lines_text, log_text, header_text}
 use Rattle.rwsp_text.specs.Lines.{IsNextLine}
 use Rattle.refutation_terms.specs.Verdict.{kind_by, kind_of_log, Spells, Reading, header_lines, IsRefusedBehindFront}
 use Rattle.refutation_terms.proofs.Trees.{tree_is_whole, whole_is_tree}
@@ -27,7 +27,7 @@ use Rattle.refutation_log.specs.Printing.{EachFits}
 use Rattle.refutation_log.specs.ReadLog.{IsReadSoFar, IsRead, ReadCause, IsUnread, IsReadAs, AreReadLines, AreLinesUnder, IsLogUnder, IsUnreadUnder, IsTreeLineRefused, open_after, log_with, log_under, text_of_header}
 use Rattle.refutation_log.proofs.PrintedTexts.{line_piece, joined_lines}
 
-lines_text_push : (P : Instance) (goal : Option ℕ) (lines : List Line) (line : Line) → lines_text P goal (lines ++ line ∷ []) ≡ lines_text P goal lines ++ line_text P (raw P goal line)
+lines_text_push : (P : Instance) (goal : Option ℕ) (lines : List Line) (line : Line) → lines_text P goal (lines ++ line ∷ []) ≡ lines_text P goal lines ++ line_text P goal line
 lines_text_push P goal lines line =
     sym (joined_lines P goal (lines ++ line ∷ [])) ∙ flat_map-append (line_piece P goal) lines (line ∷ [])
     ∙ ap (λ t. t ++ (line_piece P goal line ++ [])) (joined_lines P goal lines) ∙ ap (λ t. lines_text P goal lines ++ t) (append-nil (line_piece P goal line))
@@ -101,7 +101,7 @@ lines_more P goal counts old left bytes rest lines more line count next so some 
     (record {
       text =
           so.text ∙ ap (λ t. lines_text P goal lines ++ t) (e ∙ ap (λ b. b ++ rest) s.1)
-          ∙ sym (append_assoc (lines_text P goal lines) (line_text P (raw P goal line)) rest)
+          ∙ sym (append_assoc (lines_text P goal lines) (line_text P goal line) rest)
           ∙ ap (λ t. t ++ rest) (sym (lines_text_push P goal lines line));
       fits = fits_push P goal counts lines line so.fits s.0;
       walk = λ ls. ap (after_trees 1) (append_assoc lines (line ∷ []) ls) ∙ so.walk (line ∷ ls) ∙ walk_one count line ls some;

@@ -15,7 +15,7 @@ use Rattle.refutation_terms.specs.Word.{Domains}
 use Rattle.refutation_terms.specs.Ranges.{AreRules}
 use Rattle.refutation_terms.specs.Tree.{IsTree, after_trees, lines_in, domains_at}
 use Rattle.refutation_terms.specs.Log.{Log, Fits, LineFits, OpeningFits}
-use Rattle.refutation_terms.specs.LogText.{raw, line_text, log_text, turn_text}
+use Rattle.refutation_terms.specs.LogText.{line_text, log_text, turn_text}
 use Rattle.refutation_terms.specs.Verdict.{kind_of_log, Reading, header_lines}
 use Rattle.refutation_terms.proofs.LineTables.{fitting_lines_are_spelled}
 use Rattle.refutation_terms.proofs.Trees.{tree_is_whole, part_is_not_whole}
@@ -46,19 +46,19 @@ no_reason P goal R D n line why (OfFail all plain not e) r = subst IsReadCause e
 no_reason P goal R D n line why (OfEscape all short u a e) r = subst IsReadCause e r
 no_reason P goal R D n line why (OfOpen o e) r = subst IsReadCause e r
 
-level_fine : (P : Instance) (goal : Option ℕ) (counts : Bool) (R : List ℕ) (D : Domains) (n : ℕ) (line : Line) (why : LogRefusal) → KeepsLimits P → LineFits P goal counts line → Level P goal counts R D n (line_text P (raw P goal line)) why → IsReadCause why → ⊥
-level_fine P goal counts R D n line why limits fits (Nothing a e) r = let s = fitting_lines_are_spelled P goal counts line (has_names P limits) fits in a s.0 s.1
-level_fine P goal counts R D n line why limits fits (Unknown a e) r = not_unknown P goal counts (line_text P (raw P goal line)) line (is_writable P limits) (fitting_lines_are_spelled P goal counts line (has_names P limits) fits) a
+level_fine : (P : Instance) (goal : Option ℕ) (counts : Bool) (R : List ℕ) (D : Domains) (n : ℕ) (line : Line) (why : LogRefusal) → KeepsLimits P → LineFits P goal counts line → Level P goal counts R D n (line_text P goal line) why → IsReadCause why → ⊥
+level_fine P goal counts R D n line why limits fits (Nothing a e) r = a (Some line) (fitting_lines_are_spelled P goal counts line (has_names P limits) fits)
+level_fine P goal counts R D n line why limits fits (Unknown a e) r = not_unknown P goal counts (line_text P goal line) line (is_writable P limits) (fitting_lines_are_spelled P goal counts line (has_names P limits) fits) a
 level_fine P goal counts R D n line why limits fits (Known other a q) r = no_reason P goal R D n other why q r
 
-line_fine : (P : Instance) (kind : LogKind) (f : Log) (line : Line) (more : List Line) (why : LogRefusal) → KeepsLimits P → IsReadSoFar P (record { named = f.named; opening = f.opening; goal = f.goal; counts = f.counts; lines = f.lines ++ line ∷ more }) → ReadCause P kind (Reading f) (line_text P (raw P f.goal line)) why → ⊥
+line_fine : (P : Instance) (kind : LogKind) (f : Log) (line : Line) (more : List Line) (why : LogRefusal) → KeepsLimits P → IsReadSoFar P (record { named = f.named; opening = f.opening; goal = f.goal; counts = f.counts; lines = f.lines ++ line ∷ more }) → ReadCause P kind (Reading f) (line_text P f.goal line) why → ⊥
 line_fine P kind f line more why limits h (inl c, r) =
     let short : length f.lines < length (f.lines ++ line ∷ more) = omega (arith, length-append f.lines (line ∷ more)) in
     h.in_tree (length f.lines) short (subst IsTree (sym (take-append_seam f.lines (line ∷ more))) c.0)
 line_fine P kind f line more why limits h (inr c, r) =
     let n = header_lines f.opening f.goal f.counts + length f.lines + 1 in
     let D = domains_at P f.opening f.lines (length f.lines) in
-    level_fine P f.goal f.counts f.named D n line why limits (h.fits.lines (length f.lines) line (got_seam f.lines more line)) (level_of P f.goal f.counts f.named D n (line_text P (raw P f.goal line)) why c.1) r
+    level_fine P f.goal f.counts f.named D n line why limits (h.fits.lines (length f.lines) line (got_seam f.lines more line)) (level_of P f.goal f.counts f.named D n (line_text P f.goal line) why c.1) r
 
 read_fronts : (P : Instance) (kind : LogKind) → KeepsLimits P → AreFronts (front_fields P) (IsRead P kind) (ReadCause P kind)
 read_fronts P kind limits =

@@ -11,9 +11,10 @@ use Rattle.rwsp_model.proofs.Names.{symbol_named, symbol_word}
 use Rattle.rwsp_model.specs.Validity.{KeepsLimits, breaks_name}
 use Rattle.refutation_terms.specs.declared.lines.Line.{Line}
 use Rattle.refutation_terms.specs.Log.{LineFits}
-use Rattle.refutation_terms.specs.LogText.{raw, raw_fields, lines_text}
+use Rattle.refutation_terms.specs.LogText.{line_fields, lines_text}
 use Rattle.refutation_terms.specs.TextLaws.{HasNames, IsWritable}
-use Rattle.refutation_terms.proofs.Texts.{lines_fields, lines_written, line_words, lines_words, lines_longer}
+use Rattle.refutation_terms.proofs.LineTables.{line_words}
+use Rattle.refutation_terms.proofs.Texts.{lines_fields, lines_written, lines_words, lines_longer}
 use Rattle.refutation_log.specs.Printing.{EachFits}
 use Rattle.refutation_log.proofs.LineTexts as LineTexts
 
@@ -41,13 +42,13 @@ is_writable P limits = LineTexts.is_writable P limits
 -- texts of lines
 
 abbrev pub body : Instance → Option ℕ → Line → List ℕ
-body P goal line = join_with_byte 32 (raw_fields P (raw P goal line))
+body P goal line = join_with_byte 32 (line_fields P goal line)
 
 pub feedless_words : (ws : Words) → AreBlankless ws → HasNoFeed (join_with_byte 32 ws)
 feedless_words ws h = join_no_feed ws h
 
 pub body_feedless : (P : Instance) (goal : Option ℕ) (counts : Bool) (line : Line) → KeepsLimits P → LineFits P goal counts line → HasNoFeed (body P goal line)
-body_feedless P goal counts line limits f = join_no_feed (raw_fields P (raw P goal line)) (line_words P goal counts line (is_writable P limits) (has_names P limits) f).1
+body_feedless P goal counts line limits f = join_no_feed (line_fields P goal line) (line_words P goal counts line (is_writable P limits) (has_names P limits) f).1
 
 pub one_list : (P : Instance) (goal : Option ℕ) (counts : Bool) (ls ms : List Line) → KeepsLimits P → EachFits P goal counts ls → EachFits P goal counts ms → lines_text P goal ls ≡ lines_text P goal ms → ls ≡ ms
 one_list P goal counts ls ms limits f g e =

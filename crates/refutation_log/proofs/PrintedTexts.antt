@@ -5,11 +5,15 @@ use Rattle.std.specs.List.{join_with_byte, flat_map}
 use Rattle.std.specs.Fmt.{decimal}
 use Rattle.std.proofs.lemmas.List.{append-nil, take_more, take_all, flat_map_more}
 use Rattle.std.proofs.lemmas.List.Concat.{flat_map-append}
+use Rattle.rwsp_terms.specs.declared.data.Symbol.{Symbol}
 use Rattle.rwsp_terms.specs.declared.data.Weight.{Weight}
 use Rattle.rwsp_terms.specs.Instance.{Instance, name_of}
 use Rattle.refutation_terms.specs.declared.cells.GivenCell.{GivenCell}
 use Rattle.refutation_terms.specs.declared.lines.Line.{Line}
-use Rattle.refutation_terms.specs.LogText.{RawSplit, RawWindow, RawDay, RawDead, RawBlocks, raw, raw_light, raw_fields, line_text, lines_text, place_words, way, named_weight, named_cell, rules_text, goal_text, turn_text, cells_text}
+use Rattle.refutation_terms.specs.declared.lines.Line.TheVariants.{Split, Closing}
+use Rattle.refutation_terms.specs.declared.lines.Leaf.TheVariants.{Window, Day, Words, Blocks}
+use Rattle.refutation_terms.specs.declared.lines.WordClaim.TheVariants.{Dead, Light}
+use Rattle.refutation_terms.specs.LogText.{line_fields, line_text, lines_text, place_words, way, named_weight, named_cell, rules_text, goal_text, turn_text, cells_text}
 use Rattle.rwsp_text.specs.Fields.{numbers, weight_fields, cell_fields}
 use Rattle.rwsp_text.proofs.JoinedWords.{join_spaced}
 use Rattle.refutation_log.specs.Printing.{spaced, weight_words, light_head, weighed_words}
@@ -46,7 +50,7 @@ spaced_weights P (e ∷ y) =
     ap (λ t. weight_piece P e ++ t) (spaced_weights P y) ∙ sym (spaced-append (weight_fields (named_weight P e)) (weight_words P y))
 
 abbrev pub line_piece : Instance → Option ℕ → Line → List ℕ
-line_piece P goal line = line_text P (raw P goal line)
+line_piece P goal line = line_text P goal line
 
 pub joined_lines : (P : Instance) (goal : Option ℕ) (lines : List Line) → flat_map (line_piece P goal) lines ≡ lines_text P goal lines
 joined_lines P goal [] = refl
@@ -69,25 +73,27 @@ finish a w ws b e = e ∙ ap (λ t. a ++ t) (sym (join_spaced w ws))
 close : (a t b c : List ℕ) → b ≡ a ++ t → c ≡ b ++ 10 ∷ [] → c ≡ a ++ (t ++ 10 ∷ [])
 close a t b c e f = f ∙ ap (λ z. z ++ 10 ∷ []) e ∙ append_assoc a t (10 ∷ [])
 
-pub split_text : (P : Instance) (p : ℕ) (name a b c d : List ℕ) → b ≡ a ++ codes "split" → c ≡ b ++ spaced (place_words P p) → d ≡ c ++ 32 ∷ name → d ≡ a ++ join_with_byte 32 (raw_fields P (RawSplit p name))
-split_text P p name a b c d e f g =
+pub split_text : (P : Instance) (p : ℕ) (x : Symbol) (a b c d : List ℕ) → b ≡ a ++ codes "split" → c ≡ b ++ spaced (place_words P p) → d ≡ c ++ 32 ∷ name_of P x → d ≡ a ++ join_with_byte 32 (line_fields P None (Split p x))
+split_text P p x a b c d e f g =
     let w = codes "split" in
+    let name = name_of P x in
     finish a w (place_words P p ++ (name ∷ [])) d (word a w (place_words P p) name c d (more a w [] (place_words P p) b c (begin a w b e) f) g)
 
-pub window_text : (P : Instance) (rule p len : ℕ) (a b c d e : List ℕ) → b ≡ a ++ codes "window" → c ≡ b ++ 32 ∷ decimal rule → d ≡ c ++ spaced (place_words P p) → e ≡ d ++ 32 ∷ decimal len → e ≡ a ++ join_with_byte 32 (raw_fields P (RawWindow rule p len))
+pub window_text : (P : Instance) (rule p len : ℕ) (a b c d e : List ℕ) → b ≡ a ++ codes "window" → c ≡ b ++ 32 ∷ decimal rule → d ≡ c ++ spaced (place_words P p) → e ≡ d ++ 32 ∷ decimal len → e ≡ a ++ join_with_byte 32 (line_fields P None (Closing (Window rule p len)))
 window_text P rule p len a b c d e q r s t =
     let w = codes "window" in
     let ws : List (List ℕ) = decimal rule ∷ [] in
     finish a w (ws ++ place_words P p ++ (decimal len ∷ [])) e
     (word a w (ws ++ place_words P p) (decimal len) d e (more a w ws (place_words P p) c d (word a w [] (decimal rule) b c (begin a w b q) r) s) t)
 
-pub day_text : (P : Instance) (day : ℕ) (name : List ℕ) (over : Bool) (a b c d e : List ℕ) → b ≡ a ++ codes "day" → c ≡ b ++ 32 ∷ decimal day → d ≡ c ++ 32 ∷ name → e ≡ d ++ 32 ∷ way over → e ≡ a ++ join_with_byte 32 (raw_fields P (RawDay day name over))
-day_text P day name over a b c d e q r s t =
+pub day_text : (P : Instance) (day : ℕ) (x : Symbol) (over : Bool) (a b c d e : List ℕ) → b ≡ a ++ codes "day" → c ≡ b ++ 32 ∷ decimal day → d ≡ c ++ 32 ∷ name_of P x → e ≡ d ++ 32 ∷ way over → e ≡ a ++ join_with_byte 32 (line_fields P None (Closing (Day day x over)))
+day_text P day x over a b c d e q r s t =
     let w = codes "day" in
+    let name = name_of P x in
     finish a w (decimal day ∷ name ∷ way over ∷ []) e
     (word a w (decimal day ∷ name ∷ []) (way over) d e (word a w (decimal day ∷ []) name c d (word a w [] (decimal day) b c (begin a w b q) r) s) t)
 
-pub dead_text : (P : Instance) (p len : ℕ) (R a b c d e f : List ℕ) → b ≡ a ++ codes "dead" → c ≡ b ++ spaced (place_words P p) → d ≡ c ++ 32 ∷ decimal len → e ≡ d ++ 32 ∷ codes "rules" → f ≡ e ++ spaced (numbers R) → f ≡ a ++ join_with_byte 32 (raw_fields P (RawDead p len R))
+pub dead_text : (P : Instance) (p len : ℕ) (R a b c d e f : List ℕ) → b ≡ a ++ codes "dead" → c ≡ b ++ spaced (place_words P p) → d ≡ c ++ 32 ∷ decimal len → e ≡ d ++ 32 ∷ codes "rules" → f ≡ e ++ spaced (numbers R) → f ≡ a ++ join_with_byte 32 (line_fields P None (Closing (Words p R (Dead len))))
 dead_text P p len R a b c d e f q r s t u =
     let w = codes "dead" in
     let ws : List (List ℕ) = place_words P p ++ (decimal len ∷ []) in
@@ -95,9 +101,10 @@ dead_text P p len R a b c d e f q r s t u =
     finish a w (vs ++ numbers R) f
     (more a w vs (numbers R) e f (word a w ws (codes "rules") d e (word a w (place_words P p) (decimal len) c d (more a w [] (place_words P p) b c (begin a w b q) r) s) t) u)
 
-pub blocks_text : (P : Instance) (name a b c : List ℕ) → b ≡ a ++ codes "blocks" → c ≡ b ++ 32 ∷ name → c ≡ a ++ join_with_byte 32 (raw_fields P (RawBlocks name))
-blocks_text P name a b c q r =
+pub blocks_text : (P : Instance) (x : Symbol) (a b c : List ℕ) → b ≡ a ++ codes "blocks" → c ≡ b ++ 32 ∷ name_of P x → c ≡ a ++ join_with_byte 32 (line_fields P None (Closing (Blocks x)))
+blocks_text P x a b c q r =
     let w = codes "blocks" in
+    let name = name_of P x in
     finish a w (name ∷ []) c (word a w [] name b c (begin a w b q) r)
 
 pub bound_head_text : (P : Instance) (p turns reward : ℕ) (a b c d : List ℕ) → b ≡ a ++ codes "bound" → c ≡ b ++ spaced (place_words P p) → d ≡ c ++ 32 ∷ decimal turns → d ≡ a ++ join_with_byte 32 (light_head P None p turns reward)
@@ -118,7 +125,7 @@ weighed_text P R y a b c d e q r s t =
     more a w us (weight_words P y) d e (word a w (numbers R) (codes "weights") c d (more a w [] (numbers R) b c (begin a w b q) r) s) t
     ∙ ap (λ vs. a ++ (w ++ spaced vs)) (append_assoc (numbers R) (codes "weights" ∷ []) (weight_words P y))
 
-pub light_text : (P : Instance) (goal : Option ℕ) (p turns reward : ℕ) (R : List ℕ) (y : List Weight) (a b c : List ℕ) → b ≡ a ++ join_with_byte 32 (light_head P goal p turns reward) → c ≡ b ++ spaced (weighed_words P R y) → c ≡ a ++ join_with_byte 32 (raw_fields P (raw_light P goal p turns reward R y))
+pub light_text : (P : Instance) (goal : Option ℕ) (p turns reward : ℕ) (R : List ℕ) (y : List Weight) (a b c : List ℕ) → b ≡ a ++ join_with_byte 32 (light_head P goal p turns reward) → c ≡ b ++ spaced (weighed_words P R y) → c ≡ a ++ join_with_byte 32 (line_fields P goal (Closing (Words p R (Light turns reward y))))
 light_text P None p turns reward R y a b c e f =
     let w = codes "bound" in
     let ws : List (List ℕ) = place_words P p ++ (decimal turns ∷ []) in

@@ -6,10 +6,11 @@ use Rattle.rwsp_terms.specs.Instance.{Instance}
 use Rattle.rwsp_terms.specs.declared.data.Weight.{Weight}
 use Rattle.rwsp_model.specs.declared.fail.Fail.{Fail}
 use Rattle.rwsp_model.specs.declared.fail.Fail.TheVariants.{Refused, Memory}
+use Rattle.refutation_terms.specs.declared.lines.Line.{Line}
 use Rattle.refutation_terms.specs.declared.lines.Line.TheVariants.{Closing}
 use Rattle.refutation_terms.specs.declared.lines.Leaf.TheVariants.{Words}
 use Rattle.refutation_terms.specs.declared.lines.WordClaim.TheVariants.{Light}
-use Rattle.refutation_terms.specs.LogText.{RawLine, RawBound, RawFree, weights_of, line_of, most_turns}
+use Rattle.refutation_terms.specs.LogText.{weights_of, named_light, most_turns}
 use Rattle.rwsp_text.specs.Fields.{NamedWeight, word_at}
 use Rattle.refutation_log.specs.declared.refusal.LineRefusal.{LineRefusal}
 use Rattle.refutation_log.specs.declared.refusal.LineRefusal.TheVariants.{Form, Name}
@@ -51,41 +52,40 @@ pub weighed_missed : (P : Instance) (h r u : List (List ℕ)) (R : List ℕ) →
 weighed_missed P h r u R b c g =
     subst (λ o. IsWeighedAnswer P o (Err Form)) (sym (missed_by P h r u R (all_weights_at P u) b c refl g)) tt
 
--- such a line, as it is written with its rules and its weights
-abbrev IsWrittenAs : Instance → (p turns reward : ℕ) → (List ℕ → List NamedWeight → RawLine) → Type 0
-IsWrittenAs P p turns reward written =
-    (R : List ℕ) (y : List NamedWeight) → line_of P (written R y) ≡ option_map (λ (z : List Weight). Closing (Words p R (Light turns reward z))) (weights_of P y)
+-- the line of these rules and weights, where they were read
+abbrev line_of : Instance → (p turns reward : ℕ) → Option Read → Option (Option Line)
+line_of P p turns reward o = option_map (λ (v : Read). named_light P p turns reward v.0 v.1) o
 
-abbrev written_of : (List ℕ → List NamedWeight → RawLine) → Option Read → Option RawLine
-written_of written o = option_map (λ (v : Read). written v.0 v.1) o
+named : (P : Instance) (p turns reward : ℕ) (R : List ℕ) (y : List NamedWeight) (o : Option (List Weight)) → weights_of P y ≡ o → named_light P p turns reward R y ≡ option_map (λ (z : List Weight). Closing (Words p R (Light turns reward z))) o
+named P p turns reward R y o e = ap (λ o. option_map (λ (z : List Weight). Closing (Words p R (Light turns reward z))) o) e
 
-light_by : (P : Instance) (p turns reward : ℕ) (written : List ℕ → List NamedWeight → RawLine) (o : Option Read) (result : Weighed) → IsWrittenAs P p turns reward written → AnswersWeighed P o result → Answers P (written_of written o) (light_line p turns reward result)
-light_by P p turns reward written None (Ok v) is a = absurd a
-light_by P p turns reward written (Some v) (Ok w) is a =
-    (is v.0 v.1 ∙ ap (λ o. option_map (λ (z : List Weight). Closing (Words p v.0 (Light turns reward z))) o) a.1 ∙ ap (λ R. Some (Closing (Words p R (Light turns reward w.1)))) a.0, a.2)
-light_by P p turns reward written o (Err Memory) is a = tt
-light_by P p turns reward written None (Err (Refused Form)) is a = tt
-light_by P p turns reward written None (Err (Refused Name)) is a = absurd a
-light_by P p turns reward written (Some v) (Err (Refused Form)) is a =
-    (Closing (Words p v.0 (Light turns reward a.0)), is v.0 v.1 ∙ ap (λ o. option_map (λ (z : List Weight). Closing (Words p v.0 (Light turns reward z))) o) a.1, a.2)
-light_by P p turns reward written (Some v) (Err (Refused Name)) is a = is v.0 v.1 ∙ ap (λ o. option_map (λ (z : List Weight). Closing (Words p v.0 (Light turns reward z))) o) a
+light_by : (P : Instance) (p turns reward : ℕ) (o : Option Read) (result : Weighed) → AnswersWeighed P o result → Answers (line_of P p turns reward o) (light_line p turns reward result)
+light_by P p turns reward None (Ok v) a = absurd a
+light_by P p turns reward (Some v) (Ok w) a =
+    (named P p turns reward v.0 v.1 (Some w.1) a.1 ∙ ap (λ R. Some (Closing (Words p R (Light turns reward w.1)))) a.0, a.2)
+light_by P p turns reward o (Err Memory) a = tt
+light_by P p turns reward None (Err (Refused Form)) a = tt
+light_by P p turns reward None (Err (Refused Name)) a = absurd a
+light_by P p turns reward (Some v) (Err (Refused Form)) a =
+    (Closing (Words p v.0 (Light turns reward a.0)), named P p turns reward v.0 v.1 (Some a.0) a.1, a.2)
+light_by P p turns reward (Some v) (Err (Refused Name)) a = named P p turns reward v.0 v.1 None a
 
-behind_bound : (P : Instance) (ws h : List (List ℕ)) (p turns : ℕ) (o : Option Read) → head_at P (most_turns P) ws ≡ Some ((p, turns), h) → weighed_at P h ≡ o → bound_at P ws ≡ written_of (RawBound p turns) o
+behind_bound : (P : Instance) (ws h : List (List ℕ)) (p turns : ℕ) (o : Option Read) → head_at P (most_turns P) ws ≡ Some ((p, turns), h) → weighed_at P h ≡ o → bound_at P ws ≡ line_of P p turns 0 o
 unfolding bound_at
 behind_bound P ws h p turns None a b = rw (a, b) refl
 behind_bound P ws h p turns (Some v) a b = rw (a, b) refl
 
-pub bound_answered : (P : Instance) (high : ℕ) (ws h : List (List ℕ)) (p turns : ℕ) (result : Weighed) → high ≡ most_turns P → head_at P high ws ≡ Some ((p, turns), h) → AnswersWeighed P (weighed_at P h) result → Answers P (bound_at P ws) (light_line p turns 0 result)
+pub bound_answered : (P : Instance) (high : ℕ) (ws h : List (List ℕ)) (p turns : ℕ) (result : Weighed) → high ≡ most_turns P → head_at P high ws ≡ Some ((p, turns), h) → AnswersWeighed P (weighed_at P h) result → Answers (bound_at P ws) (light_line p turns 0 result)
 bound_answered P high ws h p turns result e a w =
-    subst (λ o. Answers P o (light_line p turns 0 result)) (sym (behind_bound P ws h p turns (weighed_at P h) (ap (λ n. head_at P n ws) (sym e) ∙ a) refl))
-    (light_by P p turns 0 (RawBound p turns) (weighed_at P h) result (λ R y. refl) w)
+    subst (λ o. Answers o (light_line p turns 0 result)) (sym (behind_bound P ws h p turns (weighed_at P h) (ap (λ n. head_at P n ws) (sym e) ∙ a) refl))
+    (light_by P p turns 0 (weighed_at P h) result w)
 
-behind_free : (P : Instance) (ws h : List (List ℕ)) (turns reward : ℕ) (o : Option Read) → free_head_at P ws ≡ Some ((turns, reward), h) → weighed_at P h ≡ o → free_at P ws ≡ written_of (RawFree turns reward) o
+behind_free : (P : Instance) (ws h : List (List ℕ)) (turns reward : ℕ) (o : Option Read) → free_head_at P ws ≡ Some ((turns, reward), h) → weighed_at P h ≡ o → free_at P ws ≡ line_of P 0 turns reward o
 unfolding free_at
 behind_free P ws h turns reward None a b = rw (a, b) refl
 behind_free P ws h turns reward (Some v) a b = rw (a, b) refl
 
-pub free_answered : (P : Instance) (ws h : List (List ℕ)) (turns reward : ℕ) (result : Weighed) → free_head_at P ws ≡ Some ((turns, reward), h) → AnswersWeighed P (weighed_at P h) result → Answers P (free_at P ws) (light_line 0 turns reward result)
+pub free_answered : (P : Instance) (ws h : List (List ℕ)) (turns reward : ℕ) (result : Weighed) → free_head_at P ws ≡ Some ((turns, reward), h) → AnswersWeighed P (weighed_at P h) result → Answers (free_at P ws) (light_line 0 turns reward result)
 free_answered P ws h turns reward result a w =
-    subst (λ o. Answers P o (light_line 0 turns reward result)) (sym (behind_free P ws h turns reward (weighed_at P h) a refl))
-    (light_by P 0 turns reward (RawFree turns reward) (weighed_at P h) result (λ R y. refl) w)
+    subst (λ o. Answers o (light_line 0 turns reward result)) (sym (behind_free P ws h turns reward (weighed_at P h) a refl))
+    (light_by P 0 turns reward (weighed_at P h) result w)

@@ -10,10 +10,10 @@ use Rattle.rwsp_terms.specs.Rules.{rules}
 use Rattle.rwsp_model.specs.declared.fail.Fail.{Fail}
 use Rattle.rwsp_model.specs.declared.fail.Fail.TheVariants.{Refused, Memory}
 use Rattle.refutation_terms.specs.declared.lines.Line.{Line}
-use Rattle.refutation_terms.specs.declared.lines.Line.TheVariants.{Closing}
-use Rattle.refutation_terms.specs.declared.lines.Leaf.TheVariants.{Words as WordsLeaf}
-use Rattle.refutation_terms.specs.declared.lines.WordClaim.TheVariants.{Light}
-use Rattle.refutation_terms.specs.LogText.{RawLine, RawDead, RawBound, RawFew, RawFree, RawUnfinished, weights_of, line_of, WeightsAscend, most_turns, split_kind, window_kind, day_kind, blocks_kind, named_cell}
+use Rattle.refutation_terms.specs.declared.lines.Line.TheVariants.{Closing, Unfinished}
+use Rattle.refutation_terms.specs.declared.lines.Leaf.TheVariants.{Words as WordsLeaf, Few}
+use Rattle.refutation_terms.specs.declared.lines.WordClaim.TheVariants.{Dead, Light}
+use Rattle.refutation_terms.specs.LogText.{named_light, weights_of, WeightsAscend, most_turns, split_kind, window_kind, day_kind, blocks_kind, named_cell}
 use Rattle.refutation_terms.specs.declared.cells.GivenCell.{GivenCell}
 use Rattle.refutation_terms.specs.Verdict.{HasUnknown}
 use Rattle.refutation_log.specs.Printing.{IsCellOf}
@@ -22,13 +22,13 @@ use Rattle.refutation_log.specs.declared.refusal.LineRefusal.TheVariants.{Form, 
 
 -- what is behind the first word
 
-unfoldable pub split_at : Instance → Words → Option RawLine
+unfoldable pub split_at : Instance → Words → Option (Option Line)
 split_at P ws = read (split_kind P).fields (split_kind P).make ws
 
-unfoldable pub window_at : Instance → Words → Option RawLine
+unfoldable pub window_at : Instance → Words → Option (Option Line)
 window_at P ws = read (window_kind P).fields (window_kind P).make ws
 
-unfoldable pub day_at : Instance → Words → Option RawLine
+unfoldable pub day_at : Instance → Words → Option (Option Line)
 day_at P ws = read (day_kind P).fields (day_kind P).make ws
 
 -- a position, a number, and the word that begins a list of rules
@@ -40,9 +40,10 @@ head_at P high ws = place_at P.weeks P.days ws >>=
 abbrev pub rules_in : Instance → Words → List ℕ × Words
 rules_in P ws = rules_at (length (rules P)) ws
 
-unfoldable pub dead_at : Instance → Words → Option RawLine
+unfoldable pub dead_at : Instance → Words → Option (Option Line)
 dead_at P ws = head_at P LONGEST_WORD ws >>=
-    (λ head. done_at (RawDead head.0.0 head.0.1 (rules_in P head.1).0) (rules_in P head.1).1)
+    (λ head.
+    done_at (Some (Closing (WordsLeaf head.0.0 (rules_in P head.1).0 (Dead head.0.1)))) (rules_in P head.1).1)
 
 abbrev pub named_weight_at : Instance → Words → Option (NamedWeight × Words)
 named_weight_at P ws = weight_in P.days GREATEST_WEIGHT ws
@@ -57,11 +58,11 @@ weighed_at P ws =
     all_weights_at P rest >>= (λ y.
     Some ((rules_in P ws).0, y)))
 
-unfoldable pub bound_at : Instance → Words → Option RawLine
+unfoldable pub bound_at : Instance → Words → Option (Option Line)
 bound_at P ws =
     head_at P (most_turns P) ws >>= (λ head.
     weighed_at P head.1 >>= (λ v.
-    Some (RawBound head.0.0 head.0.1 v.0 v.1)))
+    Some (named_light P head.0.0 head.0.1 0 v.0 v.1)))
 
 -- the turns, the reward, and the word that begins a list of rules
 unfoldable pub free_head_at : Instance → Words → Option ((ℕ × ℕ) × Words)
@@ -71,14 +72,14 @@ free_head_at P ws =
     word_at (codes "rules") reward.1 >>= (λ rest.
     Some ((turns.0, reward.0), rest))))
 
-unfoldable pub free_at : Instance → Words → Option RawLine
+unfoldable pub free_at : Instance → Words → Option (Option Line)
 free_at P ws =
     free_head_at P ws >>= (λ head.
     weighed_at P head.1 >>= (λ v.
-    Some (RawFree head.0.0 head.0.1 v.0 v.1)))
+    Some (named_light P 0 head.0.0 head.0.1 v.0 v.1)))
 
-unfoldable pub blocks_at : Words → Option RawLine
-blocks_at ws = read blocks_kind.fields blocks_kind.make ws
+unfoldable pub blocks_at : Instance → Words → Option (Option Line)
+blocks_at P ws = read (blocks_kind P).fields (blocks_kind P).make ws
 
 -- the header's list of rules
 unfoldable pub named_at : Instance → Words → Option (List ℕ)
@@ -108,29 +109,29 @@ unfoldable pub cells_line_at : Instance → Words → Option (List NamedCell)
 cells_line_at P ws = word_at (codes "cells") ws >>= (λ rest. cells_at P.weeks P.days rest)
 
 -- a line by its first word, of a kind that only a log has that may count, or an unfinished one
-unfoldable pub last_at : Bool → List ℕ → Words → Option RawLine
-last_at false w ws = cond (bytes_eq w (codes "open")) (done_at RawUnfinished ws) None
-last_at true w ws =
-    cond (bytes_eq w (codes "blocks")) (blocks_at ws)
-    (cond (bytes_eq w (codes "open")) (done_at RawUnfinished ws) None)
+unfoldable pub last_at : Instance → Bool → List ℕ → Words → Option (Option Line)
+last_at P false w ws = cond (bytes_eq w (codes "open")) (done_at (Some Unfinished) ws) None
+last_at P true w ws =
+    cond (bytes_eq w (codes "blocks")) (blocks_at P ws)
+    (cond (bytes_eq w (codes "open")) (done_at (Some Unfinished) ws) None)
 
 -- of a kind that only a log without a goal has, or of those
-unfoldable pub without_goal_at : Instance → Bool → List ℕ → Words → Option RawLine
-without_goal_at P counts w ws = cond (bytes_eq w (codes "bound")) (bound_at P ws) (last_at counts w ws)
+unfoldable pub without_goal_at : Instance → Bool → List ℕ → Words → Option (Option Line)
+without_goal_at P counts w ws = cond (bytes_eq w (codes "bound")) (bound_at P ws) (last_at P counts w ws)
 
 -- and of a kind that only a free log has
-unfoldable pub with_goal_at : Instance → Bool → List ℕ → Words → Option RawLine
+unfoldable pub with_goal_at : Instance → Bool → List ℕ → Words → Option (Option Line)
 with_goal_at P counts w ws =
-    cond (bytes_eq w (codes "few")) (done_at RawFew ws)
-    (cond (bytes_eq w (codes "free")) (free_at P ws) (last_at counts w ws))
+    cond (bytes_eq w (codes "few")) (done_at (Some (Closing Few)) ws)
+    (cond (bytes_eq w (codes "free")) (free_at P ws) (last_at P counts w ws))
 
 -- by the goal of the log, and by whether it may count
-abbrev pub own_at : Instance → Option ℕ → Bool → List ℕ → Words → Option RawLine
+abbrev pub own_at : Instance → Option ℕ → Bool → List ℕ → Words → Option (Option Line)
 own_at P None counts w ws = without_goal_at P counts w ws
 own_at P (Some goal) counts w ws = with_goal_at P counts w ws
 
 -- a line by its first word
-unfoldable pub raw_at : Instance → Option ℕ → Bool → Words → Option RawLine
+unfoldable pub raw_at : Instance → Option ℕ → Bool → Words → Option (Option Line)
 raw_at P goal counts [] = None
 raw_at P goal counts (w ∷ ws) =
     cond (bytes_eq w (codes "split")) (split_at P ws)
@@ -163,19 +164,19 @@ light_line p turns reward (Ok v) = Ok (Closing (WordsLeaf p v.0 (Light turns rew
 light_line p turns reward (Err fail) = Err fail
 
 -- the answer to a line that was read in this way: the line, or why it is refused
-abbrev pub IsLineAnswer : Instance → Option RawLine → Result Line LineRefusal → Type 0
-IsLineAnswer P None (Ok line) = ⊥
-IsLineAnswer P None (Err Form) = Unit {0}
-IsLineAnswer P None (Err Name) = ⊥
-IsLineAnswer P (Some raw) (Ok line) = (line_of P raw ≡ Some line) × WeightsAscend line
-IsLineAnswer P (Some raw) (Err Form) = (line : Line) × (line_of P raw ≡ Some line) × (WeightsAscend line → ⊥)
-IsLineAnswer P (Some raw) (Err Name) = line_of P raw ≡ None
+abbrev pub IsLineAnswer : Option (Option Line) → Result Line LineRefusal → Type 0
+IsLineAnswer None (Ok line) = ⊥
+IsLineAnswer None (Err Form) = Unit {0}
+IsLineAnswer None (Err Name) = ⊥
+IsLineAnswer (Some named) (Ok line) = (named ≡ Some line) × WeightsAscend line
+IsLineAnswer (Some named) (Err Form) = (line : Line) × (named ≡ Some line) × (WeightsAscend line → ⊥)
+IsLineAnswer (Some named) (Err Name) = named ≡ None
 
 -- the same where memory may run out
-abbrev pub Answers : Instance → Option RawLine → Result Line (Fail LineRefusal) → Type 0
-Answers P read (Ok line) = IsLineAnswer P read (Ok line)
-Answers P read (Err Memory) = Unit {0}
-Answers P read (Err (Refused why)) = IsLineAnswer P read (Err why)
+abbrev pub Answers : Option (Option Line) → Result Line (Fail LineRefusal) → Type 0
+Answers read (Ok line) = IsLineAnswer read (Ok line)
+Answers read (Err Memory) = Unit {0}
+Answers read (Err (Refused why)) = IsLineAnswer read (Err why)
 
 -- the cells are these, by the names of their symbols
 abbrev pub AreNamesOf : Instance → List NamedCell → List GivenCell → Type 0

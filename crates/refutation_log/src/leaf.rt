@@ -1,15 +1,15 @@
 // Leaves, kind by kind: how each is copied, how it is printed, and which rules it cites.
-ghost use Rattle.std.specs.Prelude.{◌≡◌, ◌⊎◌, ◌↔◌, ℕ, ◌<◌, ◌++◌, Bool, Option, IfOk, OnOk, OnErr, All, Contains};
+ghost use Rattle.std.specs.Prelude.{◌≡◌, ◌⊎◌, ◌↔◌, ℕ, ◌<◌, ◌++◌, Bool, Option, None, IfOk, OnOk, OnErr, All, Contains};
 ghost use Rattle.std.specs.List.{join_with_byte};
 ghost use Rattle.rwsp_terms.specs.declared.data.Rule.{Rule};
-ghost use Rattle.rwsp_terms.specs.Instance.{cells, IsDay, IsSymbol, name_of};
+ghost use Rattle.rwsp_terms.specs.Instance.{cells, IsDay, IsSymbol};
 ghost use Rattle.rwsp_terms.specs.Roster.{IsRule};
 ghost use Rattle.refutation_terms.specs.declared.lines.Line.{Line};
 ghost use Rattle.refutation_terms.specs.Ranges.{WeightsFit};
 ghost use Rattle.refutation_terms.specs.WordsLeaf.{WordsFit, WordsCite};
 ghost use Rattle.refutation_terms.specs.BlocksLeaf.{BlocksCite, IsBlockRule};
 ghost use Rattle.refutation_terms.specs.Leaves.{LeafFits, LeafCites};
-ghost use Rattle.refutation_terms.specs.LogText.{RawWindow, RawDay, RawDead, RawBlocks, raw, raw_fields};
+ghost use Rattle.refutation_terms.specs.LogText.{line_fields};
 ghost use Rattle.refutation_log.specs.Cited.{Adds, AddsSome, IsCited, IsDayRule, IsSomeDay, IsWeighedDayRule, ListAndClaimFit};
 ghost use Rattle.refutation_log.specs.Printing.{spaced, light_head, weighed_words};
 
@@ -77,7 +77,7 @@ pub fn put_leaf(
 ) -> Result<(), AllocError>
     requires { LeafFits problem.now terms.goal terms.counts leaf.now }
     ensures { OnOk result (out.new.items ≡ out.old.items
-        ++ join_with_byte 32 (raw_fields problem.now (raw problem.now terms.goal (Line.Closing leaf.now)))) }
+        ++ join_with_byte 32 (line_fields problem.now terms.goal (Line.Closing leaf.now))) }
 {
     match leaf {
         Leaf::Window { rule, p, len } => put_window(out, problem, *rule, *p, *len),
@@ -105,8 +105,7 @@ fn put_words(
 ) -> Result<(), AllocError>
     requires { WordsFit problem.now goal p rules.now claim.now }
     ensures { OnOk result (out.new.items ≡ out.old.items
-        ++ join_with_byte 32 (raw_fields problem.now
-        (raw problem.now goal (Line.Closing (Leaf.Words p rules.now claim.now))))) }
+        ++ join_with_byte 32 (line_fields problem.now goal (Line.Closing (Leaf.Words p rules.now claim.now)))) }
 {
     match claim {
         WordClaim::Dead { len } => put_dead(out, problem, p, *len, rules),
@@ -131,7 +130,7 @@ fn put_window(
 ) -> Result<(), AllocError>
     requires { p < cells problem.now }
     ensures { OnOk result (out.new.items ≡ out.old.items
-        ++ join_with_byte 32 (raw_fields problem.now (RawWindow rule p len))) }
+        ++ join_with_byte 32 (line_fields problem.now None (Line.Closing (Leaf.Window rule p len)))) }
 {
     out.extend_from_slice(b"window")?;
     put_count(out, rule)?;
@@ -149,7 +148,7 @@ fn put_day(
 ) -> Result<(), AllocError>
     requires { IsSymbol problem.now x }
     ensures { OnOk result (out.new.items ≡ out.old.items
-        ++ join_with_byte 32 (raw_fields problem.now (RawDay day (name_of problem.now x) over))) }
+        ++ join_with_byte 32 (line_fields problem.now None (Line.Closing (Leaf.Day day x over)))) }
 {
     out.extend_from_slice(b"day")?;
     put_count(out, day)?;
@@ -167,7 +166,7 @@ fn put_dead(
 ) -> Result<(), AllocError>
     requires { p < cells problem.now }
     ensures { OnOk result (out.new.items ≡ out.old.items
-        ++ join_with_byte 32 (raw_fields problem.now (RawDead p len rules.now))) }
+        ++ join_with_byte 32 (line_fields problem.now None (Line.Closing (Leaf.Words p rules.now (WordClaim.Dead len))))) }
 {
     out.extend_from_slice(b"dead")?;
     put_place(out, problem, p)?;
@@ -226,7 +225,7 @@ fn put_weighed(
 fn put_blocks(out: &mut Vec<u8>, problem: &Problem, x: Symbol) -> Result<(), AllocError>
     requires { IsSymbol problem.now x }
     ensures { OnOk result (out.new.items ≡ out.old.items
-        ++ join_with_byte 32 (raw_fields problem.now (RawBlocks (name_of problem.now x)))) }
+        ++ join_with_byte 32 (line_fields problem.now None (Line.Closing (Leaf.Blocks x)))) }
 {
     out.extend_from_slice(b"blocks")?;
     put_word(out, problem.name(x))

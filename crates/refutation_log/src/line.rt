@@ -3,7 +3,7 @@ ghost use Rattle.std.specs.Prelude.{◌≡◌, ◌≢◌, ◌<◌, ◌≤◌, �
 ghost use Rattle.std.specs.List.Sorted.{IsStrictlyIncreasing};
 ghost use Rattle.rwsp_terms.specs.Rules.{rules};
 ghost use Rattle.rwsp_model.specs.Refusals.{MatchAnswer};
-ghost use Rattle.refutation_terms.specs.LogText.{RawSplit, RawWindow, RawDay, RawBlocks, most_turns};
+ghost use Rattle.refutation_terms.specs.LogText.{named_split, named_day, most_turns};
 ghost use Rattle.refutation_terms.specs.Verdict.{Spells};
 ghost use Rattle.rwsp_text.specs.Lines.{words_of};
 ghost use Rattle.refutation_log.specs.Refusals.{IsLineRefused};
@@ -60,7 +60,7 @@ fn read_body(
     terms: Terms,
     body: &[u8],
 ) -> Result<Line, Fail<LineRefusal>>
-    ensures { Answers problem.now (raw_at problem.now terms.goal terms.counts (words_of body.now)) result }
+    ensures { Answers (raw_at problem.now terms.goal terms.counts (words_of body.now)) result }
 {
     let mut fields = Fields::of(body);
     let Some(word) = fields.next() else {
@@ -91,7 +91,7 @@ fn read_without_goal(
     word: &[u8],
     fields: &mut Fields,
 ) -> Result<Line, Fail<LineRefusal>>
-    ensures { Answers problem.now (without_goal_at problem.now counts word.now fields.old) result }
+    ensures { Answers (without_goal_at problem.now counts word.now fields.old) result }
 {
     if word == b"bound".as_slice() {
         read_bound(alloc, problem, fields)
@@ -109,7 +109,7 @@ fn read_with_goal(
     word: &[u8],
     fields: &mut Fields,
 ) -> Result<Line, Fail<LineRefusal>>
-    ensures { Answers problem.now (with_goal_at problem.now counts word.now fields.old) result }
+    ensures { Answers (with_goal_at problem.now counts word.now fields.old) result }
 {
     if word == b"few".as_slice() {
         if fields.is_done() {
@@ -132,7 +132,7 @@ fn read_last(
     word: &[u8],
     fields: &mut Fields,
 ) -> Result<Line, Fail<LineRefusal>>
-    ensures { Answers problem.now (last_at counts word.now fields.old) result }
+    ensures { Answers (last_at problem.now counts word.now fields.old) result }
 {
     if counts && word == b"blocks".as_slice() {
         read_blocks(problem, fields)
@@ -146,7 +146,7 @@ fn read_last(
 #[tactic(auto, unfolding(crate::specs::Reading::split_at))]
 fn split_parts<'a>(problem: &Problem, fields: &mut Fields<'a>) -> Option<(u32, &'a [u8])>
     ensures { MatchOption result (split_at problem.now fields.old ≡ None)
-        (λ r. split_at problem.now fields.old ≡ Some (RawSplit r.0 r.1.now)) }
+        (λ r. split_at problem.now fields.old ≡ Some (named_split problem.now r.0 r.1.now)) }
 {
     let p = fields.place(problem.weeks(), problem.days())?;
     let name = fields.name()?;
@@ -158,7 +158,7 @@ fn split_parts<'a>(problem: &Problem, fields: &mut Fields<'a>) -> Option<(u32, &
 }
 
 fn read_split(problem: &Problem, fields: &mut Fields) -> Result<Line, Fail<LineRefusal>>
-    ensures { Answers problem.now (split_at problem.now fields.old) result }
+    ensures { Answers (split_at problem.now fields.old) result }
 {
     let Some((p, name)) = split_parts(problem, fields) else {
         return Err(FORM);
@@ -172,7 +172,7 @@ fn read_split(problem: &Problem, fields: &mut Fields) -> Result<Line, Fail<LineR
 #[tactic(auto, unfolding(crate::specs::Reading::window_at))]
 fn window_parts(problem: &Problem, fields: &mut Fields) -> Option<(u32, u32, u32)>
     ensures { MatchOption result (window_at problem.now fields.old ≡ None)
-        (λ r. window_at problem.now fields.old ≡ Some (RawWindow r.0 r.1 r.2)) }
+        (λ r. window_at problem.now fields.old ≡ Some (Some (Line.Closing (Leaf.Window r.0 r.1 r.2)))) }
 {
     let rule = fields.number(1, rule_count(problem))?;
     let p = fields.place(problem.weeks(), problem.days())?;
@@ -185,7 +185,7 @@ fn window_parts(problem: &Problem, fields: &mut Fields) -> Option<(u32, u32, u32
 }
 
 fn read_window(problem: &Problem, fields: &mut Fields) -> Result<Line, Fail<LineRefusal>>
-    ensures { Answers problem.now (window_at problem.now fields.old) result }
+    ensures { Answers (window_at problem.now fields.old) result }
 {
     match window_parts(problem, fields) {
         None => Err(FORM),
@@ -196,7 +196,7 @@ fn read_window(problem: &Problem, fields: &mut Fields) -> Result<Line, Fail<Line
 #[tactic(auto, unfolding(crate::specs::Reading::day_at))]
 fn day_parts<'a>(problem: &Problem, fields: &mut Fields<'a>) -> Option<(u32, &'a [u8], bool)>
     ensures { MatchOption result (day_at problem.now fields.old ≡ None)
-        (λ r. day_at problem.now fields.old ≡ Some (RawDay r.0 r.1.now r.2)) }
+        (λ r. day_at problem.now fields.old ≡ Some (named_day problem.now r.0 r.1.now r.2)) }
 {
     let day = fields.number(1, problem.days())?;
     let name = fields.name()?;
@@ -209,7 +209,7 @@ fn day_parts<'a>(problem: &Problem, fields: &mut Fields<'a>) -> Option<(u32, &'a
 }
 
 fn read_day(problem: &Problem, fields: &mut Fields) -> Result<Line, Fail<LineRefusal>>
-    ensures { Answers problem.now (day_at problem.now fields.old) result }
+    ensures { Answers (day_at problem.now fields.old) result }
 {
     let Some((day, name, over)) = day_parts(problem, fields) else {
         return Err(FORM);
@@ -267,7 +267,7 @@ fn read_dead(
     problem: &Problem,
     fields: &mut Fields,
 ) -> Result<Line, Fail<LineRefusal>>
-    ensures { Answers problem.now (dead_at problem.now fields.old) result }
+    ensures { Answers (dead_at problem.now fields.old) result }
 {
     let Some((p, len)) = head(problem, fields, LONGEST_WORD) else {
         return Err(FORM);
@@ -378,7 +378,7 @@ fn read_bound(
     problem: &Problem,
     fields: &mut Fields,
 ) -> Result<Line, Fail<LineRefusal>>
-    ensures { Answers problem.now (bound_at problem.now fields.old) result }
+    ensures { Answers (bound_at problem.now fields.old) result }
 {
     let Some((p, turns)) = head(problem, fields, most_turns(problem)) else {
         return Err(FORM);
@@ -403,7 +403,7 @@ fn read_free(
     problem: &Problem,
     fields: &mut Fields,
 ) -> Result<Line, Fail<LineRefusal>>
-    ensures { Answers problem.now (free_at problem.now fields.old) result }
+    ensures { Answers (free_at problem.now fields.old) result }
 {
     let Some((turns, reward)) = free_head(problem, fields) else {
         return Err(FORM);
@@ -412,20 +412,15 @@ fn read_free(
 }
 
 #[tactic(auto, unfolding(crate::specs::Reading::blocks_at))]
-fn blocks_name<'a>(fields: &mut Fields<'a>) -> Option<&'a [u8]>
-    ensures { MatchOption result (blocks_at fields.old ≡ None)
-        (λ name. blocks_at fields.old ≡ Some (RawBlocks name.now)) }
-{
-    let name = fields.name()?;
-    if fields.is_done() { Some(name) } else { None }
-}
-
 fn read_blocks(problem: &Problem, fields: &mut Fields) -> Result<Line, Fail<LineRefusal>>
-    ensures { Answers problem.now (blocks_at fields.old) result }
+    ensures { Answers (blocks_at problem.now fields.old) result }
 {
-    let Some(name) = blocks_name(fields) else {
+    let Some(name) = fields.name() else {
         return Err(FORM);
     };
+    if !fields.is_done() {
+        return Err(FORM);
+    }
     match problem.symbol(name) {
         None => Err(NAME),
         Some(x) => Ok(Line::Closing(Leaf::Blocks { x })),

@@ -1,10 +1,10 @@
 // The text of a log.
-ghost use Rattle.std.specs.Prelude.{◌≡◌, ℕ, ◌++◌, ◌<◌, OnOk, IfOk, Some, slice_get};
+ghost use Rattle.std.specs.Prelude.{◌≡◌, ℕ, ◌++◌, ◌<◌, OnOk, IfOk, None, Some, slice_get};
 ghost use Rattle.std.specs.List.{join_with_byte};
 ghost use Rattle.rwsp_terms.specs.Instance.{cells, IsSymbol, name_of};
 ghost use Rattle.refutation_terms.specs.declared.lines.Line.{Line};
 ghost use Rattle.refutation_terms.specs.Log.{Fits, LineFits, OpeningFits};
-ghost use Rattle.refutation_terms.specs.LogText.{RawSplit, raw, raw_fields, line_text, lines_text, log_text, header_text, version_of, version_text, rules_text, third_text, goal_text, turn_text, opening_text};
+ghost use Rattle.refutation_terms.specs.LogText.{line_fields, line_text, lines_text, log_text, header_text, version_of, version_text, rules_text, third_text, goal_text, turn_text, opening_text};
 
 use crate::Log;
 use crate::cells_line::put_cells_line;
@@ -35,7 +35,7 @@ fn put_line(
 ) -> Result<(), AllocError>
     requires { LineFits problem.now terms.goal terms.counts line.now }
     ensures { OnOk result (
-        out.new.items ≡ out.old.items ++ line_text problem.now (raw problem.now terms.goal line.now)) }
+        out.new.items ≡ out.old.items ++ line_text problem.now terms.goal line.now) }
 {
     put_fields(out, problem, terms, line)?;
     out.push(b'\n')?;
@@ -175,7 +175,7 @@ fn put_fields(
 ) -> Result<(), AllocError>
     requires { LineFits problem.now terms.goal terms.counts line.now }
     ensures { OnOk result (out.new.items ≡ out.old.items
-        ++ join_with_byte 32 (raw_fields problem.now (raw problem.now terms.goal line.now))) }
+        ++ join_with_byte 32 (line_fields problem.now terms.goal line.now)) }
 {
     match line {
         Line::Split { p, x } => put_split(out, problem, *p, *x),
@@ -189,7 +189,7 @@ fn put_split(out: &mut Vec<u8>, problem: &Problem, p: u32, x: Symbol) -> Result<
     requires place { p < cells problem.now }
     requires symbol { IsSymbol problem.now x }
     ensures { OnOk result (out.new.items ≡ out.old.items
-        ++ join_with_byte 32 (raw_fields problem.now (RawSplit p (name_of problem.now x)))) }
+        ++ join_with_byte 32 (line_fields problem.now None (Line.Split p x))) }
 {
     out.extend_from_slice(b"split")?;
     put_place(out, problem, p)?;

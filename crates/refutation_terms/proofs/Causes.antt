@@ -14,11 +14,11 @@ use Rattle.refutation_terms.specs.declared.lines.LogRefusal.TheVariants as Refus
 use Rattle.refutation_terms.specs.Word.{Domains}
 use Rattle.refutation_terms.specs.Tree.{is_idle}
 use Rattle.refutation_terms.specs.Log.{Holds, Cites, CitesOnlyNamed, ListsShortOnly}
-use Rattle.refutation_terms.specs.LogText.{RawLine, raw_fields, line_text, no_turn_text, line_of, IsInRange}
+use Rattle.refutation_terms.specs.LogText.{no_turn_text}
 use Rattle.refutation_terms.specs.Verdict.{IsLeast, IsUnnamed, ListsLong, IsPlainLeaf, Escapes, SpellsNothing, SpellsUnknown, Spells, TreeCause, SpellsTurn, SpellsNoTurn, SpellsNoOpening, TurnCause, RulesCause, VersionCause, GoalCause, ExtraCause}
 use Rattle.refutation_terms.specs.TextLaws.{IsWritable, HasNames}
 use Rattle.rwsp_text.proofs.LineLaws.{same_words}
-use Rattle.refutation_terms.proofs.LineTables.{turn_fields, turn_words, no_turn_fields, no_turn_words, turn_same, raw_words, raw_same}
+use Rattle.refutation_terms.proofs.LineTables.{turn_fields, turn_words, no_turn_fields, no_turn_words, turn_same, written_same}
 pub use Rattle.refutation_terms.proofs.LeafLaws.{first_same}
 use Rattle.refutation_terms.proofs.LeafLaws.{leaf_escapes_same, escaped_leaf_not_holding, wordless_lists_none, wordless_not_escaped, leaf_long_not_short}
 
@@ -26,20 +26,14 @@ least_same : (A : ℕ → Type 0) (k m : ℕ) → IsLeast A k → IsLeast A m �
 least_same A k m a b = let x : k ≤ m = a.1 m b.0 in let y : m ≤ k = b.1 k a.0 in omega (arith, x, y)
 
 -- bytes spell one line
-lines_same : (P : Instance) (goal : Option ℕ) (counts : Bool) (a b : RawLine) → IsWritable P → (line_text P a ≡ line_text P b) → IsInRange P goal counts a → IsInRange P goal counts b → a ≡ b
-lines_same P goal counts a b w e ha hb =
-    raw_same P goal counts a b w ha hb (same_words (raw_fields P a) (raw_fields P b) [] [] (raw_words P goal counts a w ha) (raw_words P goal counts b w hb) (ap (λ t. t ++ []) e)).0
-
 pub spells_same : (P : Instance) (goal : Option ℕ) (counts : Bool) (bytes : List ℕ) (a b : Line) → IsWritable P → HasNames P → Spells P goal counts bytes a → Spells P goal counts bytes b → a ≡ b
-spells_same P goal counts bytes a b w n sa sb =
-    let same : sa.0 ≡ sb.0 = lines_same P goal counts sa.0 sb.0 w (sym sa.1.spelled ∙ sb.1.spelled) sa.1.in_range sb.1.in_range in
-    let both : Some a ≡ Some b = sym sa.2 ∙ ap (line_of P) same ∙ sb.2 in
+spells_same P goal counts bytes a b w n x y =
+    let both : Some a ≡ Some b = written_same P goal counts bytes (Some a) (Some b) w x y in
     let whole : a ≡ b = cc in whole
 
 pub not_unknown : (P : Instance) (goal : Option ℕ) (counts : Bool) (bytes : List ℕ) (a : Line) → IsWritable P → Spells P goal counts bytes a → SpellsUnknown P goal counts bytes → ⊥
-not_unknown P goal counts bytes a w sa u =
-    let same : sa.0 ≡ u.0 = lines_same P goal counts sa.0 u.0 w (sym sa.1.spelled ∙ u.1.spelled) sa.1.in_range u.1.in_range in
-    let clash : Some a ≡ None = sym sa.2 ∙ ap (line_of P) same ∙ u.2 in cc
+not_unknown P goal counts bytes a w x u =
+    let clash : Some a ≡ None = written_same P goal counts bytes (Some a) None w x u in cc
 
 escapes_same : (P : Instance) (goal : Option ℕ) (D : Domains) (line : Line) (u v : List Symbol) → Escapes P goal D line u → Escapes P goal D line v → u ≡ v
 escapes_same P goal D (Closing leaf) u v a b = leaf_escapes_same P goal D leaf u v a b
@@ -158,12 +152,12 @@ level_of P goal counts named D n bytes (Refusals.Turn i) h = absurd h
 
 one_level : (P : Instance) (goal : Option ℕ) (counts : Bool) (named : List ℕ) (D : Domains) (n : ℕ) (bytes : List ℕ) (why other : LogRefusal) → IsWritable P → HasNames P → Level P goal counts named D n bytes why → Level P goal counts named D n bytes other → why ≡ other
 one_level P goal counts named D n bytes why other w m (Nothing a e) (Nothing b f) = e ∙ sym f
-one_level P goal counts named D n bytes why other w m (Nothing a e) (Unknown b f) = absurd (a b.0 b.1)
-one_level P goal counts named D n bytes why other w m (Nothing a e) (Known line b r) = absurd (a b.0 b.1)
-one_level P goal counts named D n bytes why other w m (Unknown a e) (Nothing b f) = absurd (b a.0 a.1)
+one_level P goal counts named D n bytes why other w m (Nothing a e) (Unknown b f) = absurd (a None b)
+one_level P goal counts named D n bytes why other w m (Nothing a e) (Known line b r) = absurd (a (Some line) b)
+one_level P goal counts named D n bytes why other w m (Unknown a e) (Nothing b f) = absurd (b None a)
 one_level P goal counts named D n bytes why other w m (Unknown a e) (Unknown b f) = e ∙ sym f
 one_level P goal counts named D n bytes why other w m (Unknown a e) (Known line b r) = absurd (not_unknown P goal counts bytes line w b a)
-one_level P goal counts named D n bytes why other w m (Known line a q) (Nothing b f) = absurd (b a.0 a.1)
+one_level P goal counts named D n bytes why other w m (Known line a q) (Nothing b f) = absurd (b (Some line) a)
 one_level P goal counts named D n bytes why other w m (Known line a q) (Unknown b f) = absurd (not_unknown P goal counts bytes line w a b)
 one_level P goal counts named D n bytes why other w m (Known line a q) (Known line' b r) =
     one_reason P goal named D n line why other q (subst (λ l. Reason P goal named D n l other) (spells_same P goal counts bytes line' line w m b a) r)

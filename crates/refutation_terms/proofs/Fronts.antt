@@ -15,7 +15,7 @@ use Rattle.refutation_terms.specs.declared.lines.Opening.TheVariants.{Full, Turn
 use Rattle.refutation_terms.specs.declared.lines.LogRefusal.{LogRefusal}
 use Rattle.refutation_terms.specs.Ranges.{AreRules}
 use Rattle.refutation_terms.specs.Log.{Log, Fits, OpeningFits, GoalFits, CountsFit, LineFits}
-use Rattle.refutation_terms.specs.LogText.{raw, raw_fields, line_text, version_text, version_of, rules_text, third_text}
+use Rattle.refutation_terms.specs.LogText.{line_fields, line_text, version_text, version_of, rules_text, third_text}
 use Rattle.refutation_terms.specs.Verdict.{kind_of, kind_by, kind_of_log, Front, Start, Versioned, BeforeTurn, BeforeGoal, BeforeCells, Reading, turn_version, goal_version, front_text, IsFrontOf}
 use Rattle.refutation_terms.specs.TextLaws.{IsWritable, HasNames, TextsAreDistinct}
 use Rattle.refutation_terms.proofs.LineTables.{version_fields, rules_fields, turn_fields, no_turn_fields, goal_fields, version_words, rules_words, version_same, rules_same, goal_same}
@@ -351,7 +351,7 @@ module _ (P : Instance) (w : IsWritable P) (n : HasNames P) (kind : LogKind) (Go
       (version_fine : (v : Version) (why : LogRefusal) → kind_of v ≡ kind → C Start (version_text v) why → ⊥)
       (rules_fine : (v : Version) (R : List ℕ) (why : LogRefusal) → AreRules P R → C (Versioned v) (rules_text R) why → ⊥)
       (third_fine : (g : Log) (why : LogRefusal) → Good (Reading g) → HasThird g.opening g.goal g.counts → C (before_by (kind_of_log g) g.counts g.named) (third_text P g.opening g.goal g.counts) why → ⊥)
-      (line_fine : (f : Log) (line : Line) (more : List Line) (why : LogRefusal) → Good (Reading (record { named = f.named; opening = f.opening; goal = f.goal; counts = f.counts; lines = f.lines ++ line ∷ more })) → C (Reading f) (line_text P (raw P f.goal line)) why → ⊥) where
+      (line_fine : (f : Log) (line : Line) (more : List Line) (why : LogRefusal) → Good (Reading (record { named = f.named; opening = f.opening; goal = f.goal; counts = f.counts; lines = f.lines ++ line ∷ more })) → C (Reading f) (line_text P f.goal line) why → ⊥) where
     first_fine : (v : Version) (z : Words) (why : LogRefusal) → kind_of v ≡ kind → version_fields v ≡ z → C Start (text_of z) why → ⊥
     first_fine v z why of first c = version_fine v why of (subst (λ t. C Start t why) (ap text_of (sym first) ∙ sym (version_written v)) c)
 
@@ -414,7 +414,7 @@ module _ (P : Instance) (w : IsWritable P) (n : HasNames P) (kind : LogKind) (Go
         going_on : (more : List Line) → z ∷ zs ≡ lines_fields P f.goal more → Good (Reading (record { named = f.named; opening = f.opening; goal = f.goal; counts = f.counts; lines = f.lines ++ more })) → ⊥
         going_on [] e' h = cc
         going_on (l ∷ ls) e' h =
-            let first : z ≡ raw_fields P (raw P f.goal l) = cc in
+            let first : z ≡ line_fields P f.goal l = cc in
             line_fine f l ls why h (subst (λ ws. C (Reading f) (text_of ws) why) first c)
 
     pub fronts : ((F : Front) (line : List ℕ) (why other : LogRefusal) → C F line why → C F line other → why ≡ other) → AreFronts (front_fields P) Good C

@@ -1,14 +1,15 @@
 -- The lines of a log's text are those of its tables, and each line of a problem is spelled by one.
 use Rattle.std.proofs.Common.{◌≡◌, ℕ, zero, suc, ◌+◌, ◌*◌, ◌/◌, ◌^◌, ◌<◌, ◌≤◌, List, [], ◌∷◌, ◌++◌, length, refl, ap, sym, ◌∙◌, subst, arith, inl, inr, Bool, true, false, Option, Some, None, map}
-use Rattle.std.specs.Prelude.{codes, All, AllPairs, IfSome}
+use Rattle.std.specs.Prelude.{codes, All, AllPairs}
 use Rattle.std.specs.List.{flat_map, AllByRecursion}
 use Rattle.std.specs.Fmt.{decimal}
 use Rattle.std.proofs.lemmas.List.{append-nil}
 use Rattle.std.proofs.lemmas.Fmt.{decimal_digit}
 use Rattle.std.proofs.Math.Nat.{le-div_iff_mul-le, div-le_self}
-use Rattle.rwsp_text.specs.Fields.{Words, IsName, NamedWeight, Values, AreInRange, spell, numbers, weight_fields}
+use Rattle.rwsp_text.specs.Fields.{Words, IsName, NamedWeight, Values, AreInRange, spell, numbers, weight_fields, text_of}
 use Rattle.rwsp_text.specs.Kinds.{Kind, IsOfKind, IsLine, AreReadable, IsReadable}
 use Rattle.rwsp_text.specs.Lines.{AreWords}
+use Rattle.rwsp_text.proofs.LineLaws.{same_words}
 use Rattle.rwsp_text.proofs.KindLaws.{word_blankless, no_words, lines_are_words, lines_say_one}
 use Rattle.rwsp_terms.specs.declared.limits.TheConstants.{GREATEST_REWARD, LONGEST_WORD}
 use Rattle.rwsp_terms.specs.Instance.{Instance, cells, IsDay, IsSymbol, symbol_of, name_of}
@@ -16,7 +17,7 @@ use Rattle.rwsp_terms.specs.Rules.{rules}
 use Rattle.refutation_terms.specs.declared.lines.Version.{Version}
 use Rattle.refutation_terms.specs.declared.lines.Version.TheVariants.{Version1, Version2, Version3, Free1, Free2, Fill1}
 use Rattle.refutation_terms.specs.Ranges.{IsLength, AreRules, AreWeightsOf}
-use Rattle.refutation_terms.specs.LogText.{RawLine, RawSplit, RawWindow, RawDay, RawDead, RawBound, RawFew, RawFree, RawBlocks, RawUnfinished, place_words, raw_fields, IsInRange, most_turns, split_kind, window_kind, day_kind, dead_kind, bound_kind, open_kind, few_kind, free_kind, blocks_kind, last_kinds, own_kinds, line_kinds, version_kinds, rules_kinds, turn_kinds, goal_kinds, named_weight, raw, line_text, WeightIsInRange, with_weight, weights_of, line_of, WeightsAscend}
+use Rattle.refutation_terms.specs.LogText.{place_words, way, bound_fields, free_fields, line_fields, IsWritten, most_turns, split_kind, window_kind, day_kind, dead_kind, bound_kind, open_kind, few_kind, free_kind, blocks_kind, last_kinds, own_kinds, line_kinds, version_kinds, rules_kinds, turn_kinds, goal_kinds, named_weight, named_light, WeightIsInRange, with_weight, weights_of, WeightsAscend}
 use Rattle.refutation_terms.specs.TextLaws.{IsWritable, HasNames, SpelledLinesFit, FittingLinesAreSpelled}
 use Rattle.std.specs.Option.{option_map}
 use Rattle.rwsp_terms.specs.declared.data.Symbol.{Symbol}
@@ -85,8 +86,6 @@ rules_readable P w = ((((omega (arith, w.2), tt), tt), refl, tt), tt)
 pub turn_readable : (P : Instance) → IsWritable P → IsReadable (turn_kinds P)
 turn_readable P w = (((omega (arith, w.0), tt), refl, tt), tt)
 
--- a written line is of the table
-
 some_turns : (n m : ℕ) → 0 < n * m → 1 ≤ n
 some_turns zero m h = absurd (omega (arith, h))
 some_turns (suc n) m h = omega arith
@@ -119,102 +118,187 @@ weights_end R y = ap (λ us. numbers R ++ (codes "weights" ∷ us)) (sym (append
 rules_end : (R : List ℕ) → numbers R ≡ numbers R ++ []
 rules_end R = sym (append-nil (numbers R))
 
-last_line : (counts : Bool) → IsLine (last_kinds counts) (codes "open" ∷ []) RawUnfinished
-last_line false = inl (refl, record { values = tt; keeps = tt; spelled = refl; made = refl })
-last_line true = inr (inl (refl, record { values = tt; keeps = tt; spelled = refl; made = refl }))
+-- Symbols and weights by their names.
 
-blocks_line : (name : List ℕ) → IsName name → IsLine (last_kinds true) (codes "blocks" ∷ name ∷ []) (RawBlocks name)
-blocks_line name h = inl (refl, record { values = (name, tt); keeps = (h, tt); spelled = refl; made = refl })
+pub symbol_of-name : (P : Instance) (name : List ℕ) (x : Symbol) → symbol_of P name ≡ Some x → IsSymbol P x × (name_of P x ≡ name)
+symbol_of-name P name x h = let f = symbol_found P name x h in (f.0, sym f.1)
+
+-- a weight and further ones that were read
+with_read : (e : NamedWeight) (o : Option Symbol) (rest : Option (List Weight)) (ys : List Weight) → with_weight e o rest ≡ Some ys → (x : Symbol) × (zs : List Weight) × (o ≡ Some x) × (rest ≡ Some zs) × (record { day = e.day; symbol = x; value = e.value } ∷ zs ≡ ys)
+with_read e None rest ys h = absurd (cc)
+with_read e (Some x) None ys h = absurd (cc)
+with_read e (Some x) (Some zs) ys h = (x, zs, refl, refl, let same : record { day = e.day; symbol = x; value = e.value } ∷ zs ≡ ys = cc in same)
+
+abbrev IsOf : Instance → Weight → Type 0
+IsOf P e = IsDay P e.day × IsSymbol P e.symbol
+
+record AreRead (P : Instance) (y : List NamedWeight) (ys : List Weight) : Type 0 where
+  same : map (named_weight P) ys ≡ y
+  small : AllByRecursion IsWeight ys
+  of : AllByRecursion (IsOf P) ys
+
+weights_read : (P : Instance) (y : List NamedWeight) (ys : List Weight) → AllByRecursion (WeightIsInRange P) y → weights_of P y ≡ Some ys → AreRead P y ys
+weights_read P [] ys h e = let none : [] ≡ ys = cc in subst (AreRead P []) none (record { same = refl; small = tt; of = tt })
+weights_read P (e ∷ y) ys h is =
+    let w = with_read e (symbol_of P e.name) (weights_of P y) ys is in
+    let rest = weights_read P y w.1 h.1 w.3 in
+    let named = symbol_of-name P e.name w.0 w.2 in
+    let first : Weight = record { day = e.day; symbol = w.0; value = e.value } in
+    let same_first : named_weight P (record { day = e.day; symbol = w.0; value = e.value }) ≡ e = ap (λ n. record { day = e.day; name = n; value = e.value }) named.1 in
+    subst (AreRead P (e ∷ y)) w.4 (record {
+      same = ap (λ f. f ∷ map (named_weight P) w.1) same_first ∙ ap (λ fs. e ∷ fs) rest.same;
+      small = (h.0.2, rest.small);
+      of = ((h.0.0, named.0), rest.of);
+    })
+
+weights_fit : (P : Instance) (y : List NamedWeight) (ys : List Weight) → All (WeightIsInRange P) y → AllPairs ComesBefore ys → weights_of P y ≡ Some ys → AreWeightsOf P ys × (y ≡ map (named_weight P) ys)
+weights_fit P y ys h up e =
+    let read = weights_read P y ys (all_to (WeightIsInRange P) y h) e in
+    ((record { ascends = up; small = all_from IsWeight ys read.small }, all_from (IsOf P) ys read.of), sym read.same)
+
+-- weights of the problem are read from their names
+weights_back : (P : Instance) (ys : List Weight) → HasNames P → AllByRecursion IsWeight ys → AllByRecursion (IsOf P) ys → AllByRecursion (WeightIsInRange P) (map (named_weight P) ys) × (weights_of P (map (named_weight P) ys) ≡ Some ys)
+weights_back P [] names small of = (tt, refl)
+weights_back P (e ∷ ys) names small of =
+    let rest = weights_back P ys names small.1 of.1 in
+    let name = names e.symbol of.0.1 in (
+      ((of.0.0, name.0, small.0), rest.0),
+      ap (λ o. with_weight (named_weight P e) o (weights_of P (map (named_weight P) ys))) name.1 ∙ ap (with_weight (named_weight P e) (Some e.symbol)) rest.1,
+    )
+
+weights_named : (P : Instance) (ys : List Weight) → HasNames P → AreWeightsOf P ys → All (WeightIsInRange P) (map (named_weight P) ys) × (weights_of P (map (named_weight P) ys) ≡ Some ys)
+weights_named P ys names h =
+    let back = weights_back P ys names (all_to IsWeight ys h.0.small) (all_to (IsOf P) ys h.1) in
+    (all_from (WeightIsInRange P) (map (named_weight P) ys) back.0, back.1)
+
+-- a line that fits the problem is a line of the table
+
+last_line : (P : Instance) (counts : Bool) → IsLine (last_kinds P counts) (codes "open" ∷ []) (Some Unfinished)
+last_line P false = inl (refl, record { values = tt; keeps = tt; spelled = refl; made = refl })
+last_line P true = inr (inl (refl, record { values = tt; keeps = tt; spelled = refl; made = refl }))
 
 -- a line of the last kinds is one of those of logs with a goal or without
-own_last : (P : Instance) (goal : Option ℕ) (counts : Bool) (ws : Words) (raw : RawLine) → IsLine (last_kinds counts) ws raw → IsLine (own_kinds P goal counts) ws raw
-own_last P None counts ws raw l = inr l
-own_last P (Some goal) counts ws raw l = inr (inr l)
+own_last : (P : Instance) (goal : Option ℕ) (counts : Bool) (ws : Words) (line : Option Line) → IsLine (last_kinds P counts) ws line → IsLine (own_kinds P goal counts) ws line
+own_last P None counts ws line l = inr l
+own_last P (Some goal) counts ws line l = inr (inr l)
 
-own_line : (P : Instance) (goal : Option ℕ) (counts : Bool) (ws : Words) (raw : RawLine) → IsLine (own_kinds P goal counts) ws raw → IsLine (line_kinds P goal counts) ws raw
-own_line P goal counts ws raw l = inr (inr (inr (inr l)))
+own_line : (P : Instance) (goal : Option ℕ) (counts : Bool) (ws : Words) (line : Option Line) → IsLine (own_kinds P goal counts) ws line → IsLine (line_kinds P goal counts) ws line
+own_line P goal counts ws line l = inr (inr (inr (inr l)))
 
-pub raw_line : (P : Instance) (goal : Option ℕ) (counts : Bool) (raw : RawLine) → IsInRange P goal counts raw → IsLine (line_kinds P goal counts) (raw_fields P raw) raw
-raw_line P goal counts (RawSplit p name) h = inl (refl, record { values = (p, (name, tt)); keeps = (h.0, (h.1, tt)); spelled = refl; made = refl })
-raw_line P goal counts (RawWindow rule p len) h = inr (inl (refl, record { values = (rule, (p, (len, tt))); keeps = ((h.0, h.1), (h.2, (h.3, tt))); spelled = refl; made = refl }))
-raw_line P goal counts (RawDay day name over) h = inr (inr (inl (refl, record { values = (day, (name, (over, tt))); keeps = (h.0, (h.1, tt)); spelled = refl; made = refl })))
-raw_line P goal counts (RawDead p len R) h =
+pub line_line : (P : Instance) (goal : Option ℕ) (counts : Bool) (line : Line) → HasNames P → LineFits P goal counts line → IsLine (line_kinds P goal counts) (line_fields P goal line) (Some line)
+line_line P goal counts (Split p x) names h =
+    let name = names x h.1 in
+    inl (refl, record { values = (p, (name_of P x, tt)); keeps = (h.0, (name.0, tt)); spelled = refl; made = ap (option_map (λ z. Split p z)) name.1 })
+line_line P goal counts (Closing (Leaves.Window rule p len)) names h = inr (inl (refl, record { values = (rule, (p, (len, tt))); keeps = ((h.0, h.1), (h.2, (h.3, tt))); spelled = refl; made = refl }))
+line_line P goal counts (Closing (Leaves.Day day x over)) names h =
+    let name = names x h.1 in
+    inr (inr (inl (refl, record { values = (day, (name_of P x, (over, tt))); keeps = (h.0, (name.0, tt)); spelled = refl; made = ap (option_map (λ z. Closing (Leaves.Day day z over))) name.1 })))
+line_line P goal counts (Closing (Leaves.Words p R (Dead len))) names h =
     inr (inr (inr (inl (refl, record { values = (p, (len, (R, tt))); keeps = (h.0, (h.1, (h.2, tt))); spelled = ap (λ us. place_words P p ++ (decimal len ∷ codes "rules" ∷ us)) (rules_end R); made = refl }))))
-raw_line P None counts (RawBound p turns R y) h =
-    own_line P None counts (raw_fields P (RawBound p turns R y)) (RawBound p turns R y) (inl (
+line_line P None counts (Closing (Leaves.Words p R (Light turns reward y))) names h =
+    let back = weights_named P y names h.3 in
+    own_line P None counts (line_fields P None (Closing (Leaves.Words p R (Light turns reward y)))) (Some (Closing (Leaves.Words p R (Light turns reward y)))) (inl (
       refl,
       record {
-        values = (p, (turns, (R, (y, tt))));
-        keeps = (h.0, (turns_fit P turns h.1, (h.2, (h.3, tt))));
-        spelled = ap (λ us. place_words P p ++ (decimal turns ∷ codes "rules" ∷ us)) (weights_end R y);
-        made = refl;
+        values = (p, (turns, (R, (map (named_weight P) y, tt))));
+        keeps = (h.0, (turns_fit P turns h.1, (h.2, (back.0, tt))));
+        spelled = ap (λ us. place_words P p ++ (decimal turns ∷ codes "rules" ∷ us)) (weights_end R (map (named_weight P) y));
+        made = ap (option_map (λ ys. Closing (Leaves.Words p R (Light turns 0 ys)))) back.1 ∙ ap (λ r. Some (Closing (Leaves.Words p R (Light turns r y)))) (sym h.4);
       },
     ))
-raw_line P (Some goal) counts (RawBound p turns R y) h = absurd h
-raw_line P None counts RawFew h = absurd h
-raw_line P (Some goal) counts RawFew h = own_line P (Some goal) counts (raw_fields P RawFew) RawFew (inl (refl, record { values = tt; keeps = tt; spelled = refl; made = refl }))
-raw_line P None counts (RawFree turns reward R y) h = absurd h
-raw_line P (Some goal) counts (RawFree turns reward R y) h =
-    own_line P (Some goal) counts (raw_fields P (RawFree turns reward R y)) (RawFree turns reward R y) (inr (inl (
+line_line P (Some goal) counts (Closing (Leaves.Words p R (Light turns reward y))) names h =
+    let back = weights_named P y names h.3 in
+    own_line P (Some goal) counts (line_fields P (Some goal) (Closing (Leaves.Words p R (Light turns reward y)))) (Some (Closing (Leaves.Words p R (Light turns reward y)))) (inr (inl (
       refl,
       record {
-        values = (turns, (reward, (R, (y, tt))));
-        keeps = (turns_fit P turns h.0, ((omega arith, h.1), (h.2, (h.3, tt))));
-        spelled = ap (λ us. decimal turns ∷ decimal reward ∷ codes "rules" ∷ us) (weights_end R y);
-        made = refl;
+        values = (turns, (reward, (R, (map (named_weight P) y, tt))));
+        keeps = (turns_fit P turns h.1, ((omega arith, h.4.1), (h.2, (back.0, tt))));
+        spelled = ap (λ us. decimal turns ∷ decimal reward ∷ codes "rules" ∷ us) (weights_end R (map (named_weight P) y));
+        made = ap (option_map (λ ys. Closing (Leaves.Words 0 R (Light turns reward ys)))) back.1 ∙ ap (λ q. Some (Closing (Leaves.Words q R (Light turns reward y)))) (sym h.4.0);
       },
     )))
-raw_line P goal false (RawBlocks name) h = absurd h
-raw_line P goal true (RawBlocks name) h =
-    own_line P goal true (raw_fields P (RawBlocks name)) (RawBlocks name) (own_last P goal true (raw_fields P (RawBlocks name)) (RawBlocks name) (blocks_line name h))
-raw_line P goal counts RawUnfinished h =
-    own_line P goal counts (raw_fields P RawUnfinished) RawUnfinished (own_last P goal counts (raw_fields P RawUnfinished) RawUnfinished (last_line counts))
+line_line P None counts (Closing Leaves.Few) names h = absurd h
+line_line P (Some goal) counts (Closing Leaves.Few) names h =
+    own_line P (Some goal) counts (line_fields P (Some goal) (Closing Leaves.Few)) (Some (Closing Leaves.Few)) (inl (refl, record { values = tt; keeps = tt; spelled = refl; made = refl }))
+line_line P goal false (Closing (Leaves.Blocks x)) names h = let clash : false ≡ true = h.0 in absurd (cc)
+line_line P goal true (Closing (Leaves.Blocks x)) names h =
+    let name = names x h.1 in
+    own_line P goal true (line_fields P goal (Closing (Leaves.Blocks x))) (Some (Closing (Leaves.Blocks x))) (own_last P goal true (line_fields P goal (Closing (Leaves.Blocks x))) (Some (Closing (Leaves.Blocks x)))
+    (inl (refl, record { values = (name_of P x, tt); keeps = (name.0, tt); spelled = refl; made = ap (option_map (λ z. Closing (Leaves.Blocks z))) name.1 })))
+line_line P goal counts Unfinished names h =
+    own_line P goal counts (codes "open" ∷ []) (Some Unfinished) (own_last P goal counts (codes "open" ∷ []) (Some Unfinished) (last_line P counts))
 
-abbrev Found : Instance → Option ℕ → Bool → Words → RawLine → Type 0
-Found P goal counts ws raw = (ws ≡ raw_fields P raw) × IsInRange P goal counts raw
+-- a line of the table whose weights ascend fits the problem, and has one spelling
 
--- a line of a kind is a written line, where each line with values in their ranges is one
-found_by : (P : Instance) (goal : Option ℕ) (counts : Bool) (kind : Kind RawLine) (w : List ℕ) (ws : Words) (raw : RawLine) → ((v : Values kind.fields) → AreInRange kind.fields v → Found P goal counts (kind.word ∷ spell kind.fields v) (kind.make v)) → IsOfKind kind (w ∷ ws) raw → Found P goal counts (w ∷ ws) raw
-found_by P goal counts kind w ws raw fine l =
+abbrev Found : Instance → Option ℕ → Bool → Words → Line → Type 0
+Found P goal counts ws line = LineFits P goal counts line × (ws ≡ line_fields P goal line)
+
+found_by : (P : Instance) (goal : Option ℕ) (counts : Bool) (kind : Kind (Option Line)) (w : List ℕ) (ws : Words) (line : Line) → ((v : Values kind.fields) → AreInRange kind.fields v → kind.make v ≡ Some line → Found P goal counts (kind.word ∷ spell kind.fields v) line) → IsOfKind kind (w ∷ ws) (Some line) → Found P goal counts (w ∷ ws) line
+found_by P goal counts kind w ws line fine l =
     let s = l.1 in
-    let f = fine s.values s.keeps in
-    subst (Found P goal counts (w ∷ ws)) s.made (ap (λ z. z ∷ ws) l.0 ∙ ap (λ us. kind.word ∷ us) s.spelled ∙ f.0, f.1)
+    let f = fine s.values s.keeps s.made in
+    (f.0, ap (λ z. z ∷ ws) l.0 ∙ ap (λ us. kind.word ∷ us) s.spelled ∙ f.1)
 
-last_found : (P : Instance) (goal : Option ℕ) (counts : Bool) (w : List ℕ) (ws : Words) (raw : RawLine) → IsLine (last_kinds counts) (w ∷ ws) raw → Found P goal counts (w ∷ ws) raw
-last_found P goal false w ws raw (inl l) = found_by P goal false open_kind w ws raw (λ v k. (refl, tt)) l
-last_found P goal false w ws raw (inr l) = absurd l
-last_found P goal true w ws raw (inl l) = found_by P goal true blocks_kind w ws raw (λ v k. (refl, k.0)) l
-last_found P goal true w ws raw (inr (inl l)) = found_by P goal true open_kind w ws raw (λ v k. (refl, tt)) l
-last_found P goal true w ws raw (inr (inr l)) = absurd l
+-- the fields that a line has which was made of a name or of weights
+made_of : {X : Type 0} (P : Instance) (goal : Option ℕ) (counts : Bool) (ws : Words) (f : X → Line) (o : Option X) (line : Line) → option_map f o ≡ Some line → ((x : X) → o ≡ Some x → Found P goal counts ws (f x)) → Found P goal counts ws line
+made_of P goal counts ws f o line e fine =
+    let m = mapped f o line e in
+    subst (Found P goal counts ws) m.2 (fine m.0 m.1)
 
-own_found : (P : Instance) (goal : Option ℕ) (counts : Bool) (w : List ℕ) (ws : Words) (raw : RawLine) → IsLine (own_kinds P goal counts) (w ∷ ws) raw → Found P goal counts (w ∷ ws) raw
-own_found P None counts w ws raw (inl l) =
-    found_by P None counts (bound_kind P) w ws raw
-    (λ v k. (
-      ap (λ us. codes "bound" ∷ place_words P v.0 ++ (decimal v.1.0 ∷ codes "rules" ∷ us)) (sym (weights_end v.1.1.0 v.1.1.1.0)),
-      (k.0, turns_long P v.1.0 k.1.0, k.1.1.0, k.1.1.1.0),
-    ))
+light_found : (P : Instance) (goal : Option ℕ) (counts : Bool) (ws : Words) (p turns reward : ℕ) (R : List ℕ) (y : List NamedWeight) (line : Line) → All (WeightIsInRange P) y → WeightsAscend line → named_light P p turns reward R y ≡ Some line →
+    ((z : List Weight) → AreWeightsOf P z → y ≡ map (named_weight P) z → Found P goal counts ws (Closing (Leaves.Words p R (Light turns reward z)))) → Found P goal counts ws line
+light_found P goal counts ws p turns reward R y line h up e fine =
+    let m = mapped (λ z. Closing (Leaves.Words p R (Light turns reward z))) (weights_of P y) line e in
+    let read = weights_fit P y m.0 h (subst WeightsAscend (sym m.2) up) m.1 in
+    subst (Found P goal counts ws) m.2 (fine m.0 read.0 read.1)
+
+last_found : (P : Instance) (goal : Option ℕ) (counts : Bool) (w : List ℕ) (ws : Words) (line : Line) → IsLine (last_kinds P counts) (w ∷ ws) (Some line) → Found P goal counts (w ∷ ws) line
+last_found P goal false w ws line (inl l) = found_by P goal false open_kind w ws line (λ v k m. let same : Unfinished ≡ line = cc in subst (Found P goal false (codes "open" ∷ [])) same (tt, refl)) l
+last_found P goal false w ws line (inr l) = absurd l
+last_found P goal true w ws line (inl l) =
+    found_by P goal true (blocks_kind P) w ws line
+    (λ v k m. made_of P goal true (codes "blocks" ∷ v.0 ∷ []) (λ x. Closing (Leaves.Blocks x)) (symbol_of P v.0) line m (λ x e. let named = symbol_of-name P v.0 x e in ((refl, named.0), ap (λ n. codes "blocks" ∷ n ∷ []) (sym named.1)))) l
+last_found P goal true w ws line (inr (inl l)) = found_by P goal true open_kind w ws line (λ v k m. let same : Unfinished ≡ line = cc in subst (Found P goal true (codes "open" ∷ [])) same (tt, refl)) l
+last_found P goal true w ws line (inr (inr l)) = absurd l
+
+own_found : (P : Instance) (goal : Option ℕ) (counts : Bool) (w : List ℕ) (ws : Words) (line : Line) → WeightsAscend line → IsLine (own_kinds P goal counts) (w ∷ ws) (Some line) → Found P goal counts (w ∷ ws) line
+own_found P None counts w ws line up (inl l) =
+    found_by P None counts (bound_kind P) w ws line
+    (λ v k m. light_found P None counts (codes "bound" ∷ spell (bound_kind P).fields v) v.0 v.1.0 0 v.1.1.0 v.1.1.1.0 line k.1.1.1.0 up m (λ z of same. (
+      (k.0, turns_long P v.1.0 k.1.0, k.1.1.0, of, refl),
+      ap (λ us. codes "bound" ∷ place_words P v.0 ++ (decimal v.1.0 ∷ codes "rules" ∷ us)) (sym (weights_end v.1.1.0 v.1.1.1.0)) ∙ ap (bound_fields P v.0 v.1.0 v.1.1.0) same,
+    )))
     l
-own_found P None counts w ws raw (inr l) = last_found P None counts w ws raw l
-own_found P (Some goal) counts w ws raw (inl l) = found_by P (Some goal) counts few_kind w ws raw (λ v k. (refl, tt)) l
-own_found P (Some goal) counts w ws raw (inr (inl l)) =
-    found_by P (Some goal) counts (free_kind P) w ws raw
-    (λ v k. (
-      ap (λ us. codes "free" ∷ decimal v.0 ∷ decimal v.1.0 ∷ codes "rules" ∷ us) (sym (weights_end v.1.1.0 v.1.1.1.0)),
-      (turns_long P v.0 k.0, k.1.0.1, k.1.1.0, k.1.1.1.0),
-    ))
+own_found P None counts w ws line up (inr l) = last_found P None counts w ws line l
+own_found P (Some goal) counts w ws line up (inl l) = found_by P (Some goal) counts few_kind w ws line (λ v k m. let same : Closing Leaves.Few ≡ line = cc in subst (Found P (Some goal) counts (codes "few" ∷ [])) same (tt, refl)) l
+own_found P (Some goal) counts w ws line up (inr (inl l)) =
+    found_by P (Some goal) counts (free_kind P) w ws line
+    (λ v k m. light_found P (Some goal) counts (codes "free" ∷ spell (free_kind P).fields v) 0 v.0 v.1.0 v.1.1.0 v.1.1.1.0 line k.1.1.1.0 up m (λ z of same.
+    let long = turns_long P v.0 k.0 in (
+      (some_cells v.0 (cells P) long.0, long, k.1.1.0, of, (refl, k.1.0.1)),
+      ap (λ us. codes "free" ∷ decimal v.0 ∷ decimal v.1.0 ∷ codes "rules" ∷ us) (sym (weights_end v.1.1.0 v.1.1.1.0)) ∙ ap (free_fields v.0 v.1.0 v.1.1.0) same,
+    )))
     l
-own_found P (Some goal) counts w ws raw (inr (inr l)) = last_found P (Some goal) counts w ws raw l
+own_found P (Some goal) counts w ws line up (inr (inr l)) = last_found P (Some goal) counts w ws line l
 
--- and a line of the table is a written line
-pub raw_found : (P : Instance) (goal : Option ℕ) (counts : Bool) (ws : Words) (raw : RawLine) → IsLine (line_kinds P goal counts) ws raw → (ws ≡ raw_fields P raw) × IsInRange P goal counts raw
-raw_found P goal counts [] raw l = absurd (no_words (line_kinds P goal counts) raw l)
-raw_found P goal counts (w ∷ ws) raw (inl l) = found_by P goal counts (split_kind P) w ws raw (λ v k. (refl, (k.0, k.1.0))) l
-raw_found P goal counts (w ∷ ws) raw (inr (inl l)) = found_by P goal counts (window_kind P) w ws raw (λ v k. (refl, (k.0.0, k.0.1, k.1.0, k.1.1.0))) l
-raw_found P goal counts (w ∷ ws) raw (inr (inr (inl l))) = found_by P goal counts (day_kind P) w ws raw (λ v k. (refl, (k.0, k.1.0))) l
-raw_found P goal counts (w ∷ ws) raw (inr (inr (inr (inl l)))) =
-    found_by P goal counts (dead_kind P) w ws raw (λ v k. (ap (λ us. codes "dead" ∷ place_words P v.0 ++ (decimal v.1.0 ∷ codes "rules" ∷ us)) (sym (rules_end v.1.1.0)), (k.0, k.1.0, k.1.1.0))) l
-raw_found P goal counts (w ∷ ws) raw (inr (inr (inr (inr l)))) = own_found P goal counts w ws raw l
+pub line_found : (P : Instance) (goal : Option ℕ) (counts : Bool) (ws : Words) (line : Line) → WeightsAscend line → IsLine (line_kinds P goal counts) ws (Some line) → Found P goal counts ws line
+line_found P goal counts [] line up l = absurd (no_words (line_kinds P goal counts) (Some line) l)
+line_found P goal counts (w ∷ ws) line up (inl l) =
+    found_by P goal counts (split_kind P) w ws line
+    (λ v k m. made_of P goal counts (codes "split" ∷ spell (split_kind P).fields v) (λ x. Split v.0 x) (symbol_of P v.1.0) line m
+    (λ x e. let named = symbol_of-name P v.1.0 x e in ((k.0, named.0), ap (λ n. codes "split" ∷ place_words P v.0 ++ (n ∷ [])) (sym named.1)))) l
+line_found P goal counts (w ∷ ws) line up (inr (inl l)) =
+    found_by P goal counts (window_kind P) w ws line
+    (λ v k m. let same : Closing (Leaves.Window v.0 v.1.0 v.1.1.0) ≡ line = cc in subst (Found P goal counts (codes "window" ∷ spell (window_kind P).fields v)) same ((k.0.0, k.0.1, k.1.0, k.1.1.0), refl)) l
+line_found P goal counts (w ∷ ws) line up (inr (inr (inl l))) =
+    found_by P goal counts (day_kind P) w ws line
+    (λ v k m. made_of P goal counts (codes "day" ∷ spell (day_kind P).fields v) (λ x. Closing (Leaves.Day v.0 x v.1.1.0)) (symbol_of P v.1.0) line m
+    (λ x e. let named = symbol_of-name P v.1.0 x e in ((k.0, named.0), ap (λ n. codes "day" ∷ decimal v.0 ∷ n ∷ way v.1.1.0 ∷ []) (sym named.1)))) l
+line_found P goal counts (w ∷ ws) line up (inr (inr (inr (inl l)))) =
+    found_by P goal counts (dead_kind P) w ws line
+    (λ v k m. let same : Closing (Leaves.Words v.0 v.1.1.0 (Dead v.1.0)) ≡ line = cc in
+    subst (Found P goal counts (codes "dead" ∷ spell (dead_kind P).fields v)) same ((k.0, k.1.0, k.1.1.0), ap (λ us. codes "dead" ∷ place_words P v.0 ++ (decimal v.1.0 ∷ codes "rules" ∷ us)) (sym (rules_end v.1.1.0)))) l
+line_found P goal counts (w ∷ ws) line up (inr (inr (inr (inr l)))) = own_found P goal counts w ws line up l
 
 -- the lines of a header
 
@@ -281,8 +365,8 @@ no_turn_fields = codes "turn" ∷ []
 pub no_turn_words : AreWords no_turn_fields
 no_turn_words = (omega arith, (word_blankless (codes "turn") refl, tt))
 
-pub raw_words : (P : Instance) (goal : Option ℕ) (counts : Bool) (raw : RawLine) → IsWritable P → IsInRange P goal counts raw → AreWords (raw_fields P raw)
-raw_words P goal counts raw w h = lines_are_words (line_kinds P goal counts) (raw_fields P raw) raw (lines_readable P goal counts w) (raw_line P goal counts raw h)
+pub line_words : (P : Instance) (goal : Option ℕ) (counts : Bool) (line : Line) → IsWritable P → HasNames P → LineFits P goal counts line → AreWords (line_fields P goal line)
+line_words P goal counts line w n h = lines_are_words (line_kinds P goal counts) (line_fields P goal line) (Some line) (lines_readable P goal counts w) (line_line P goal counts line n h)
 
 abbrev pub goal_fields : ℕ → Words
 goal_fields goal = codes "goal" ∷ decimal goal ∷ []
@@ -308,134 +392,22 @@ turn_same P name name' day day' w h k e =
     lines_say_one (turn_kinds P) (turn_fields name day) (name, day) (name', day') (turn_readable P w) (turn_line P name day h.0 h.1) (subst (λ ws. IsLine (turn_kinds P) ws (name', day')) (sym e) (turn_line P name' day' k.0 k.1)) in
     (ap (λ (t : List ℕ × ℕ). t.0) both, ap (λ (t : List ℕ × ℕ). t.1) both)
 
-pub raw_same : (P : Instance) (goal : Option ℕ) (counts : Bool) (a b : RawLine) → IsWritable P → IsInRange P goal counts a → IsInRange P goal counts b → raw_fields P a ≡ raw_fields P b → a ≡ b
-raw_same P goal counts a b w h k e =
-    lines_say_one (line_kinds P goal counts) (raw_fields P a) a b (lines_readable P goal counts w) (raw_line P goal counts a h) (subst (λ ws. IsLine (line_kinds P goal counts) ws b) (sym e) (raw_line P goal counts b k))
-
--- Lines and their texts.
-
-pub symbol_of-name : (P : Instance) (name : List ℕ) (x : Symbol) → symbol_of P name ≡ Some x → IsSymbol P x × (name_of P x ≡ name)
-symbol_of-name P name x h = let f = symbol_found P name x h in (f.0, sym f.1)
-
--- a weight and further ones that were read
-with_read : (e : NamedWeight) (o : Option Symbol) (rest : Option (List Weight)) (ys : List Weight) → with_weight e o rest ≡ Some ys → (x : Symbol) × (zs : List Weight) × (o ≡ Some x) × (rest ≡ Some zs) × (record { day = e.day; symbol = x; value = e.value } ∷ zs ≡ ys)
-with_read e None rest ys h = absurd (cc)
-with_read e (Some x) None ys h = absurd (cc)
-with_read e (Some x) (Some zs) ys h = (x, zs, refl, refl, let same : record { day = e.day; symbol = x; value = e.value } ∷ zs ≡ ys = cc in same)
-
-abbrev IsOf : Instance → Weight → Type 0
-IsOf P e = IsDay P e.day × IsSymbol P e.symbol
-
-record AreRead (P : Instance) (y : List NamedWeight) (ys : List Weight) : Type 0 where
-  same : map (named_weight P) ys ≡ y
-  small : AllByRecursion IsWeight ys
-  of : AllByRecursion (IsOf P) ys
-
-weights_read : (P : Instance) (y : List NamedWeight) (ys : List Weight) → AllByRecursion (WeightIsInRange P) y → weights_of P y ≡ Some ys → AreRead P y ys
-weights_read P [] ys h e = let none : [] ≡ ys = cc in subst (AreRead P []) none (record { same = refl; small = tt; of = tt })
-weights_read P (e ∷ y) ys h is =
-    let w = with_read e (symbol_of P e.name) (weights_of P y) ys is in
-    let rest = weights_read P y w.1 h.1 w.3 in
-    let named = symbol_of-name P e.name w.0 w.2 in
-    let first : Weight = record { day = e.day; symbol = w.0; value = e.value } in
-    let same_first : named_weight P (record { day = e.day; symbol = w.0; value = e.value }) ≡ e = ap (λ n. record { day = e.day; name = n; value = e.value }) named.1 in
-    subst (AreRead P (e ∷ y)) w.4 (record {
-      same = ap (λ f. f ∷ map (named_weight P) w.1) same_first ∙ ap (λ fs. e ∷ fs) rest.same;
-      small = (h.0.2, rest.small);
-      of = ((h.0.0, named.0), rest.of);
-    })
-
-weights_fit : (P : Instance) (y : List NamedWeight) (ys : List Weight) → All (WeightIsInRange P) y → AllPairs ComesBefore ys → weights_of P y ≡ Some ys → AreWeightsOf P ys × (y ≡ map (named_weight P) ys)
-weights_fit P y ys h up e =
-    let read = weights_read P y ys (all_to (WeightIsInRange P) y h) e in
-    ((record { ascends = up; small = all_from IsWeight ys read.small }, all_from (IsOf P) ys read.of), sym read.same)
-
--- the line that a written line is
-abbrev FitsAs : Instance → Option ℕ → Bool → RawLine → Line → Type 0
-FitsAs P goal counts written line = LineFits P goal counts line × (written ≡ raw P goal line)
-
-fits_as : (P : Instance) (goal : Option ℕ) (counts : Bool) (written : RawLine) (line : Line) → IsInRange P goal counts written → IfSome (line_of P written) WeightsAscend → line_of P written ≡ Some line → FitsAs P goal counts written line
-fits_as P goal counts (RawSplit p name) line h a e =
-    let m = mapped (λ x. Split p x) (symbol_of P name) line e in
-    let named = symbol_of-name P name m.0 m.1 in
-    subst (FitsAs P goal counts (RawSplit p name)) m.2 ((h.0, named.0), ap (RawSplit p) (sym named.1))
-fits_as P goal counts (RawWindow rule p len) line h a e =
-    let same : Closing (Leaves.Window rule p len) ≡ line = cc in
-    subst (FitsAs P goal counts (RawWindow rule p len)) same (h, refl)
-fits_as P goal counts (RawDay day name over) line h a e =
-    let m = mapped (λ x. Closing (Leaves.Day day x over)) (symbol_of P name) line e in
-    let named = symbol_of-name P name m.0 m.1 in
-    subst (FitsAs P goal counts (RawDay day name over)) m.2 ((h.0, named.0), ap (λ n. RawDay day n over) (sym named.1))
-fits_as P goal counts (RawDead p len R) line h a e =
-    let same : Closing (Leaves.Words p R (Dead len)) ≡ line = cc in
-    subst (FitsAs P goal counts (RawDead p len R)) same (h, refl)
-fits_as P goal false (RawBlocks name) line h a e = absurd h
-fits_as P goal true (RawBlocks name) line h a e =
-    let m = mapped (λ x. Closing (Leaves.Blocks x)) (symbol_of P name) line e in
-    let named = symbol_of-name P name m.0 m.1 in
-    subst (FitsAs P goal true (RawBlocks name)) m.2 ((refl, named.0), ap RawBlocks (sym named.1))
-fits_as P goal counts RawUnfinished line h a e =
-    let same : Unfinished ≡ line = cc in
-    subst (FitsAs P goal counts RawUnfinished) same (tt, refl)
-fits_as P None counts (RawBound p turns R y) line h a e =
-    let m = mapped (λ ys. Closing (Leaves.Words p R (Light turns 0 ys))) (weights_of P y) line e in
-    let read = weights_fit P y m.0 h.3 (subst (λ o. IfSome (option_map (λ ys. Closing (Leaves.Words p R (Light turns 0 ys))) o) WeightsAscend) m.1 a) m.1 in
-    subst (FitsAs P None counts (RawBound p turns R y)) m.2 ((h.0, h.1, h.2, read.0, refl), ap (RawBound p turns R) read.1)
-fits_as P None counts RawFew line h a e = absurd h
-fits_as P None counts (RawFree turns reward R y) line h a e = absurd h
-fits_as P (Some goal) counts RawFew line h a e =
-    let same : Closing Leaves.Few ≡ line = cc in
-    subst (FitsAs P (Some goal) counts RawFew) same (tt, refl)
-fits_as P (Some goal) counts (RawFree turns reward R y) line h a e =
-    let m = mapped (λ ys. Closing (Leaves.Words 0 R (Light turns reward ys))) (weights_of P y) line e in
-    let read = weights_fit P y m.0 h.3 (subst (λ o. IfSome (option_map (λ ys. Closing (Leaves.Words 0 R (Light turns reward ys))) o) WeightsAscend) m.1 a) m.1 in
-    subst (FitsAs P (Some goal) counts (RawFree turns reward R y)) m.2 ((some_cells turns (cells P) h.0.0, h.0, h.2, read.0, (refl, h.1)), ap (RawFree turns reward R) read.1)
-fits_as P (Some goal) counts (RawBound p turns R y) line h a e = absurd h
+-- bytes spell one line, or none
+pub written_same : (P : Instance) (goal : Option ℕ) (counts : Bool) (bytes : List ℕ) (a b : Option Line) → IsWritable P → IsWritten P goal counts bytes a → IsWritten P goal counts bytes b → a ≡ b
+written_same P goal counts bytes a b w x y =
+    let readable = lines_readable P goal counts w in
+    let same = same_words x.fields y.fields [] [] (lines_are_words (line_kinds P goal counts) x.fields a readable x.is_line) (lines_are_words (line_kinds P goal counts) y.fields b readable y.is_line) (ap (λ t. t ++ []) (sym x.spelled ∙ y.spelled)) in
+    lines_say_one (line_kinds P goal counts) x.fields a b readable x.is_line (subst (λ ws. IsLine (line_kinds P goal counts) ws b) (sym same.0) y.is_line)
 
 pub spelled_lines_fit : SpelledLinesFit
-spelled_lines_fit P goal counts bytes line spells =
-    let f = fits_as P goal counts spells.0 line spells.1.in_range spells.1.ascends spells.2 in
-    (f.0, spells.1.spelled ∙ ap (line_text P) f.1)
+spelled_lines_fit P goal counts bytes line s =
+    let f = line_found P goal counts s.fields line s.ascends s.is_line in
+    (f.0, s.spelled ∙ ap text_of f.1)
 
--- weights of the problem are read from their names
-weights_back : (P : Instance) (ys : List Weight) → HasNames P → AllByRecursion IsWeight ys → AllByRecursion (IsOf P) ys → AllByRecursion (WeightIsInRange P) (map (named_weight P) ys) × (weights_of P (map (named_weight P) ys) ≡ Some ys)
-weights_back P [] names small of = (tt, refl)
-weights_back P (e ∷ ys) names small of =
-    let rest = weights_back P ys names small.1 of.1 in
-    let name = names e.symbol of.0.1 in (
-      ((of.0.0, name.0, small.0), rest.0),
-      ap (λ o. with_weight (named_weight P e) o (weights_of P (map (named_weight P) ys))) name.1 ∙ ap (with_weight (named_weight P e) (Some e.symbol)) rest.1,
-    )
-
-weights_named : (P : Instance) (ys : List Weight) → HasNames P → AreWeightsOf P ys → All (WeightIsInRange P) (map (named_weight P) ys) × (weights_of P (map (named_weight P) ys) ≡ Some ys)
-weights_named P ys names h =
-    let back = weights_back P ys names (all_to IsWeight ys h.0.small) (all_to (IsOf P) ys h.1) in
-    (all_from (WeightIsInRange P) (map (named_weight P) ys) back.0, back.1)
-
-pub spelled_raw : (P : Instance) (goal : Option ℕ) (counts : Bool) (line : Line) → HasNames P → LineFits P goal counts line → IsInRange P goal counts (raw P goal line) × (line_of P (raw P goal line) ≡ Some line) × WeightsAscend line
-spelled_raw P goal counts (Split p x) names h = let name = names x h.1 in ((h.0, name.0), ap (option_map (λ z. Split p z)) name.1, tt)
-spelled_raw P goal counts (Closing (Leaves.Window rule p len)) names h = (h, refl, tt)
-spelled_raw P goal counts (Closing (Leaves.Day day x over)) names h = let name = names x h.1 in ((h.0, name.0), ap (option_map (λ z. Closing (Leaves.Day day z over))) name.1, tt)
-spelled_raw P goal counts (Closing (Leaves.Words p R (Dead len))) names h = (h, refl, tt)
-spelled_raw P goal false (Closing (Leaves.Blocks x)) names h = let clash : false ≡ true = h.0 in absurd (cc)
-spelled_raw P goal true (Closing (Leaves.Blocks x)) names h = let name = names x h.1 in (name.0, ap (option_map (λ z. Closing (Leaves.Blocks z))) name.1, tt)
-spelled_raw P goal counts Unfinished names h = (tt, refl, tt)
-spelled_raw P None counts (Closing (Leaves.Words p R (Light turns reward y))) names h =
-    let back = weights_named P y names h.3 in (
-      (h.0, h.1, h.2, back.0),
-      ap (option_map (λ ys. Closing (Leaves.Words p R (Light turns 0 ys)))) back.1 ∙ ap (λ r. Some (Closing (Leaves.Words p R (Light turns r y)))) (sym h.4),
-      h.3.0.ascends,
-    )
-spelled_raw P (Some goal) counts (Closing (Leaves.Words p R (Light turns reward y))) names h =
-    let back = weights_named P y names h.3 in (
-      (h.1, h.4.1, h.2, back.0),
-      ap (option_map (λ ys. Closing (Leaves.Words 0 R (Light turns reward ys)))) back.1 ∙ ap (λ q. Some (Closing (Leaves.Words q R (Light turns reward y)))) (sym h.4.0),
-      h.3.0.ascends,
-    )
-spelled_raw P None counts (Closing Leaves.Few) names h = absurd h
-spelled_raw P (Some goal) counts (Closing Leaves.Few) names h = (tt, refl, tt)
+weights_ascend : (P : Instance) (goal : Option ℕ) (counts : Bool) (line : Line) → LineFits P goal counts line → WeightsAscend line
+weights_ascend P None counts (Closing (Leaves.Words p R (Light turns reward y))) h = h.3.0.ascends
+weights_ascend P (Some goal) counts (Closing (Leaves.Words p R (Light turns reward y))) h = h.3.0.ascends
+weights_ascend P goal counts line h = tt
 
 pub fitting_lines_are_spelled : FittingLinesAreSpelled
-fitting_lines_are_spelled P goal counts line names h =
-    let s = spelled_raw P goal counts line names h in
-    (raw P goal line, record { spelled = refl; in_range = s.0; ascends = subst (λ o. IfSome o WeightsAscend) (sym s.1) s.2 }, s.1)
+fitting_lines_are_spelled P goal counts line names h = record { fields = line_fields P goal line; spelled = refl; is_line = line_line P goal counts line names h; ascends = weights_ascend P goal counts line h }

@@ -1,9 +1,11 @@
 -- Texts of logs as lists of lines, and each line as its words.
-use Rattle.std.proofs.Common.{◌≡◌, ℕ, suc, List, [], ◌∷◌, ◌++◌, map, refl, ap, sym, ◌∙◌, append_assoc, append-nil, Bool, true, false, Option, Some, None}
+use Rattle.std.proofs.Common.{◌≡◌, ℕ, suc, List, [], ◌∷◌, ◌++◌, map, refl, ap, sym, ◌∙◌, subst, append_assoc, append-nil, Bool, true, false, Option, Some, None}
 use Rattle.std.specs.Prelude.{slice_get}
 use Rattle.std.specs.List.{AllByRecursion}
 use Rattle.rwsp_text.specs.Fields.{Words, text_of}
-use Rattle.rwsp_text.specs.Lines.{text_of_lines, AreLines, AreWords}
+use Rattle.rwsp_text.specs.Lines.{text_of_lines, AreLines}
+use Rattle.rwsp_text.specs.Kinds.{IsLine}
+use Rattle.rwsp_text.proofs.KindLaws.{lines_say_one}
 use Rattle.rwsp_text.proofs.LineLaws.{lines_append, are_lines_append}
 use Rattle.rwsp_terms.specs.Instance.{Instance, symbol_of, name_of}
 use Rattle.refutation_terms.specs.declared.lines.Version.{Version}
@@ -13,9 +15,9 @@ use Rattle.refutation_terms.specs.declared.lines.Turn.{Turn}
 use Rattle.refutation_terms.specs.declared.lines.Opening.{Opening}
 use Rattle.refutation_terms.specs.declared.lines.Opening.TheVariants.{Full, Turned, Given}
 use Rattle.refutation_terms.specs.Log.{Log, Fits, LineFits, OpeningFits, GoalFits}
-use Rattle.refutation_terms.specs.LogText.{raw, raw_fields, line_text, version_text, version_of, rules_text, turn_text, cells_text, opening_text, goal_text, third_text, header_text, lines_text, log_text, line_of}
+use Rattle.refutation_terms.specs.LogText.{line_fields, line_text, line_kinds, version_text, version_of, rules_text, turn_text, cells_text, opening_text, goal_text, third_text, header_text, lines_text, log_text}
 use Rattle.refutation_terms.specs.TextLaws.{IsWritable, HasNames}
-use Rattle.refutation_terms.proofs.LineTables.{spelled_raw, version_fields, rules_fields, turn_fields, no_turn_fields, goal_fields, version_words, rules_words, turn_words, no_turn_words, goal_words, raw_words, raw_same, turn_same as names_same}
+use Rattle.refutation_terms.proofs.LineTables.{line_line, lines_readable, version_fields, rules_fields, turn_fields, no_turn_fields, goal_fields, version_words, rules_words, turn_words, no_turn_words, goal_words, line_words, turn_same as names_same}
 use Rattle.refutation_terms.proofs.GivenLine.{given_fields, given_words}
 
 -- the third line of a log without a goal, if it has one: its given cells, its turn, or that there is none
@@ -34,7 +36,7 @@ abbrev pub header_fields : Instance → List ℕ → Opening → Option ℕ → 
 header_fields P named o goal counts = version_fields (version_of o goal counts) ∷ rules_fields named ∷ third_fields P o goal counts
 
 abbrev pub lines_fields : Instance → Option ℕ → List Line → List Words
-lines_fields P goal lines = map (λ line. raw_fields P (raw P goal line)) lines
+lines_fields P goal lines = map (λ line. line_fields P goal line) lines
 
 abbrev pub log_fields : Instance → Log → List Words
 log_fields P g = header_fields P g.named g.opening g.goal g.counts ++ lines_fields P g.goal g.lines
@@ -49,7 +51,7 @@ version_written Fill1 = refl
 
 pub lines_written : (P : Instance) (goal : Option ℕ) (lines : List Line) → lines_text P goal lines ≡ text_of_lines (lines_fields P goal lines)
 lines_written P goal [] = refl
-lines_written P goal (line ∷ lines) = ap (λ t. line_text P (raw P goal line) ++ t) (lines_written P goal lines)
+lines_written P goal (line ∷ lines) = ap (λ t. line_text P goal line ++ t) (lines_written P goal lines)
 
 opening_written : (P : Instance) (o : Opening) (counts : Bool) → opening_text P o counts ≡ text_of_lines (opening_lines P o counts)
 opening_written P (Given given) counts = sym (append-nil (cells_text P given))
@@ -74,9 +76,6 @@ log_written P g =
     ∙ sym (lines_append (header_fields P g.named g.opening g.goal g.counts) (lines_fields P g.goal g.lines))
 
 -- they are lines of words
-pub line_words : (P : Instance) (goal : Option ℕ) (counts : Bool) (line : Line) → IsWritable P → HasNames P → LineFits P goal counts line → AreWords (raw_fields P (raw P goal line))
-line_words P goal counts line w n h = raw_words P goal counts (raw P goal line) w (spelled_raw P goal counts line n h).0
-
 pub each_fits : (P : Instance) (goal : Option ℕ) (counts : Bool) (lines : List Line) → ((k : ℕ) (line : Line) → slice_get lines k ≡ Some line → LineFits P goal counts line) → AllByRecursion (LineFits P goal counts) lines
 each_fits P goal counts [] h = tt
 each_fits P goal counts (line ∷ lines) h = (h 0 line refl, each_fits P goal counts lines (λ k l e. h (suc k) l e))
@@ -102,10 +101,10 @@ log_words P g w n h =
     (lines_words P g.goal g.counts g.lines w n (each_fits P g.goal g.counts g.lines h.lines))
 
 -- lines are those of one list
-same_tree_line : (P : Instance) (goal : Option ℕ) (counts : Bool) (a b : Line) → IsWritable P → HasNames P → LineFits P goal counts a → LineFits P goal counts b → raw_fields P (raw P goal a) ≡ raw_fields P (raw P goal b) → a ≡ b
+same_tree_line : (P : Instance) (goal : Option ℕ) (counts : Bool) (a b : Line) → IsWritable P → HasNames P → LineFits P goal counts a → LineFits P goal counts b → line_fields P goal a ≡ line_fields P goal b → a ≡ b
 same_tree_line P goal counts a b w n ha hb e =
-    let same = raw_same P goal counts (raw P goal a) (raw P goal b) w (spelled_raw P goal counts a n ha).0 (spelled_raw P goal counts b n hb).0 e in
-    let both : Some a ≡ Some b = sym (spelled_raw P goal counts a n ha).1 ∙ ap (line_of P) same ∙ (spelled_raw P goal counts b n hb).1 in
+    let both : Some a ≡ Some b =
+    lines_say_one (line_kinds P goal counts) (line_fields P goal a) (Some a) (Some b) (lines_readable P goal counts w) (line_line P goal counts a n ha) (subst (λ ws. IsLine (line_kinds P goal counts) ws (Some b)) (sym e) (line_line P goal counts b n hb)) in
     let whole : a ≡ b = cc in whole
 
 -- lines that continue where others end
@@ -113,7 +112,7 @@ pub lines_longer : (P : Instance) (goal : Option ℕ) (counts : Bool) (a b : Lis
 lines_longer P goal counts [] b zs w n ha hb e = (b, refl, sym e)
 lines_longer P goal counts (x ∷ a) [] zs w n ha hb e = absurd (cc)
 lines_longer P goal counts (x ∷ a) (y ∷ b) zs w n ha hb e =
-    let first : raw_fields P (raw P goal y) ≡ raw_fields P (raw P goal x) = cc in
+    let first : line_fields P goal y ≡ line_fields P goal x = cc in
     let rest : lines_fields P goal b ≡ lines_fields P goal a ++ zs = cc in
     let same : y ≡ x = same_tree_line P goal counts y x w n hb.0 ha.0 first in
     let m = lines_longer P goal counts a b zs w n ha.1 hb.1 rest in

@@ -22,7 +22,7 @@ use Rattle.refutation_terms.specs.Word.{Domains}
 use Rattle.refutation_terms.specs.Ranges.{AreRules}
 use Rattle.refutation_terms.specs.Tree.{IsTree, after_trees, domains_at, opening, lines_leave, lines_in}
 use Rattle.refutation_terms.specs.Log.{Log, LineFits, OpeningFits, GoalFits, Holds, Cites, OpeningCites, IsAllowed, ListsShortOnly, IsGrounded, Passes}
-use Rattle.refutation_terms.specs.LogText.{raw, line_text, version_text, rules_text, turn_text, no_turn_text, goal_text, third_text}
+use Rattle.refutation_terms.specs.LogText.{line_text, version_text, rules_text, turn_text, no_turn_text, goal_text, third_text}
 use Rattle.refutation_terms.specs.Verdict.{kind_of, kind_by, kind_of_log, Front, Start, Versioned, BeforeTurn, BeforeGoal, BeforeCells, Reading, HasNoCause, IsSoundSoFar, header_lines, TreeCause, CauseBehind, Cause, VersionCause, GoalCause, RulesCause, IsRefused, IsAccepted}
 use Rattle.refutation_terms.specs.TextLaws.{IsWritable, HasNames, VerdictIsUnique}
 use Rattle.refutation_terms.proofs.LineTables.{fitting_lines_are_spelled}
@@ -42,11 +42,11 @@ no_reason P goal named D n line why holds all short (OfFail all' plain not e) = 
 no_reason P goal named D n line why holds all short (OfEscape all' short' u a e) = escaped_not_holding P goal D line u a holds
 no_reason P goal named D n line why holds all short (OfOpen o e) = open_holds_not P goal D (subst (Holds P goal D) o holds)
 
-no_level : (P : Instance) (goal : Option ℕ) (counts : Bool) (named : List ℕ) (D : Domains) (n : ℕ) (line : Line) (why : LogRefusal) → IsWritable P → HasNames P → LineFits P goal counts line → Holds P goal D line → ((r : Rule) → Cites P line r → Names P named r) → ListsShortOnly P line → Level P goal counts named D n (line_text P (raw P goal line)) why → ⊥
-no_level P goal counts named D n line why w m fits holds all short (Nothing a e) = let s = fitting_lines_are_spelled P goal counts line m fits in a s.0 s.1
-no_level P goal counts named D n line why w m fits holds all short (Unknown a e) = not_unknown P goal counts (line_text P (raw P goal line)) line w (fitting_lines_are_spelled P goal counts line m fits) a
+no_level : (P : Instance) (goal : Option ℕ) (counts : Bool) (named : List ℕ) (D : Domains) (n : ℕ) (line : Line) (why : LogRefusal) → IsWritable P → HasNames P → LineFits P goal counts line → Holds P goal D line → ((r : Rule) → Cites P line r → Names P named r) → ListsShortOnly P line → Level P goal counts named D n (line_text P goal line) why → ⊥
+no_level P goal counts named D n line why w m fits holds all short (Nothing a e) = a (Some line) (fitting_lines_are_spelled P goal counts line m fits)
+no_level P goal counts named D n line why w m fits holds all short (Unknown a e) = not_unknown P goal counts (line_text P goal line) line w (fitting_lines_are_spelled P goal counts line m fits) a
 no_level P goal counts named D n line why w m fits holds all short (Known other a q) =
-    no_reason P goal named D n line why holds all short (subst (λ l. Reason P goal named D n l why) (spells_same P goal counts (line_text P (raw P goal line)) other line w m a (fitting_lines_are_spelled P goal counts line m fits)) q)
+    no_reason P goal named D n line why holds all short (subst (λ l. Reason P goal named D n l why) (spells_same P goal counts (line_text P goal line) other line w m a (fitting_lines_are_spelled P goal counts line m fits)) q)
 
 pub got_seam : (xs ys : List Line) (line : Line) → slice_get (xs ++ line ∷ ys) (length xs) ≡ Some line
 got_seam [] ys line = refl
@@ -56,7 +56,7 @@ take_all : (xs : List Line) → take (length xs) xs ≡ xs
 take_all xs = ap (take (length xs)) (sym (append-nil xs)) ∙ take-append_seam xs []
 
 -- a line of a log that is sound so far is refused for no cause behind the lines before it
-tree_line_fine : (P : Instance) (f : Log) (line : Line) (more : List Line) (n : ℕ) (why : LogRefusal) → IsWritable P → HasNames P → IsSoundSoFar P (record { named = f.named; opening = f.opening; goal = f.goal; counts = f.counts; lines = f.lines ++ line ∷ more }) → TreeCause P f.goal f.counts f.named (domains_at P f.opening f.lines (length f.lines)) n (line_text P (raw P f.goal line)) why → ⊥
+tree_line_fine : (P : Instance) (f : Log) (line : Line) (more : List Line) (n : ℕ) (why : LogRefusal) → IsWritable P → HasNames P → IsSoundSoFar P (record { named = f.named; opening = f.opening; goal = f.goal; counts = f.counts; lines = f.lines ++ line ∷ more }) → TreeCause P f.goal f.counts f.named (domains_at P f.opening f.lines (length f.lines)) n (line_text P f.goal line) why → ⊥
 tree_line_fine P f line more n why w m h c =
     let k = length f.lines in
     let here = got_seam f.lines more line in
@@ -64,7 +64,7 @@ tree_line_fine P f line more n why w m h c =
     let before : take (length f.lines) (f.lines ++ line ∷ more) ≡ take (length f.lines) f.lines = take-append_seam f.lines (line ∷ more) ∙ sym (take_all f.lines) in
     let holds : Holds P f.goal (domains_at P f.opening f.lines (length f.lines)) line =
     subst (λ ls. Holds P f.goal (λ p z. opening P f.opening p z && lines_leave ls p z) line) before (h.holds k line here) in
-    no_level P f.goal f.counts f.named D n line why w m (h.grounded.fits.lines k line here) holds (λ r cites. h.grounded.named k line r here cites) (h.grounded.short k line here) (level_of P f.goal f.counts f.named D n (line_text P (raw P f.goal line)) why c)
+    no_level P f.goal f.counts f.named D n line why w m (h.grounded.fits.lines k line here) holds (λ r cites. h.grounded.named k line r here cites) (h.grounded.short k line here) (level_of P f.goal f.counts f.named D n (line_text P f.goal line) why c)
 
 -- and the lines before it aren't a whole tree
 tree_not_before : (P : Instance) (f : Log) (line : Line) (more : List Line) → IsSoundSoFar P (record { named = f.named; opening = f.opening; goal = f.goal; counts = f.counts; lines = f.lines ++ line ∷ more }) → IsTree f.lines → ⊥
@@ -73,7 +73,7 @@ tree_not_before P f line more h t =
     h.in_tree (length f.lines) short (subst IsTree (sym (take-append_seam f.lines (line ∷ more))) t)
 
 -- the next line of a longer log without a cause has none
-pub next_line_fine : (P : Instance) (f : Log) (line : Line) (more : List Line) (why : LogRefusal) → IsWritable P → HasNames P → IsSoundSoFar P (record { named = f.named; opening = f.opening; goal = f.goal; counts = f.counts; lines = f.lines ++ line ∷ more }) → CauseBehind P f (line_text P (raw P f.goal line)) why → ⊥
+pub next_line_fine : (P : Instance) (f : Log) (line : Line) (more : List Line) (why : LogRefusal) → IsWritable P → HasNames P → IsSoundSoFar P (record { named = f.named; opening = f.opening; goal = f.goal; counts = f.counts; lines = f.lines ++ line ∷ more }) → CauseBehind P f (line_text P f.goal line) why → ⊥
 next_line_fine P f line more why w n h (inl c) = tree_not_before P f line more h c.0
 next_line_fine P f line more why w n h (inr c) = tree_line_fine P f line more (header_lines f.opening f.goal f.counts + length f.lines + 1) why w n h c.1
 

@@ -8,7 +8,7 @@ use Rattle.refutation_terms.specs.declared.lines.LogKind.{LogKind}
 use Rattle.refutation_terms.specs.declared.lines.Line.{Line}
 use Rattle.refutation_terms.specs.declared.lines.LogRefusal.{LogRefusal}
 use Rattle.refutation_terms.specs.Log.{Log, Fits, LineFits}
-use Rattle.refutation_terms.specs.LogText.{raw, line_text, log_text}
+use Rattle.refutation_terms.specs.LogText.{line_text, log_text}
 use Rattle.rwsp_text.specs.Fields.{IsName}
 use Rattle.refutation_terms.specs.Verdict.{Spells, IsVerdict}
 
@@ -24,13 +24,13 @@ IsWritable P = (P.days < 2 ^ 32) × (P.weeks < 2 ^ 32) × (length (rules P) < 2 
 abbrev pub SpelledLinesFit : Type 0
 SpelledLinesFit =
     (P : Instance) (goal : Option ℕ) (counts : Bool) (bytes : List ℕ) (line : Line) → Spells P goal counts bytes line
-    → LineFits P goal counts line × (bytes ≡ line_text P (raw P goal line))
+    → LineFits P goal counts line × (bytes ≡ line_text P goal line)
 
 -- the text of a line that fits the problem spells it
 abbrev pub FittingLinesAreSpelled : Type 0
 FittingLinesAreSpelled =
     (P : Instance) (goal : Option ℕ) (counts : Bool) (line : Line) → HasNames P → LineFits P goal counts line
-    → Spells P goal counts (line_text P (raw P goal line)) line
+    → Spells P goal counts (line_text P goal line) line
 
 -- no two logs that fit a problem have one text
 abbrev pub TextsAreDistinct : Type 0

@@ -22,7 +22,7 @@ use Rattle.refutation_terms.specs.Ranges.{AreRules}
 use Rattle.refutation_terms.specs.Leaves.{IsWordless, LeafListsLong, LeafEscapes}
 use Rattle.refutation_terms.specs.Tree.{IsTree, domains_at, is_idle}
 use Rattle.refutation_terms.specs.Log.{Log, Holds, HoldsAt, Cites, CitesOnlyNamed, ListsShortOnly, IsGrounded, Passes}
-use Rattle.refutation_terms.specs.LogText.{RawLine, IsWritten, line_of, version_text, rules_text, turn_text, no_turn_text, goal_text, named_cells_text, log_text}
+use Rattle.refutation_terms.specs.LogText.{IsWritten, version_text, rules_text, turn_text, no_turn_text, goal_text, named_cells_text, log_text}
 
 -- the least number with a property
 abbrev pub IsLeast : (ℕ → Type 0) → ℕ → Type 0
@@ -49,15 +49,15 @@ Escapes P goal D line w = ⊥
 
 -- the bytes of a text line spell no line of a log with this goal or none, which may count or not
 abbrev pub SpellsNothing : Instance → Option ℕ → Bool → List ℕ → Type 0
-SpellsNothing P goal counts bytes = (raw : RawLine) → IsWritten P goal counts bytes raw → ⊥
+SpellsNothing P goal counts bytes = (line : Option Line) → IsWritten P goal counts bytes line → ⊥
 
 -- they spell a line with a name of no symbol
 abbrev pub SpellsUnknown : Instance → Option ℕ → Bool → List ℕ → Type 0
-SpellsUnknown P goal counts bytes = (raw : RawLine) × IsWritten P goal counts bytes raw × (line_of P raw ≡ None)
+SpellsUnknown P goal counts bytes = IsWritten P goal counts bytes None
 
 -- they spell this line
 abbrev pub Spells : Instance → Option ℕ → Bool → List ℕ → Line → Type 0
-Spells P goal counts bytes line = (raw : RawLine) × IsWritten P goal counts bytes raw × (line_of P raw ≡ Some line)
+Spells P goal counts bytes line = IsWritten P goal counts bytes (Some line)
 
 -- and each rule that it cites is named
 abbrev pub SpellsNamed : Instance → Option ℕ → Bool → List ℕ → List ℕ → Line → Type 0

@@ -99,28 +99,27 @@ outside limit n e = at (nat_le limit.least n) refl e where
   at true h g = inr (grind (arith, nat_tests))
   at false h g = inl (grind (arith, nat_tests))
 
+-- why what has to be there, and to pass a test, is refused
+checked_fails : {A : Type 0} (o : Option A) (test : A → Bool) (none bad why : Misfit) → (or_refuse o none >>= (λ m. if test m then Ok m else failed bad)) ≡ Err why →
+    ((o ≡ None) × (why ≡ none)) ⊎ ((m : A) × (o ≡ Some m) × (test m ≡ false) × (why ≡ bad))
+checked_fails {A} None test none bad why e = inl (refl, sym (err_same {X = A} none why e))
+checked_fails {A} (Some m) test none bad why e = at (test m) refl e where
+  at : (b : Bool) → test m ≡ b → (if b then Ok m else failed {X = A} bad) ≡ Err why → ((Some m ≡ None) × (why ≡ none)) ⊎ ((n : A) × (Some m ≡ Some n) × (test n ≡ false) × (why ≡ bad))
+  at true t f = absurd (cc)
+  at false t f = inr (m, refl, t, sym (err_same {X = A} bad why f))
+
 pub limited_refused : (awaited : Place) (limit : Limit) (w : Lexeme) (why : Misfit) → IsNumberPlace awaited limit → limited awaited limit w ≡ Err why → IsRefusedAt awaited w why
 unfolding limited
-limited_refused awaited limit w why place e = at (number_of w.text) refl e where
-  tested : (n : ℕ) (b : Bool) → number_of w.text ≡ Some n → is_between limit.least limit.greatest n ≡ b → (if b then Ok n else failed (BadWord awaited w (Beyond limit))) ≡ Err why → IsRefusedAt awaited w why
-  tested n true h t f = absurd (cc)
-  tested n false h t f = record {
+limited_refused awaited limit w why place e = at (checked_fails (number_of w.text) (is_between limit.least limit.greatest) (BadWord awaited w NoNumber) (BadWord awaited w (Beyond limit)) why e) where
+  at : ((number_of w.text ≡ None) × (why ≡ BadWord awaited w NoNumber)) ⊎ ((n : ℕ) × (number_of w.text ≡ Some n) × (is_between limit.least limit.greatest n ≡ false) × (why ≡ BadWord awaited w (Beyond limit))) → IsRefusedAt awaited w why
+  at (inl f) = record { fault = NoNumber; same = f.1; rests = λ left h. h; alone = λ left h. h; broken = λ front P. place.none w.text f.0 }
+  at (inr f) = record {
     fault = Beyond limit;
-    same = sym (err_same {X = ℕ} (BadWord awaited w (Beyond limit)) why f);
+    same = f.3;
     rests = λ left h. h;
     alone = λ left h. h;
-    broken = λ front P. (place.right, place.beyond w.text n h (outside limit n t));
+    broken = λ front P. (place.right, place.beyond w.text f.0 f.1 (outside limit f.0 f.2));
   }
-
-  at : (o : Option ℕ) → number_of w.text ≡ o → (or_refuse o (BadWord awaited w NoNumber) >>= (λ n. if is_between limit.least limit.greatest n then Ok n else failed (BadWord awaited w (Beyond limit)))) ≡ Err why → IsRefusedAt awaited w why
-  at None h f = record {
-    fault = NoNumber;
-    same = sym (err_same {X = ℕ} (BadWord awaited w NoNumber) why f);
-    rests = λ left h. h;
-    alone = λ left h. h;
-    broken = λ front P. place.none w.text h;
-  }
-  at (Some n) h f = tested n (is_between limit.least limit.greatest n) h refl f
 
 -- the word `0`
 abbrev pub zero_word : List ℕ
@@ -230,30 +229,22 @@ large_range b e = at (nat_le b.least MOST_WEEKS) refl e where
 
 pub demand_refused : (shift day : ℕ) (w : Lexeme) (why : Misfit) → limited_demand (Demand shift day) w ≡ Err why → IsRefused (Demand shift day) w why IsAny
 unfolding limited_demand
-demand_refused shift day w why e = at (written_demand w.text) refl e where
-  tested : (b : Bounds) (t : Bool) → written_demand w.text ≡ Some b → is_small_range b ≡ t → (if t then Ok b else failed (BadWord (Demand shift day) w (Beyond (limit_of 5 0 MOST_WEEKS)))) ≡ Err why → IsRefused (Demand shift day) w why IsAny
-  tested b true h t f = absurd (cc)
-  tested b false h t f = record {
-    fault = Beyond (limit_of 5 0 MOST_WEEKS);
-    same = sym (err_same {X = Bounds} (BadWord (Demand shift day) w (Beyond (limit_of 5 0 MOST_WEEKS))) why f);
-    rests = λ left. tt;
-    broken = λ front P here. (refl, (b, demand_found w.text b h, large (large_range b t)));
-  } where
-    large : (MOST_WEEKS < b.least) ⊎ (MOST_WEEKS < b.greatest) → IsOutside (limit_of 5 0 MOST_WEEKS) b.least ⊎ IsOutside (limit_of 5 0 MOST_WEEKS) b.greatest
-    large (inl g) = inl (inr g)
-    large (inr g) = inr (inr g)
-
+demand_refused shift day w why e = at (checked_fails (written_demand w.text) is_small_range (BadWord (Demand shift day) w NoNumber) (BadWord (Demand shift day) w (Beyond (limit_of 5 0 MOST_WEEKS))) why e) where
   none_some : (b : Bounds) → written_demand w.text ≡ None → written_demand w.text ≡ Some b → ⊥
   none_some b h g = absurd (cc)
 
-  at : (o : Option Bounds) → written_demand w.text ≡ o → (or_refuse o (BadWord (Demand shift day) w NoNumber) >>= (λ b. if is_small_range b then Ok b else failed (BadWord (Demand shift day) w (Beyond (limit_of 5 0 MOST_WEEKS))))) ≡ Err why → IsRefused (Demand shift day) w why IsAny
-  at None h f = record {
-    fault = NoNumber;
-    same = sym (err_same {X = Bounds} (BadWord (Demand shift day) w NoNumber) why f);
+  large : (b : Bounds) → (MOST_WEEKS < b.least) ⊎ (MOST_WEEKS < b.greatest) → IsOutside (limit_of 5 0 MOST_WEEKS) b.least ⊎ IsOutside (limit_of 5 0 MOST_WEEKS) b.greatest
+  large b (inl g) = inl (inr g)
+  large b (inr g) = inr (inr g)
+
+  at : ((written_demand w.text ≡ None) × (why ≡ BadWord (Demand shift day) w NoNumber)) ⊎ ((b : Bounds) × (written_demand w.text ≡ Some b) × (is_small_range b ≡ false) × (why ≡ BadWord (Demand shift day) w (Beyond (limit_of 5 0 MOST_WEEKS)))) → IsRefused (Demand shift day) w why IsAny
+  at (inl f) = record { fault = NoNumber; same = f.1; rests = λ left. tt; broken = λ front P here range is. none_some range f.0 (demand_only w.text range is) }
+  at (inr f) = record {
+    fault = Beyond (limit_of 5 0 MOST_WEEKS);
+    same = f.3;
     rests = λ left. tt;
-    broken = λ front P here range is. none_some range h (demand_only w.text range is);
+    broken = λ front P here. (refl, (f.0, demand_found w.text f.0 f.1, large f.0 (large_range f.0 f.2)));
   }
-  at (Some b) h f = tested b (is_small_range b) h refl f
 
 abbrev pub demand_form : (shift day : ℕ) → WordForm
 demand_form shift day = record {

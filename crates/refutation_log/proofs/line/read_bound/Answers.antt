@@ -6,5 +6,5 @@ use Rattle.refutation_log.proofs.line.read_bound.Goals as goal
 pub returns : goal.returns
 returns c =
     let P = c.args.problem.now in
-    subst (Answers P (bound_at P c.args.fields.now)) (sym c.light_line.ensures)
+    subst (Answers (bound_at P c.args.fields.now)) (sym c.light_line.ensures)
     (bound_answered P _ _ _ _ _ c.weighed.result c.most_turns.ensures c.in-Some.ensures c.weighed.ensures)

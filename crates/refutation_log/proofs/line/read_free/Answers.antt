@@ -6,5 +6,5 @@ use Rattle.refutation_log.proofs.line.read_free.Goals as goal
 pub returns : goal.returns
 returns c =
     let P = c.args.problem.now in
-    subst (Answers P (free_at P c.args.fields.now)) (sym c.light_line.ensures)
+    subst (Answers (free_at P c.args.fields.now)) (sym c.light_line.ensures)
     (free_answered P _ _ _ _ c.weighed.result c.in-Some.ensures c.weighed.ensures)
