@@ -17,7 +17,9 @@ use domain_store::Domains;
 use propagators::NearestWeights;
 use refutation_terms::{Line, Opening};
 use roster_finder::{Patience, RosterFinder};
-use roster_search::{Aim, Guide, NextSplit, chronological, off_or_work_by_day, off_or_work_from};
+use roster_search::{
+    Aim, Guide, NextSplit, Ties, chronological, off_or_work_by_day, off_or_work_from,
+};
 use rwsp_model::Roster;
 use std::alloc::{AllocError, Global};
 use std::mem;
@@ -29,8 +31,11 @@ pub enum Order {
     OffByWeeks,
     /// Which days are off, one day of the week after the other, from the one on that is so many days behind the first.
     OffByDays { later: u32 },
-    /// The days in their order, with their shifts.
+    /// The days in their order, from the turn on, with their shifts.
     Days,
+    /// The same from the day on that is so many days behind the turn, where of several shifts that are needed alike the
+    /// last one comes first. A roster is looked for by random numbers of this seed.
+    Shifts { later: u32, seed: u32 },
 }
 
 // The guide of a planner. It closes cases by weights, looks for a roster by other means before the first split, and
@@ -138,7 +143,7 @@ impl<'a> PlannerGuide<'a> {
         match self.order {
             Order::OffByWeeks => off_or_work_from(doms, 0),
             Order::OffByDays { later } => off_or_work_by_day(self.automaton.problem(), doms, later),
-            Order::Days => None,
+            Order::Days | Order::Shifts { .. } => None,
         }
     }
 }
@@ -155,6 +160,9 @@ impl<'a> Guide for PlannerGuide<'a> {
     }
 
     fn roster(&mut self, alloc: Global, opening: &Opening) -> Result<Option<Roster>, AllocError> {
+        if let Order::Shifts { seed, .. } = self.order {
+            return roster_by(alloc, self.finder, opening, self.goal, seed);
+        }
         // Without a goal a roster was already looked for, so that short searches come before one with more patience.
         let is_due = self.goal.is_some() || matches!(self.order, Order::Days);
         if !is_due || mem::replace(&mut self.has_looked, true) {
@@ -168,7 +176,12 @@ impl<'a> Guide for PlannerGuide<'a> {
         if split.is_some() {
             return split;
         }
-        chronological(self.automaton.problem(), doms, self.first)
+        let (later, ties) = match self.order {
+            Order::Shifts { later, .. } => (later, Ties::Highest),
+            _ => (0, Ties::Lowest),
+        };
+        let first = self.first.saturating_add(later);
+        chronological(self.automaton.problem(), doms, first, ties)
     }
 }
 
@@ -195,6 +208,25 @@ fn found_roster(
         }
     }
     finder.find(alloc, least, Patience::Long)
+}
+
+// A roster that holds the given cells, and is found soon by random numbers of this seed, where there is no goal.
+fn roster_by(
+    alloc: Global,
+    finder: &RosterFinder<'_>,
+    opening: &Opening,
+    goal: Option<u32>,
+    seed: u32,
+) -> Result<Option<Roster>, AllocError>
+    requires { OpeningFits finder.now opening.now }
+    ensures { IfOk result (λ found. IfSome found (IsWantedBehind finder.now opening.now goal)) }
+{
+    if goal.is_some() {
+        return Ok(None);
+    }
+    let patience = Patience::Short;
+    let seeded = finder.at_most(patience).seeded(seed);
+    roster_behind(alloc, &seeded, opening, patience)
 }
 
 // The position of the turn, 0 where there is none.

@@ -6,6 +6,7 @@ ghost use Rattle.refutation_terms.specs.Log.{OpeningFits, GoalFits, IsAllowed};
 ghost use Rattle.domain_store.specs.Looks.{HasPlainLeaves, IsSame};
 ghost use Rattle.roster_search.specs.Founds.{IsFound, HasSpentBudget};
 ghost use Rattle.roster_search.specs.Guides.{AreUnweighed};
+ghost use Rattle.roster_planner.specs.declared.starts.TheConstants.{FEWEST_LINES};
 
 use crate::guide::{Order, PlannerGuide};
 use domain_store::Propagator;
@@ -18,15 +19,20 @@ use std::alloc::{AllocError, Global};
 // The most lines of a start.
 const START_LINES: u32 = 3_000;
 
-// A start of fewer lines isn't worth its time.
+// A start of fewer lines isn't worth its time. One that splits on shifts has no more.
 const FEWEST_LINES: u32 = 500;
+
+// So many starts split on shifts, each from so many days later on than the one before.
+const SHIFT_STARTS: u32 = 4;
+
+const SHIFT_DAYS: u32 = 3;
 
 // Rosters with more cells have no starts, since weights are looked for within no tree of theirs.
 const MOST_CELLS: u32 = 700;
 
-// What a search finds that begins with short ones (restarts, C. Gomes, B. Selman and H. Kautz, 1998): which days are
-// off is decided before anything else. The first that decides gives the answer; where none does, the last search is
-// long.
+// What a search finds that begins with short ones (restarts, C. Gomes, B. Selman and H. Kautz, 1998): most decide which
+// days are off before anything else, and behind these some go by shifts in other orders. The first that decides gives
+// the answer; where none does, the last search is long.
 pub fn search_by_starts<'a, A: Propagator>(
     alloc: Global,
     problem: &Problem,
@@ -80,9 +86,18 @@ fn short_searches<'a, A: Propagator>(
     if problem.cells() > MOST_CELLS || lines < FEWEST_LINES {
         return Ok(None);
     }
-    let starts = (aim.budget / lines).min(problem.days() + 1);
+    let off = (aim.budget / lines).min(problem.days() + 1);
+    let left = aim.budget.saturating_sub(off.saturating_mul(lines));
+    let starts = off.saturating_add((left / FEWEST_LINES).min(SHIFT_STARTS));
     for number in 0..starts {
-        let found = start(alloc, problem, aim, reasons, guide, lines, order_of(number))?;
+        let found = start(
+            alloc,
+            problem,
+            aim,
+            reasons,
+            guide,
+            start_of(number, off, lines),
+        )?;
         if found.is_some() {
             return Ok(found);
         }
@@ -90,25 +105,45 @@ fn short_searches<'a, A: Propagator>(
     Ok(None)
 }
 
-// The order of the start of this number: week by week, and then day by day from each day of the week on.
-fn order_of(number: u32) -> Order {
-    match number {
-        0 => Order::OffByWeeks,
-        _ => Order::OffByDays { later: number - 1 },
-    }
+// A short search: its order, and its most lines.
+#[derive(Clone, Copy)]
+struct ShortSearch {
+    order: Order,
+    lines: u32,
 }
 
-// What a search of this order within so many lines finds, where it decides.
+// The start of this number. The first `off` ones have so many lines: week by week, and then day by day from each day of
+// the week on. Those behind them split on shifts.
+fn start_of(number: u32, off: u32, lines: u32) -> ShortSearch
+    requires { FEWEST_LINES ≤ lines }
+    ensures { (FEWEST_LINES ≤ result.lines) × (result.lines ≤ lines) }
+{
+    if number >= off {
+        return ShortSearch {
+            order: Order::Shifts {
+                later: (number - off).saturating_mul(SHIFT_DAYS),
+                seed: number,
+            },
+            lines: FEWEST_LINES,
+        };
+    }
+    let order = match number {
+        0 => Order::OffByWeeks,
+        _ => Order::OffByDays { later: number - 1 },
+    };
+    ShortSearch { order, lines }
+}
+
+// What this short search finds, where it decides.
 fn start<'a, A: Propagator>(
     alloc: Global,
     problem: &Problem,
     aim: &Aim,
     reasons: &mut A,
     guide: &mut PlannerGuide<'a>,
-    lines: u32,
-    order: Order,
+    start: ShortSearch,
 ) -> Result<Option<Found>, AllocError>
-    requires budget { (1 ≤ lines) × (lines ≤ aim.now.budget) × (lines ≤ GREATEST_BUDGET) }
+    requires budget { (1 ≤ start.lines) × (start.lines ≤ aim.now.budget) × (start.lines ≤ GREATEST_BUDGET) }
     requires opening { OpeningFits problem.now aim.now.opening × IsAllowed problem.now aim.now.opening }
     requires goal { GoalFits problem.now aim.now.opening aim.now.goal }
     requires serves { A.serves reasons.old problem.now }
@@ -122,8 +157,8 @@ fn start<'a, A: Propagator>(
     ensures guide { (P : Instance) (goal : Option ℕ) → ⟦<PlannerGuide<'a> as Guide>⟧.serves guide.old P goal
         ↔ ⟦<PlannerGuide<'a> as Guide>⟧.serves guide.new P goal }
 {
-    guide.take(order);
-    let found = search(alloc, problem, aim.within(lines)?, reasons, guide)?;
+    guide.take(start.order);
+    let found = search(alloc, problem, aim.within(start.lines)?, reasons, guide)?;
     Ok(decided(found))
 }
 

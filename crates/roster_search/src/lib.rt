@@ -17,5 +17,6 @@ pub use aim::Aim;
 pub use ending::gives_cells;
 pub use guide::{Guide, NoGuide};
 pub use laws::{spent_budgets_are_small, trees_have_few_leaves};
+pub use need::Ties;
 pub use order::{NextSplit, chronological, off_or_work_by_day, off_or_work_from};
 pub use searching::search;

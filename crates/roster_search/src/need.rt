@@ -9,9 +9,16 @@ use rwsp_model::Problem;
 use rwsp_terms::Symbol;
 use rwsp_terms::limits::{MOST_CELLS, MOST_DAYS};
 
-/// The symbol of the domain that is needed most on the day of the position, of several the first: the value that a
-/// search tries first. Costs a step for each symbol and week.
-pub fn most_needed(problem: &Problem, domains: &Domains, p: u32) -> Option<Symbol>
+/// Which of several symbols that are needed alike comes first.
+#[derive(Clone, Copy)]
+pub enum Ties {
+    Lowest,
+    Highest,
+}
+
+/// The symbol of the domain that is needed most on the day of the position: the value that a search tries first. Costs a
+/// step for each symbol and week.
+pub fn most_needed(problem: &Problem, domains: &Domains, p: u32, ties: Ties) -> Option<Symbol>
     requires belongs { BelongsTo problem.now domains.now }
     requires position { p < length domains.now.sets }
     ensures { MatchOption result (IsEmpty domains.now p) (λ x. IsTrue (has_domain domains.now p x.number)) }
@@ -22,7 +29,7 @@ pub fn most_needed(problem: &Problem, domains: &Domains, p: u32) -> Option<Symbo
         let x = Symbol { number };
         if domains.has(p, x) {
             let here = need_of(problem, domains, p, x);
-            if is_better(&here, &best) {
+            if is_better(&here, &best, ties) {
                 best = Some(here);
             }
         }
@@ -42,14 +49,16 @@ struct Wanted {
     places: i32,
 }
 
-// Whether the symbol is needed more than the best so far, as fractions.
-fn is_better(here: &Wanted, best: &Option<Wanted>) -> bool
+// Whether the symbol comes before the best so far, which is a lower one: it is needed more, as fractions, or as much
+// where the highest is wanted.
+fn is_better(here: &Wanted, best: &Option<Wanted>, ties: Ties) -> bool
     ensures { best.now ≡ None → IsTrue result }
 {
     match best {
         Some(best) => {
-            i64::from(here.weeks) * i64::from(best.places)
-                > i64::from(best.weeks) * i64::from(here.places)
+            let mine = i64::from(here.weeks) * i64::from(best.places);
+            let other = i64::from(best.weeks) * i64::from(here.places);
+            mine > other || mine == other && matches!(ties, Ties::Highest)
         }
         None => true,
     }

@@ -4,7 +4,7 @@ ghost use Rattle.rwsp_terms.specs.Instance.{IsDay};
 ghost use Rattle.domain_store.specs.Store.{BelongsTo, IsDecided, domain_at, has_domain};
 ghost use Rattle.roster_search.specs.Guides.{IsSplitIn};
 
-use crate::need::most_needed;
+use crate::need::{Ties, most_needed};
 use domain_store::{Domains, position_of};
 use rwsp_model::Problem;
 use rwsp_terms::Symbol;
@@ -21,15 +21,20 @@ pub struct NextSplit {
 ///
 /// It is the first such position, counted from `first` round the cycle, so that the decided positions grow to one
 /// word. There it is the symbol of the greatest need: the weeks that its day still demands, over those that may give
-/// it or not; of several the lowest. A day off is a symbol as the others. Takes a step for each position up to the
-/// one that is found, and for each of its symbols one for each week.
-pub fn chronological(problem: &Problem, domains: &Domains, first: u32) -> Option<NextSplit>
+/// it or not. A day off is a symbol as the others. Takes a step for each position up to the one that is found, and for
+/// each of its symbols one for each week.
+pub fn chronological(
+    problem: &Problem,
+    domains: &Domains,
+    first: u32,
+    ties: Ties,
+) -> Option<NextSplit>
     requires { BelongsTo problem.now domains.now }
     ensures { MatchOption result (IsDecided domains.now) (IsSplitIn domains.now) }
 {
     domains.prove_facts();
     let p = first_open_from(domains, first)?;
-    let x = most_needed(problem, domains, p)?;
+    let x = most_needed(problem, domains, p, ties)?;
     Some(NextSplit { p, x })
 }
 

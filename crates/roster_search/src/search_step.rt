@@ -9,6 +9,7 @@ ghost use Rattle.roster_search.specs.Guides.{IsSplitIn, IsMetRoster, IsOpen, IsS
 ghost use Rattle.roster_search.specs.Written.{IsSearching, HasRoom, IsNextStep};
 
 use crate::decided::met_roster;
+use crate::need::Ties;
 use crate::order::chronological;
 use crate::progress::Progress;
 use crate::sight::{Arrival, Sight, see};
@@ -201,6 +202,6 @@ fn next_split<G: Guide>(problem: &Problem, guide: &mut G, doms: &Domains) -> Opt
 {
     match guide.split(doms) {
         Some(split) => Some(split),
-        None => chronological(problem, doms, 0),
+        None => chronological(problem, doms, 0, Ties::Lowest),
     }
 }

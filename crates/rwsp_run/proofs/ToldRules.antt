@@ -1,5 +1,5 @@
 -- The rules that are told are rules of the log.
-use Rattle.std.proofs.Common.{◌≡◌, ℕ, zero, suc, List, [], ◌∷◌, ◌++◌, length, refl, ap, sym, ◌∙◌, subst, arith, inl, inr, ⊎_elim, Bool, true, false, Option, None}
+use Rattle.std.proofs.Common.{◌≡◌, ℕ, zero, suc, ◌<◌, List, [], ◌∷◌, ◌++◌, length, refl, ap, sym, ◌∙◌, subst, arith, inl, inr, ⊎_elim, Bool, true, false, Option, Some, None}
 use Rattle.std.specs.Prelude.{Contains, reverse, map, nat_lt, if◌then◌else◌}
 use Rattle.std.specs.List.{flat_map}
 use Rattle.std.proofs.lemmas.Grind.{flat_map-append}
@@ -9,7 +9,7 @@ use Rattle.rwsp_terms.specs.Instance.{Instance}
 use Rattle.refutation_terms.specs.declared.lines.Opening.{Opening}
 use Rattle.refutation_terms.specs.Log.{Log}
 use Rattle.refutation_checker.specs.declared.verdict.PassedLog.{PassedLog}
-use Rattle.refutation_terms.specs.Strip.{strip, StripsTo, ReducesIn}
+use Rattle.refutation_terms.specs.Strip.{strip, StripsTo, ReducesIn, IsReduced}
 use Rattle.rule_reducer.proofs.Kept.{was_listed}
 use Rattle.plain_words.specs.declared.reason.Rosters.{Rosters}
 use Rattle.plain_words.specs.declared.reason.Rosters.TheVariants.{Every}
@@ -75,8 +75,8 @@ told_rules_named P g statements k is has =
     let refuted = refuted_statements g in
     either (refuted ++ is.0) (plain MEND_LOOKS.now ∷ []) statements k (Contains g.named k) is.2
     (λ t. either refuted is.0 (refuted ++ is.0) k (Contains g.named k) refl
-    (λ u. absurd (none k [] refl u))
-    (λ u. said_shortly _ P g is.0 k is.1 u) t)
+        (λ u. absurd (none k [] refl u))
+        (λ u. said_shortly _ P g is.0 k is.1 u) t)
     (λ t. absurd (none k [] refl t))
     has
 

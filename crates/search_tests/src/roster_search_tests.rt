@@ -11,7 +11,7 @@ use domain_store::{Domains, Look, Pair, Propagator};
 use propagators::{DayProp, RootBounds, WindowProp};
 use refutation_log::Found;
 use refutation_terms::{Line, Opening};
-use roster_search::{Aim, Guide, NextSplit, NoGuide, chronological, search};
+use roster_search::{Aim, Guide, NextSplit, NoGuide, Ties, chronological, search};
 use rwsp_model::{Problem, Roster};
 use std::alloc::{AllocError, Global};
 use std::test::Fail;
@@ -174,7 +174,7 @@ impl Guide for InOrder {
     }
 
     fn split(&mut self, doms: &Domains) -> Option<NextSplit> {
-        chronological(&self.problem, doms, self.first)
+        chronological(&self.problem, doms, self.first, Ties::Lowest)
     }
 }
 
