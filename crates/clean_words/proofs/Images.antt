@@ -1,18 +1,18 @@
 -- Tables of classes.
-use Rattle.std.proofs.Common.{◌≡◌, ◌⊎◌, ℕ, zero, suc, ◌+◌, ◌<◌, ◌≤◌, List, [], ◌∷◌, length, get_or, map, Option, Some, None, Bool, false, true, eqb, Decides, refl, ap, sym, ◌∙◌, inl, inr, arith}
+use Rattle.std.proofs.Common.{◌≡◌, ◌⊎◌, ℕ, zero, suc, ◌+◌, ◌%◌, ◌<◌, ◌≤◌, List, [], ◌∷◌, length, get_or, map, Option, Some, None, Bool, false, true, eqb, Decides, refl, ap, sym, ◌∙◌, inl, inr, arith}
 use Rattle.std.specs.Prelude.{slice_index}
 use Rattle.std.specs.Option.{option_map, option_eq}
 use Rattle.std.specs.Cmp.Lexicographic.{pointwise}
 use Rattle.std.proofs.Math.Nat.{eq-or-lt_of_le}
-use Rattle.std.proofs.lemmas.List.{ext_get_or, length-map}
+use Rattle.std.proofs.lemmas.List.{ext_get_or, get_or-map, length-map}
 use Rattle.std.proofs.lemmas.Slice.Eq.{slice_eq-Decides}
-use Rattle.std.proofs.Math.Bool.{not, beq}
 use Rattle.std.proofs.lemmas.Bool.Decides.{Decides-eqb}
+use Rattle.std.proofs.lemmas.Nat.{mod_below}
 use Rattle.std.proofs.lemmas.Option.{same_Some}
 use Rattle.rwsp_terms.specs.declared.data.Symbol.{Symbol}
 use Rattle.rwsp_terms.specs.Instance.{Instance, shift_count}
-use Rattle.clean_words.specs.Moves.{Moves, move_at, lead}
-use Rattle.clean_words.specs.Tables.{IsReader, IsKept, HasStates}
+use Rattle.clean_words.specs.Moves.{Moves, move_at, lead, start_at}
+use Rattle.clean_words.specs.Tables.{IsTable, IsReader, TellsAs, IsKept, HasStates}
 use Rattle.clean_words.specs.declared.table.Table.{Table}
 use Rattle.clean_words.proofs.Leading.{lead_nowhere, lead_inside, moves_from}
 
@@ -22,11 +22,11 @@ get_or_mapped f (m ∷ row) zero = refl
 get_or_mapped f (m ∷ row) (suc x) = get_or_mapped f row x
 
 -- the state that a class is mapped from
-mapped_from : (f : ℕ → ℕ) (m : Option ℕ) (t : ℕ) → option_map f m ≡ Some t → (s : ℕ) × (m ≡ Some s) × (t ≡ f s)
+pub mapped_from : (f : ℕ → ℕ) (m : Option ℕ) (t : ℕ) → option_map f m ≡ Some t → (s : ℕ) × (m ≡ Some s) × (t ≡ f s)
 mapped_from f None t h = absurd (cc)
 mapped_from f (Some s) t h = (s, refl, cc)
 
-abbrev AreKept : Table → Table → List ℕ → Type 0
+abbrev pub AreKept : Table → Table → List ℕ → Type 0
 AreKept table small classes = (k : ℕ) → k < length table.moves.items → IsKept table small classes k
 
 abbrev class_at : List ℕ → ℕ → ℕ
@@ -48,38 +48,72 @@ lead_image table small classes kept inside (x ∷ u) s lt =
     ap (λ o. lead small.moves.items o u) (move_image table small classes s x.number (kept s lt))
     ∙ image_by table.moves.items small.moves.items classes u (move_at table.moves.items s x.number) (inside s x.number) (λ n less. lead_image table small classes kept inside u n less)
 
--- the table of the classes reads what the table reads
-pub reader_image : (P : Instance) (R : List ℕ) (table small : Table) (classes : List ℕ) → IsReader P R table.moves.items table.offs.items → length small.offs.items ≡ length small.moves.items → length small.moves.items ≤ length table.moves.items → HasStates classes (length table.moves.items) (length small.moves.items) → slice_index classes 0 ≡ 0 → AreKept table small classes → IsReader P R small.moves.items small.offs.items
-reader_image P R table small classes r long few states start kept = record {
-  some = (let k : slice_index classes 0 < length small.moves.items = (kept 0 r.some).known in omega arith);
-  few = omega (arith, r.few);
-  long = long;
+-- where words begin
+start_image : (classes starts : List ℕ) (p : ℕ) → 0 < length starts → start_at (map (slice_index classes) starts) p ≡ class_at classes (start_at starts p)
+start_image classes starts p some =
+    let long = length-map starts (slice_index classes) in
+    let lt : p % length starts < length starts = mod_below p (length starts) some in
+    ap (λ n. slice_index (map (slice_index classes) starts) (p % n)) long ∙ get_or-map (slice_index classes) starts (p % length starts) 0 0 lt
+
+-- a table with a state for each class
+pub record IsImage (table small : Table) (classes : List ℕ) : Type 0 where
+  starts : small.starts.items ≡ map (slice_index classes) table.starts.items
+  long : length small.told.items ≡ length small.moves.items
+  few : length small.moves.items ≤ length table.moves.items
+  states : HasStates classes (length table.moves.items) (length small.moves.items)
+  kept : AreKept table small classes
+
+pub image_by_parts : (table small : Table) (classes : List ℕ) → small.starts.items ≡ map (slice_index classes) table.starts.items → length small.told.items ≡ length small.moves.items → length small.moves.items ≤ length table.moves.items → HasStates classes (length table.moves.items) (length small.moves.items) → ((k : ℕ) → k < length table.moves.items → IsKept table small classes k) → IsImage table small classes
+image_by_parts table small classes starts long few states kept = record { starts = starts; long = long; few = few; states = states; kept = kept }
+
+-- it tells of each word what the table tells
+tells_as : (P : Instance) (table small : Table) (classes : List ℕ) → 0 < P.days → IsTable P table → IsImage table small classes → TellsAs table small
+tells_as P table small classes days is image p w =
+    let inside : (s x t : ℕ) → move_at table.moves.items s x ≡ Some t → t < length table.moves.items = λ s x t h. (is.inside s x t h).1 in
+    let some : 0 < length table.starts.items = let long = is.days in omega (arith, long, days) in
+    let start : start_at small.starts.items p ≡ class_at classes (start_at table.starts.items p) = ap (λ ns. start_at ns p) image.starts ∙ start_image classes table.starts.items p some in
+    ap (λ s. option_map (slice_index small.told.items) (lead small.moves.items (Some s) w)) start
+    ∙ ap (option_map (slice_index small.told.items)) (lead_image table small classes image.kept inside w (start_at table.starts.items p) (is.begins p))
+    ∙ told_kept (lead table.moves.items (Some (start_at table.starts.items p)) w) (λ t e. lead_inside table.moves.items inside w (start_at table.starts.items p) t (is.begins p) e)
+  where
+    told_kept : (o : Option ℕ) → ((t : ℕ) → o ≡ Some t → t < length table.moves.items) → option_map (slice_index small.told.items) (option_map (slice_index classes) o) ≡ option_map (slice_index table.told.items) o
+    told_kept None inside = refl
+    told_kept (Some t) inside = ap Some (image.kept t (inside t refl)).told
+
+image_is_table : (P : Instance) (table small : Table) (classes : List ℕ) → 0 < P.days → IsTable P table → IsImage table small classes → IsTable P small
+image_is_table P table small classes days is image = record {
+  days = ap length image.starts ∙ length-map table.starts.items (slice_index classes) ∙ is.days;
+  few = (let few = is.few in let fewer = image.few in omega (arith, few, fewer));
+  long = image.long;
+  begins = λ p.
+      let some : 0 < length table.starts.items = let long = is.days in omega (arith, long, days) in
+      let start : start_at small.starts.items p ≡ class_at classes (start_at table.starts.items p) = ap (λ ns. start_at ns p) image.starts ∙ start_image classes table.starts.items p some in
+      let known = (image.kept (start_at table.starts.items p) (is.begins p)).known in
+      omega (arith, start, known);
   inside = inside;
-  clean = λ w has clean. let l = r.clean w has clean in (class_at classes l.0, leads w ∙ ap (option_map (slice_index classes)) l.1);
-  reads = λ w t h. let f = from w t h in r.reads w f.0 f.1;
-  off = λ w t h.
-      let f = from w t h in
-      let lt = lead_inside table.moves.items inside_all w 0 f.0 r.some f.1 in
-      ap (λ i. get_or small.offs.items i false) f.2 ∙ (kept f.0 lt).off ∙ r.off w f.0 f.1;
 }
   where
-    inside_all : (s x t : ℕ) → move_at table.moves.items s x ≡ Some t → t < length table.moves.items
-    inside_all s x t h = (r.inside s x t h).1
-
-    leads : (w : List Symbol) → lead small.moves.items (Some 0) w ≡ option_map (slice_index classes) (lead table.moves.items (Some 0) w)
-    leads w = ap (λ i. lead small.moves.items (Some i) w) (sym start) ∙ lead_image table small classes kept inside_all w 0 r.some
-
-    from : (w : List Symbol) (t : ℕ) → lead small.moves.items (Some 0) w ≡ Some t → (s : ℕ) × (lead table.moves.items (Some 0) w ≡ Some s) × (t ≡ class_at classes s)
-    from w t h = mapped_from (slice_index classes) (lead table.moves.items (Some 0) w) t (sym (leads w) ∙ h)
-
     inside : (s x t : ℕ) → move_at small.moves.items s x ≡ Some t → (x ≤ shift_count P) × (t < length small.moves.items)
     inside s x t h =
-        let k = states s (moves_from small.moves.items s x t h) in
-        let image : option_map (slice_index classes) (move_at table.moves.items k.0 x) ≡ Some t = sym (move_image table small classes k.0 x (kept k.0 k.1)) ∙ ap (λ i. move_at small.moves.items i x) k.2 ∙ h in
-        let f = mapped_from (slice_index classes) (move_at table.moves.items k.0 x) t image in
-        let i = r.inside k.0 x f.0 f.1 in
-        let known : class_at classes f.0 < length small.moves.items = (kept f.0 i.1).known in
+        let k = image.states s (moves_from small.moves.items s x t h) in
+        let there : option_map (slice_index classes) (move_at table.moves.items k.0 x) ≡ Some t = sym (move_image table small classes k.0 x (image.kept k.0 k.1)) ∙ ap (λ i. move_at small.moves.items i x) k.2 ∙ h in
+        let f = mapped_from (slice_index classes) (move_at table.moves.items k.0 x) t there in
+        let i = is.inside k.0 x f.0 f.1 in
+        let known : class_at classes f.0 < length small.moves.items = (image.kept f.0 i.1).known in
         (i.0, rw f.2 known)
+
+-- so it reads what the table reads
+pub reader_image : (P : Instance) (R : List ℕ) (table small : Table) (classes : List ℕ) → 0 < P.days → IsReader P R table → IsImage table small classes → slice_index classes 0 ≡ 0 → IsReader P R small
+reader_image P R table small classes days r image first =
+    let same = tells_as P table small classes days r.table image in
+    let some : 0 < length table.starts.items = let long = r.table.days in omega (arith, long, days) in
+    record {
+      table = image_is_table P table small classes days r.table image;
+      first = ap (λ ns. start_at ns 0) image.starts ∙ start_image classes table.starts.items 0 some ∙ ap (slice_index classes) r.first ∙ first;
+      clean = λ p w has clean. let c = r.clean p w has clean in (c.0, same p w ∙ c.1);
+      reads = λ p w n h. r.reads p w n (sym (same p w) ∙ h);
+      off = λ p w n h. r.off p w n (sym (same p w) ∙ h);
+    }
 
 -- a row that has the image of each move
 pub image_whole : (f : ℕ → ℕ) (row image : List (Option ℕ)) → length image ≡ length row → ((k : ℕ) → k < length row → get_or image k None ≡ option_map f (get_or row k None)) → image ≡ map (option_map f) row
@@ -96,17 +130,11 @@ moves_same (Some a) (Some b) =
     let d = Decides-eqb a b in
     (λ h. ap (λ (i : ℕ). Some i) (d.0 h), λ h. d.1 (same_Some a b h))
 
-pub not_differ : (a b : Bool) → not (beq a b) ≡ false → a ≡ b
-not_differ true true h = refl
-not_differ false false h = refl
-not_differ true false h = absurd (cc)
-not_differ false true h = absurd (cc)
-
 -- the class is like the state, where the rows are equal
-pub kept_by : (table small : Table) (classes : List ℕ) (state class : ℕ) (row small_row : List (Option ℕ)) (off small_off b : Bool) → class ≡ slice_index classes state → class < length small.moves.items → small_row ≡ get_or small.moves.items class [] → row ≡ get_or table.moves.items state [] → small_off ≡ get_or small.offs.items class false → off ≡ get_or table.offs.items state false → small_off ≡ off → b ≡ pointwise (option_eq eqb) small_row (map (option_map (slice_index classes)) row) → b ≡ true → IsKept table small classes state
-kept_by table small classes state class row small_row off small_off b class_is lt small_row_is row_is small_off_is off_is same_off equal holds = record {
+pub kept_by : (table small : Table) (classes : List ℕ) (state class : ℕ) (row small_row : List (Option ℕ)) (told small_told : ℕ) (b : Bool) → class ≡ slice_index classes state → class < length small.moves.items → small_row ≡ get_or small.moves.items class [] → row ≡ get_or table.moves.items state [] → small_told ≡ slice_index small.told.items class → told ≡ slice_index table.told.items state → small_told ≡ told → b ≡ pointwise (option_eq eqb) small_row (map (option_map (slice_index classes)) row) → b ≡ true → IsKept table small classes state
+kept_by table small classes state class row small_row told small_told b class_is lt small_row_is row_is small_told_is told_is same_told equal holds = record {
   known = rw (← class_is) lt;
-  off = ap (λ i. get_or small.offs.items i false) (sym class_is) ∙ sym small_off_is ∙ same_off ∙ off_is;
+  told = ap (slice_index small.told.items) (sym class_is) ∙ sym small_told_is ∙ same_told ∙ told_is;
   row = ap (λ i. get_or small.moves.items i []) (sym class_is) ∙ sym small_row_is ∙ (slice_eq-Decides moves_same small_row (map (option_map (slice_index classes)) row) b equal).0 holds ∙ ap (λ (r : List (Option ℕ)). map (option_map (slice_index classes)) r) row_is;
 }
 

@@ -23,7 +23,7 @@ heavy_same P D p len R W V u same h = record { clean = h.clean; heaviest = λ v 
 
 -- words that weigh this, and a total of one turn
 said : (P : Instance) (D : Domains) (p len turns : ℕ) (R : List ℕ) (W V : List Symbol → ℤ) (least sum : ℤ) (found : Option HeavyWord) → IsSame W V → len ≡ turns * cells P → least ≡ pos turns *ℤ sum → IsHeaviestFound P D p len R W least found
-    → MatchOption found ((u : List Symbol) → length u ≡ turns * cells P → Over P D p u → Clean P R u → V u <ℤ (pos turns *ℤ sum)) (λ h. IsLeastHeaviestBy P D p (turns * cells P) R V h.word × ((pos turns *ℤ sum) ≤ℤ V h.word))
+    → MatchOption found ((u : List Symbol) → length u ≡ turns * cells P → Over P D p u → Clean P R p u → V u <ℤ (pos turns *ℤ sum)) (λ h. IsLeastHeaviestBy P D p (turns * cells P) R V h.word × ((pos turns *ℤ sum) ≤ℤ V h.word))
 said P D p len turns R W V least sum None same size is light = λ u long over clean. omega (arith, ints, is, same u, light u (record { long = long ∙ sym size; over = over; clean = clean }))
 said P D p len turns R W V least sum (Some h) same size is heavy =
     let L : ℕ → Type 0 = λ n. IsLeastHeaviestBy P D p n R V h.word in

@@ -10,7 +10,7 @@ use Rattle.clean_words.specs.Moves.{Moves, move_at, after, lead, off_behind}
 use Rattle.clean_words.specs.Automata.{HasSymbolsOf}
 use Rattle.clean_words.specs.Courses.{gained, Course, IsOf, word_gain, IsNoWorse, IsBestOf, AreBelow}
 use Rattle.clean_words.specs.Rows.{Row, gain_at}
-use Rattle.clean_words.specs.Trellis.{Trellis, gain_from, Leads, IsGreatest, IsBest, IsRow}
+use Rattle.clean_words.specs.Trellis.{Trellis, start_of, gain_from, Leads, IsGreatest, IsBest, IsRow}
 use Rattle.clean_words.proofs.Steps.{IsReader, leads_to_end}
 
 lead_push : (moves : Moves) (s : Option ℕ) (w : List Symbol) (x : Symbol) → lead moves s (w ++ x ∷ []) ≡ after moves (lead moves s w) x
@@ -29,22 +29,22 @@ off_push off (y ∷ w) x = off_push (y.number == 0) w x
 record IsReached (T : Trellis) (day state : ℕ) (off : Bool) : Type 0 where
   word : List Symbol
   long : length word ≡ day
-  leads : lead T.automaton.moves (Some 0) word ≡ Some state
+  leads : lead T.automaton.moves (Some (start_of T)) word ≡ Some state
   ends : off_behind false word ≡ off
 
-reached_none : (T : Trellis) → IsReached T 0 0 false
+reached_none : (T : Trellis) → IsReached T 0 (start_of T) false
 reached_none T = record { word = []; long = refl; leads = refl; ends = refl }
 
 reached_more : (T : Trellis) (day state : ℕ) (off : Bool) → IsReached T day state off → (x : Symbol) (to : ℕ) → move_at T.automaton.moves state x.number ≡ Some to → IsReached T (day + 1) to (x.number == 0)
 reached_more T day state off r x to move = record {
   word = r.word ++ x ∷ [];
   long = (let long = r.long in omega (arith, length-append r.word (x ∷ [])));
-  leads = lead_push T.automaton.moves (Some 0) r.word x ∙ ap (λ (s : Option ℕ). after T.automaton.moves s x) r.leads ∙ move;
+  leads = lead_push T.automaton.moves (Some (start_of T)) r.word x ∙ ap (λ (s : Option ℕ). after T.automaton.moves s x) r.leads ∙ move;
   ends = off_push false r.word x;
 }
 
 off_is : (T : Trellis) (day state : ℕ) (off : Bool) → IsReader T → IsReached T day state off → slice_index_or T.automaton.offs state false ≡ off
-off_is T day state off reader r = reader.automaton.off r.word state r.leads ∙ r.ends
+off_is T day state off reader r = reader.automaton.off T.position r.word state r.leads ∙ r.ends
 
 inside_at : (T : Trellis) (n m : ℕ) (x : Symbol) → n ≡ m → IsTrue (T.domains (n % cells T.automaton.problem) x.number) → IsTrue (T.domains (m % cells T.automaton.problem) x.number)
 inside_at T n m x e h = subst (λ (k : ℕ). IsTrue (T.domains (k % cells T.automaton.problem) x.number)) e h
@@ -98,23 +98,23 @@ course_of T = record {
 }
 
 -- a clean word leads through
-pub leads_clean : (T : Trellis) → IsReader T → (u : List Symbol) → IsOf (course_of T) T.days u → Leads T 0 0 u (word_gain (course_of T) u)
+pub leads_clean : (T : Trellis) → IsReader T → (u : List Symbol) → IsOf (course_of T) T.days u → Leads T 0 (start_of T) u (word_gain (course_of T) u)
 leads_clean T reader u h =
-    let goes = reader.automaton.clean u (symbols_of T reader u T.position h.over) h.clean in
-    leads_of T reader u 0 0 goes.0 T.position false (reached_none T) goes.1 (omega arith) h.over (omega (arith, h.long))
+    let goes = reader.automaton.clean T.position u (symbols_of T reader u T.position h.over) h.clean in
+    leads_of T reader u 0 (start_of T) goes.0 T.position false (reached_none T) goes.1 (omega arith) h.over (omega (arith, h.long))
 
 -- a word that leads through is clean
-pub clean_leads : (T : Trellis) → IsReader T → (u : List Symbol) (w : ℤ) → Leads T 0 0 u w → IsOf (course_of T) T.days u × (w ≡ word_gain (course_of T) u)
+pub clean_leads : (T : Trellis) → IsReader T → (u : List Symbol) (w : ℤ) → Leads T 0 (start_of T) u w → IsOf (course_of T) T.days u × (w ≡ word_gain (course_of T) u)
 clean_leads T reader u w leads =
-    let read = read_of T reader u 0 0 T.position false w (reached_none T) (omega arith) leads in (
-      record { long = omega (arith, leads_to_end T u 0 0 w leads); over = read.over; clean = reader.automaton.reads u read.goes.0 read.goes.1 },
+    let read = read_of T reader u 0 (start_of T) T.position false w (reached_none T) (omega arith) leads in (
+      record { long = omega (arith, leads_to_end T u 0 (start_of T) w leads); over = read.over; clean = reader.automaton.reads T.position u read.goes.0 read.goes.1 },
       read.weighs,
     )
 
-pub greatest_at : (T : Trellis) (row : Row) (o : Option ℤ) → IsReader T → IsRow T 0 row → o ≡ gain_at row 0 → IsGreatest T 0 0 o
-greatest_at T row o reader is_row here = subst (IsGreatest T 0 0) (sym here) (is_row.greatest 0 reader.automaton.some)
+pub greatest_at : (T : Trellis) (row : Row) (o : Option ℤ) → IsReader T → IsRow T 0 row → o ≡ gain_at row (start_of T) → IsGreatest T 0 (start_of T) o
+greatest_at T row o reader is_row here = subst (IsGreatest T 0 (start_of T)) (sym here) (is_row.greatest (start_of T) (reader.automaton.begins T.position))
 
-pub best_found : (T : Trellis) → IsReader T → (u : List Symbol) (w : ℤ) → IsBest T 0 0 u w → IsBestOf (course_of T) T.days w u
+pub best_found : (T : Trellis) → IsReader T → (u : List Symbol) (w : ℤ) → IsBest T 0 (start_of T) u w → IsBestOf (course_of T) T.days w u
 best_found T reader u w best =
     let clean = clean_leads T reader u w best.leads in
     record { clean = clean.0; gains = sym clean.1; best = λ v other. no_worse v clean.1 (best.others v _ (leads_clean T reader v other)) }
@@ -126,6 +126,6 @@ best_found T reader u w best =
     no_worse v is (inl lt) = inl (omega (arith, ints, lt, is))
     no_worse v is (inr same) = inr (same.0 ∙ is, same.1)
 
-pub below_found : (T : Trellis) → IsReader T → (o : Option ℤ) (least : ℤ) → IsGreatest T 0 0 o → IfSome o (λ w. w <ℤ least) → AreBelow (course_of T) T.days least
+pub below_found : (T : Trellis) → IsReader T → (o : Option ℤ) (least : ℤ) → IsGreatest T 0 (start_of T) o → IfSome o (λ w. w <ℤ least) → AreBelow (course_of T) T.days least
 below_found T reader None least none below = λ u clean. absurd (none u _ (leads_clean T reader u clean))
 below_found T reader (Some w) least greatest below = λ u clean. omega (arith, ints, below, greatest.1 u _ (leads_clean T reader u clean))

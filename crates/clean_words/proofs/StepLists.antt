@@ -8,10 +8,10 @@ use Rattle.std.proofs.lemmas.List.Elements.{Contains-append_cases, Contains-appe
 use Rattle.std.proofs.lemmas.List.Quantifiers.{all_pairs_push}
 use Rattle.rwsp_terms.specs.declared.data.Symbol.{Symbol}
 use Rattle.rwsp_terms.specs.declared.limits.TheConstants.{MOST_SYMBOLS}
-use Rattle.rwsp_terms.specs.Instance.{Instance, symbol_numbered}
+use Rattle.rwsp_terms.specs.Instance.{symbol_numbered}
 use Rattle.clean_words.specs.Moves.{Moves, move_at}
-use Rattle.clean_words.specs.Automata.{StepBefore, IsAutomaton}
-use Rattle.clean_words.specs.Tables.{IsReader, ComesBefore, AreStepsBefore}
+use Rattle.clean_words.specs.Automata.{StepBefore}
+use Rattle.clean_words.specs.Tables.{ComesBefore, AreStepsBefore}
 use Rattle.clean_words.specs.declared.step.Step.{Step}
 use Rattle.clean_words.proofs.Leading.{moves_from}
 
@@ -120,24 +120,3 @@ steps_next moves steps state symbols long a = record {
 pub steps_all : (moves : Moves) (steps : List Step) (states : ℕ) → states ≡ length moves → AreStepsBefore moves steps states 0 → (s : ℕ) (x : Symbol) (t : ℕ) → Contains steps (record { from = s; symbol = x; to = t }) ↔ (move_at moves s x.number ≡ Some t)
 steps_all moves steps states long a s x t =
     (λ h. (a.before (record { from = s; symbol = x; to = t }) h).1, λ h. a.all s x t (inl (omega (arith, moves_from moves s x.number t h, long))) h)
-
--- a table and its steps make an automaton
-pub automaton_by : (P P' P'' : Instance) (R R' R'' : List ℕ) (moves moves' : Moves) (offs : List Bool) (steps : List Step) → P' ≡ P → P'' ≡ P → R' ≡ R → R'' ≡ R → IsReader P' R' moves offs → moves' ≡ moves → length steps ≤ MOST_SYMBOLS * length moves' → AllPairs StepBefore steps → ((s : ℕ) (x : Symbol) (t : ℕ) → Contains steps (record { from = s; symbol = x; to = t }) ↔ (move_at moves' s x.number ≡ Some t)) → IsAutomaton (record { problem = P''; rules = R''; moves = moves; offs = offs; steps = steps })
-automaton_by P P' P'' R R' R'' moves moves' offs steps p p' r r' reader m few ordered stepped =
-    let problem : P' ≡ P'' = p ∙ sym p' in
-    let rules : R' ≡ R'' = r ∙ sym r' in
-    whole (subst (λ (Q : Instance). IsReader Q R'' moves offs) problem (subst (λ (S : List ℕ). IsReader P' S moves offs) rules reader))
-  where
-    whole : IsReader P'' R'' moves offs → IsAutomaton (record { problem = P''; rules = R''; moves = moves; offs = offs; steps = steps })
-    whole a = record {
-      some = a.some;
-      few = omega (arith, a.few);
-      few_steps = omega (arith, few, ap length m, a.few);
-      offs = a.long;
-      inside = a.inside;
-      clean = a.clean;
-      reads = a.reads;
-      off = a.off;
-      ordered = ordered;
-      stepped = λ s x t. subst (λ (n : Moves). Contains steps (record { from = s; symbol = x; to = t }) ↔ (move_at n s x.number ≡ Some t)) m (stepped s x t);
-    }

@@ -5,7 +5,7 @@ use Rattle.rwsp_terms.specs.declared.data.Symbol.{Symbol}
 use Rattle.clean_words.specs.declared.kept_rows.TheConstants.{STRIDE}
 use Rattle.clean_words.specs.declared.choice.Choice.{Choice}
 use Rattle.clean_words.specs.Rows.{Row}
-use Rattle.clean_words.specs.Trellis.{Trellis, Leads, IsBest, IsRow, AreRows}
+use Rattle.clean_words.specs.Trellis.{Trellis, start_of, Leads, IsBest, IsRow, AreRows}
 use Rattle.clean_words.specs.Choices.{IsChosen}
 use Rattle.clean_words.specs.Kept.{AreKept, IsOnBest}
 use Rattle.clean_words.proofs.Steps.{IsReader, IsPlace, offers, greatest_of, best_of, some_behind, at_end}
@@ -13,8 +13,8 @@ use Rattle.clean_words.proofs.Steps.{IsReader, IsPlace, offers, greatest_of, bes
 long_push : (symbols : List Symbol) (x : Symbol) → length symbols + 1 ≡ length (symbols ++ x ∷ [])
 long_push symbols x = omega (arith, length-append symbols (x ∷ []))
 
-pub on_start : (T : Trellis) → IsReader T → ((u : List Symbol) × (w : ℤ) × Leads T 0 0 u w) → IsOnBest T [] 0
-on_start T reader some = record { state_in = reader.automaton.some; some = some; completes = λ u w best. (w, best) }
+pub on_start : (T : Trellis) → IsReader T → ((u : List Symbol) × (w : ℤ) × Leads T 0 (start_of T) u w) → IsOnBest T [] (start_of T)
+on_start T reader some = record { state_in = reader.automaton.begins T.position; some = some; completes = λ u w best. (w, best) }
 
 pub on_more : (T : Trellis) (symbols : List Symbol) (state : ℕ) (gains next : Row) (c : Choice) → IsPlace T (length symbols) state gains next → IsChosen (offers T state gains next) (length gains) (Some c) → IsOnBest T symbols state → IsOnBest T (symbols ++ c.symbol ∷ []) c.to
 on_more T symbols state gains next c p chosen on = record { state_in = behind.0; some = subst (λ (n : ℕ). (u : List Symbol) × (w : ℤ) × Leads T n c.to u w) long behind.1; completes = completes }
@@ -25,7 +25,7 @@ on_more T symbols state gains next c p chosen on = record { state_in = behind.0;
     behind : (c.to < length T.automaton.moves) × ((u : List Symbol) × (w : ℤ) × Leads T (length symbols + 1) c.to u w)
     behind = some_behind T (length symbols) state gains next p c chosen
 
-    completes : (u : List Symbol) (w : ℤ) → IsBest T (length (symbols ++ c.symbol ∷ [])) c.to u w → (v : ℤ) × IsBest T 0 0 ((symbols ++ c.symbol ∷ []) ++ u) v
+    completes : (u : List Symbol) (w : ℤ) → IsBest T (length (symbols ++ c.symbol ∷ [])) c.to u w → (v : ℤ) × IsBest T 0 (start_of T) ((symbols ++ c.symbol ∷ []) ++ u) v
     completes u w best =
         let here : IsBest T (length symbols + 1) c.to u w = subst (λ (n : ℕ). IsBest T n c.to u w) (sym long) best in
         let all = on.completes (c.symbol ∷ u) c.weight (best_of T (length symbols) state gains next p c chosen u w here) in
@@ -35,7 +35,7 @@ on_more T symbols state gains next c p chosen on = record { state_in = behind.0;
 pub on_none : (T : Trellis) (symbols : List Symbol) (state : ℕ) (gains next : Row) → IsPlace T (length symbols) state gains next → IsChosen (offers T state gains next) (length gains) None → IsOnBest T symbols state → ⊥
 on_none T symbols state gains next p chosen on = greatest_of T (length symbols) state gains next p None chosen on.some.0 on.some.1 on.some.2
 
-pub on_end : (T : Trellis) (symbols : List Symbol) (state : ℕ) → IsOnBest T symbols state → length symbols ≡ T.days → (w : ℤ) × IsBest T 0 0 symbols w
+pub on_end : (T : Trellis) (symbols : List Symbol) (state : ℕ) → IsOnBest T symbols state → length symbols ≡ T.days → (w : ℤ) × IsBest T 0 (start_of T) symbols w
 on_end T symbols state on end =
     let all = on.completes [] (pos 0) (at_end T (length symbols) state end) in
     (all.0, rw append-nil at all.1)

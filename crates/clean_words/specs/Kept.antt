@@ -3,7 +3,7 @@ use Rattle.std.specs.Prelude.{◌≡◌, ℕ, ◌+◌, ◌-◌, ◌*◌, ◌/◌
 use Rattle.rwsp_terms.specs.declared.data.Symbol.{Symbol}
 use Rattle.clean_words.specs.declared.kept_rows.TheConstants.{STRIDE}
 use Rattle.clean_words.specs.Rows.{Row}
-use Rattle.clean_words.specs.Trellis.{Trellis, IsRow, Leads, IsBest}
+use Rattle.clean_words.specs.Trellis.{Trellis, start_of, IsRow, Leads, IsBest}
 
 -- the rows with 0, 128, 256, .. days behind them, of those with fewer than this
 abbrev pub AreKept : Trellis → ℕ → List Row → Type 0
@@ -17,4 +17,4 @@ pub record IsOnBest (T : Trellis) (symbols : List Symbol) (state : ℕ) : Type 0
   pub state_in : state < length T.automaton.moves
   pub some : (u : List Symbol) × (w : ℤ) × Leads T (length symbols) state u w
   pub completes :
-      (u : List Symbol) (w : ℤ) → IsBest T (length symbols) state u w → (v : ℤ) × IsBest T 0 0 (symbols ++ u) v
+      (u : List Symbol) (w : ℤ) → IsBest T (length symbols) state u w → (v : ℤ) × IsBest T 0 (start_of T) (symbols ++ u) v

@@ -4,14 +4,8 @@ pub mod Rows
 pub mod Trellis
 pub mod Choices
 pub mod Kept
-pub mod Tails
-pub mod Ends
-pub mod TailTables
-pub mod Listed
 pub mod Moves
 pub mod Automata
-pub mod States
-pub mod TailCodes
 pub mod Tables
 pub mod Days
 pub mod Heaviest
@@ -21,3 +15,7 @@ pub mod WeightTables
 pub mod Gains
 pub mod Claims
 pub mod Hull
+pub mod Blocks
+pub mod Sequences
+pub mod Monitors
+pub mod Joint

@@ -1,5 +1,5 @@
 -- Moves between states by symbols.
-use Rattle.std.specs.Prelude.{ℕ, List, [], ◌∷◌, Option, Some, None, Bool, ◌==◌, slice_index_or}
+use Rattle.std.specs.Prelude.{ℕ, ◌%◌, List, [], ◌∷◌, length, Option, Some, None, Bool, ◌==◌, slice_index, slice_index_or}
 use Rattle.rwsp_terms.specs.declared.data.Symbol.{Symbol}
 
 -- for each state, by the number of the symbol, the state that follows
@@ -9,6 +9,10 @@ Moves = List (List (Option ℕ))
 -- the state that follows by the symbol of a number, if any
 abbrev pub move_at : Moves → ℕ → ℕ → Option ℕ
 move_at moves state number = slice_index_or (slice_index_or moves state []) number None
+
+-- the state where words from a position on begin, by the day of the week
+abbrev pub start_at : List ℕ → ℕ → ℕ
+start_at starts p = slice_index starts (p % length starts)
 
 abbrev pub after : Moves → Option ℕ → Symbol → Option ℕ
 after moves None x = None

@@ -8,7 +8,7 @@ use Rattle.refutation_terms.specs.Word.{Domains}
 use Rattle.refutation_terms.specs.Escape.{ComesFirst}
 use Rattle.domain_store.specs.Store.{has_domain}
 use Rattle.clean_words.specs.Moves.{move_at}
-use Rattle.clean_words.specs.Automata.{RuleAutomaton, IsAutomaton}
+use Rattle.clean_words.specs.Automata.{RuleAutomaton, IsAutomaton, begin_at}
 use Rattle.clean_words.specs.declared.words.CleanWords.{CleanWords}
 use Rattle.clean_words.specs.Rows.{Row, gain_at, AreWithin}
 
@@ -37,6 +37,10 @@ pub record AreFacts (words : CleanWords) : Type 0 where
   pub few_cells : cells words.automaton.now.problem ≤ MOST_CELLS
   pub symbols :
       (q x : ℕ) → IsTrue (has_domain words.domains.now q x) → x ≤ shift_count words.automaton.now.problem
+
+-- the state where the words begin
+abbrev pub start_of : Trellis → ℕ
+start_of T = begin_at T.automaton T.position
 
 -- the position of a day
 abbrev pub place_of : Trellis → ℕ → ℕ

@@ -1,5 +1,5 @@
 // The automaton of a list of short rules.
-ghost use Rattle.std.specs.Prelude.{◌≡◌, ◌*◌, ◌<◌, ◌≤◌, length, slice_index_or, false, IfOk};
+ghost use Rattle.std.specs.Prelude.{◌≡◌, ◌*◌, ◌<◌, ◌≤◌, ◌==◌, length, map, slice_index_or, false, IfOk};
 ghost use Rattle.rwsp_terms.specs.Rules.{NamesShortOnly, NamesShortRules};
 ghost use Rattle.rwsp_terms.specs.declared.limits.TheConstants.{MOST_CELLS, MOST_SYMBOLS, MOST_WEEKS};
 ghost use Rattle.refutation_terms.specs.Ranges.{AreRules};
@@ -7,31 +7,23 @@ ghost use Rattle.clean_words.specs.Tables.{IsReader};
 
 use crate::classes::classes_of;
 use crate::image::merged;
-use crate::states::States;
+use crate::rule_table::rule_table;
 use crate::step_list::steps_of;
 use crate::table::{Row, Table};
-use crate::{Step, TailRules};
+use crate::{Step, Told};
 use rwsp_model::{Problem, short_rules};
 use rwsp_terms::limits::MOST_SYMBOLS;
 use rwsp_terms::{RuleList, Symbol};
 use std::alloc::{AllocError, Global};
 use std::marker::Model;
 
-/// What a state tells of the words that lead to it, at least.
-#[derive(Clone, Copy)]
-pub enum Told {
-    /// Whether their last symbol is the day off.
-    DayOff,
-    /// Their last symbol.
-    LastSymbol,
-}
-
-/// The automaton of a list of short rules of a problem. State 0 is that of the empty word; words that lead to one state
-/// continue together. The number of states doesn't grow with the weeks.
+/// The automaton of a list of short rules of a problem. It reads words from each day of the week on; words that lead to
+/// one state continue together. The number of states doesn't grow with the weeks.
 #[derive(Drop)]
 pub struct Automaton {
     problem: Problem,
     list: RuleList,
+    starts: Vec<u32>,
     moves: Vec<Row>,
     offs: Vec<bool>,
     steps: Vec<Step>,
@@ -45,6 +37,7 @@ impl Model for Automaton {
     ghost view = { λ a. record {
       problem = a.problem;
       rules = a.list;
+      starts = a.starts.items;
       moves = a.moves.items;
       offs = a.offs.items;
       steps = a.steps.items;
@@ -54,6 +47,7 @@ impl Model for Automaton {
         (record {
           problem = a.problem;
           rules = a.list;
+          starts = a.starts.items;
           moves = a.moves.items;
           offs = a.offs.items;
           steps = a.steps.items;
@@ -62,7 +56,7 @@ impl Model for Automaton {
 
 impl Automaton {
     ghost use Rattle.clean_words.specs.Moves.{move_at};
-    ghost use Rattle.clean_words.specs.Automata.{IsAutomaton};
+    ghost use Rattle.clean_words.specs.Automata.{IsAutomaton, begin_at};
 
     /// The automaton of the list, with copies of the problem and the list. States that no continuation tells apart, and
     /// that tell the same, are one.
@@ -76,15 +70,17 @@ impl Automaton {
         ensures problem { IfOk result (λ a. a.problem ≡ problem.now) }
         ensures rules { IfOk result (λ a. a.rules ≡ rules.now) }
     {
-        let tails = TailRules::of(alloc, problem, rules)?;
-        let table = small_table(alloc, &tails, told)?;
+        let table = small_table(alloc, problem, rules, told)?;
         let steps = steps_of(alloc, &table.moves)?;
-        let (problem, list) = tails.into_parts();
+        let offs = offs_of(alloc, &table.told)?;
+        let list = rules.copy()?;
+        let problem = problem.copy()?;
         Ok(Automaton {
             problem,
             list,
+            starts: table.starts,
             moves: table.moves,
-            offs: table.offs,
+            offs,
             steps,
         })
     }
@@ -111,6 +107,7 @@ impl Automaton {
         Ok(Automaton {
             problem: self.problem.copy()?,
             list: self.list.copy()?,
+            starts: Vec::from_slice(alloc, &self.starts)?,
             moves: Vec::from_slice(alloc, &self.moves)?,
             offs: Vec::from_slice(alloc, &self.offs)?,
             steps: Vec::from_slice(alloc, &self.steps)?,
@@ -128,6 +125,7 @@ impl Automaton {
         Ok(Automaton {
             problem: self.problem.with_weeks(weeks)?,
             list: self.list.copy()?,
+            starts: Vec::from_slice(alloc, &self.starts)?,
             moves: Vec::from_slice(alloc, &self.moves)?,
             offs: Vec::from_slice(alloc, &self.offs)?,
             steps: Vec::from_slice(alloc, &self.steps)?,
@@ -162,6 +160,15 @@ impl Automaton {
         self.moves.len()
     }
 
+    /// The state where words from the position on begin. On the first day it is state 0.
+    pub fn start(&self, position: u32) -> u32
+        ensures value { result ≡ begin_at self.now position }
+        ensures inside { result < length self.now.moves }
+    {
+        self.problem.prove_limits();
+        self.starts[position as usize % self.starts.len()]
+    }
+
     /// Where the symbol leads from the state; None where no clean word continues with it.
     pub fn follow(&self, state: u32, x: Symbol) -> Option<u32>
         requires state { state < length self.now.moves }
@@ -188,13 +195,28 @@ impl Automaton {
 }
 
 // The table of the rules, with one state for those that no continuation tells apart.
-fn small_table(alloc: Global, rules: &TailRules, told: Told) -> Result<Table, AllocError>
-    ensures { IfOk result (λ t. IsReader rules.now.problem rules.now.rules t.moves.items t.offs.items) }
+fn small_table(
+    alloc: Global,
+    problem: &Problem,
+    rules: &RuleList,
+    told: Told,
+) -> Result<Table, AllocError>
+    ensures { IfOk result (IsReader problem.now rules.now) }
 {
-    let states = States::of(alloc, rules)?;
-    let classes = classes_of(alloc, &states, told)?;
-    let table = states.into_table(alloc, rules)?;
-    merged(alloc, rules, table, &classes)
+    let table = rule_table(alloc, problem, rules, told)?;
+    let classes = classes_of(alloc, &table)?;
+    merged(alloc, problem, rules, table, &classes)
+}
+
+// For each state whether its words end with the day off, which is told by 1.
+fn offs_of(alloc: Global, told: &[u32]) -> Result<Vec<bool>, AllocError>
+    ensures { IfOk result (λ offs. offs.items ≡ map (λ label. label == 1) told.now) }
+{
+    let mut offs = Vec::new(alloc);
+    for label in told {
+        offs.push(*label == 1)?;
+    }
+    Ok(offs)
 }
 
 // An automaton may be sent to other threads and shared with them.

@@ -1,31 +1,11 @@
 // Classes of states that no continuation tells apart.
 use crate::image::class_of;
-use crate::states::States;
-use crate::table::Row;
-use crate::{Tail, Told};
+use crate::table::{Row, Table};
 use std::alloc::{AllocError, Global};
 use std::collections::HashMap;
 
 // The multiplier of a hash of words. It is odd, so that no two numbers have the same product in 64 bits.
 const MULTIPLIER: u64 = 0x517c_c1b7_2722_0a95;
-
-// What the state of a tail tells, as a number. The empty word doesn't end with the day off, and has no last symbol.
-fn told_by(tail: Tail, told: Told) -> u32 {
-    match (told, tail.last) {
-        (_, None) => 1,
-        (Told::DayOff, Some(x)) => if x.number == 0 { 0 } else { 1 },
-        (Told::LastSymbol, Some(x)) => u32::from(x.number) + 2,
-    }
-}
-
-// States by what they tell alone.
-fn coarsest(alloc: Global, tails: &[Tail], told: Told) -> Result<Vec<u32>, AllocError> {
-    let mut classes = Vec::new(alloc);
-    for tail in tails {
-        classes.push(told_by(*tail, told))?;
-    }
-    Ok(classes)
-}
 
 // Classes of states, and how many there are.
 #[derive(Drop)]
@@ -67,13 +47,13 @@ fn refined(alloc: Global, moves: &[Row], classes: &[u32]) -> Result<Classes, All
 // The class of each state: states are in one class where they tell the same, and so do those that they lead to by any
 // word (E. Moore, 1956). Classes are refined until their number stays, which takes as many rounds as the longest word
 // that is needed to tell two states apart has symbols.
-pub fn classes_of(alloc: Global, states: &States, told: Told) -> Result<Vec<u32>, AllocError> {
+pub fn classes_of(alloc: Global, table: &Table) -> Result<Vec<u32>, AllocError> {
     let mut classes = Classes {
-        of_state: coarsest(alloc, &states.tails, told)?,
+        of_state: Vec::from_slice(alloc, &table.told)?,
         count: 0,
     };
-    for _ in 0..states.moves.len() {
-        let finer = refined(alloc, &states.moves, &classes.of_state)?;
+    for _ in 0..table.moves.len() {
+        let finer = refined(alloc, &table.moves, &classes.of_state)?;
         let is_stable = finer.count == classes.count;
         classes = finer;
         if is_stable {

@@ -2,6 +2,7 @@
 ghost use Rattle.std.specs.Prelude.{◌≡◌, ◌+◌, ◌%◌, ◌<◌, ◌≤◌, length};
 ghost use Rattle.rwsp_terms.specs.declared.limits.TheConstants.{LONGEST_WORD};
 ghost use Rattle.rwsp_terms.specs.Instance.{cells};
+ghost use Rattle.clean_words.specs.Automata.{begin_at};
 ghost use Rattle.clean_words.specs.Trellis.{AreFacts};
 
 use crate::CleanWords;
@@ -13,6 +14,14 @@ impl CleanWords<'_> {
     {
         self.automaton.prove_facts();
         self.domains.prove_facts();
+    }
+
+    // The state where the words begin.
+    pub fn start(&self) -> u32
+        ensures value { result ≡ begin_at self.now.automaton.now self.now.position }
+        ensures inside { result < length self.now.automaton.now.moves }
+    {
+        self.automaton.start(self.position)
     }
 
     // The position of a day.

@@ -31,7 +31,7 @@ pub fn heaviest_by_gain<G: Gain>(
 {
     words.prove_facts();
     let rows = kept_rows(alloc, words, gain)?;
-    match reaching(rows.first.at(0), least) {
+    match reaching(rows.first.at(words.start()), least) {
         Some(weight) => {
             let word = best_word(alloc, words, gain, rows.kept)?;
             Ok(Some(HeavyWord { weight, word }))

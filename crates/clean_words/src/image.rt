@@ -3,8 +3,9 @@ ghost use Rattle.std.specs.Prelude.{◌≡◌, ℕ, ◌<◌, ◌≤◌, ◌^◌,
 ghost use Rattle.std.specs.Option.{option_map};
 ghost use Rattle.clean_words.specs.Tables.{IsReader, IsKept, HasStates};
 
-use crate::TailRules;
 use crate::table::{Row, Table};
+use rwsp_model::Problem;
+use rwsp_terms::RuleList;
 use rwsp_terms::limits::MOST_SYMBOLS;
 use std::alloc::{AllocError, Global};
 
@@ -39,36 +40,53 @@ fn image_of(classes: &[u32], row: &Row) -> Row
     image
 }
 
+// The classes of some states.
+fn classes_at(alloc: Global, states: &[u32], classes: &[u32]) -> Result<Vec<u32>, AllocError>
+    ensures { IfOk result (λ found. found.items ≡ map (slice_index classes.now) states.now) }
+{
+    let mut found = Vec::new(alloc);
+    for state in states {
+        found.push(class_of(classes, *state))?;
+    }
+    Ok(found)
+}
+
 // The table of the classes, each with the moves of its first state. Classes are numbered in the order of these.
 fn quotient(alloc: Global, table: &Table, classes: &[u32]) -> Result<Table, AllocError>
     requires few { length table.now.moves.items < 2 ^ 32 }
-    requires long { length table.now.offs.items ≡ length table.now.moves.items }
-    ensures long { IfOk result (λ t. length t.offs.items ≡ length t.moves.items) }
+    requires long { length table.now.told.items ≡ length table.now.moves.items }
+    ensures starts { IfOk result (λ t. t.starts.items ≡ map (slice_index classes.now) table.now.starts.items) }
+    ensures long { IfOk result (λ t. length t.told.items ≡ length t.moves.items) }
     ensures few { IfOk result (λ t. length t.moves.items ≤ length table.now.moves.items) }
     ensures states { IfOk result
         (λ t. HasStates classes.now (length table.now.moves.items) (length t.moves.items)) }
 {
     let mut moves = Vec::new(alloc);
-    let mut offs = Vec::new(alloc);
+    let mut told = Vec::new(alloc);
     for state in 0..table.moves.len() as u32 {
         if class_of(classes, state) as usize == moves.len() {
             moves.push(image_of(classes, &table.moves[state as usize]))?;
-            offs.push(table.offs[state as usize])?;
+            told.push(table.told[state as usize])?;
         }
     }
-    Ok(Table { moves, offs })
+    let starts = classes_at(alloc, &table.starts, classes)?;
+    Ok(Table {
+        starts,
+        moves,
+        told,
+    })
 }
 
-// Whether the class tells what the state tells of the day off, and has moves by the same symbols, to the classes of the
-// states where the state's moves lead.
+// Whether the class tells what the state tells, and has moves by the same symbols, to the classes of the states where
+// the state's moves lead.
 fn is_kept(table: &Table, small: &Table, classes: &[u32], state: u32) -> bool
     requires state { state < length table.now.moves.items }
-    requires long { length table.now.offs.items ≡ length table.now.moves.items }
-    requires small_long { length small.now.offs.items ≡ length small.now.moves.items }
+    requires long { length table.now.told.items ≡ length table.now.moves.items }
+    requires small_long { length small.now.told.items ≡ length small.now.moves.items }
     ensures { IsTrue result → IsKept table.now small.now classes.now state }
 {
     let class = class_of(classes, state) as usize;
-    if class >= small.moves.len() || small.offs[class] != table.offs[state as usize] {
+    if class >= small.moves.len() || small.told[class] != table.told[state as usize] {
         return false;
     }
     small.moves[class] == image_of(classes, &table.moves[state as usize])
@@ -77,8 +95,8 @@ fn is_kept(table: &Table, small: &Table, classes: &[u32], state: u32) -> bool
 // Whether each class is as its states are.
 fn are_kept(table: &Table, small: &Table, classes: &[u32]) -> bool
     requires few { length table.now.moves.items < 2 ^ 32 }
-    requires long { length table.now.offs.items ≡ length table.now.moves.items }
-    requires small_long { length small.now.offs.items ≡ length small.now.moves.items }
+    requires long { length table.now.told.items ≡ length table.now.moves.items }
+    requires small_long { length small.now.told.items ≡ length small.now.moves.items }
     ensures { IsTrue result → (k : ℕ) → k < length table.now.moves.items
         → IsKept table.now small.now classes.now k }
 {
@@ -93,13 +111,15 @@ fn are_kept(table: &Table, small: &Table, classes: &[u32]) -> bool
 // The table of the classes; the table itself where they aren't classes of states that continue together.
 pub fn merged(
     alloc: Global,
-    rules: &TailRules,
+    problem: &Problem,
+    rules: &RuleList,
     table: Table,
     classes: &[u32],
 ) -> Result<Table, AllocError>
-    requires { IsReader rules.now.problem rules.now.rules table.moves.items table.offs.items }
-    ensures { IfOk result (λ t. IsReader rules.now.problem rules.now.rules t.moves.items t.offs.items) }
+    requires { IsReader problem.now rules.now table }
+    ensures { IfOk result (IsReader problem.now rules.now) }
 {
+    problem.prove_limits();
     let _ = rules;
     let small = quotient(alloc, &table, classes)?;
     if class_of(classes, 0) == 0 && are_kept(&table, &small, classes) {

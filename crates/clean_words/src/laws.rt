@@ -6,5 +6,5 @@ ghost use Rattle.refutation_terms.specs.Word.{Clean};
 
 /// The empty word is clean for every list.
 pub fn empty_word_is_clean()
-    ensures { (P : Instance) (R : List ℕ) → Clean P R [] }
+    ensures { (P : Instance) (R : List ℕ) (p : ℕ) → Clean P R p [] }
 {}

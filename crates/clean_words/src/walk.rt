@@ -1,7 +1,7 @@
 // Going forward along rows, from the first day to the end.
 ghost use Rattle.std.specs.Prelude.{◌≡◌, ℕ, ◌+◌, ◌-◌, ◌*◌, ◌<◌, ◌≤◌, List, length, IfOk, OnOk, ℤ};
 ghost use Rattle.rwsp_terms.specs.declared.data.Symbol.{Symbol};
-ghost use Rattle.clean_words.specs.Trellis.{trellis, IsRow, AreRows, Leads, IsBest};
+ghost use Rattle.clean_words.specs.Trellis.{trellis, start_of, IsRow, AreRows, Leads, IsBest};
 ghost use Rattle.clean_words.specs.Kept.{AreKept, IsOnBest};
 
 use crate::choice::choose;
@@ -28,13 +28,15 @@ pub fn best_word<G: Gain>(
     mut kept: Vec<Row>,
 ) -> Result<Word, AllocError>
     requires kept { AreKept (trellis words.now (G.gain_of gain.now)) words.now.days kept.items }
-    requires some { (u : List Symbol) × (w : ℤ) × Leads (trellis words.now (G.gain_of gain.now)) 0 0 u w }
-    ensures { IfOk result (λ word. (w : ℤ) × IsBest (trellis words.now (G.gain_of gain.now)) 0 0 word w) }
+    requires some { let T = trellis words.now (G.gain_of gain.now) in
+        (u : List Symbol) × (w : ℤ) × Leads T 0 (start_of T) u w }
+    ensures { let T = trellis words.now (G.gain_of gain.now) in
+        IfOk result (λ word. (w : ℤ) × IsBest T 0 (start_of T) word w) }
 {
     words.prove_facts();
     let mut walk = Walk {
         symbols: Vec::new(alloc),
-        state: 0,
+        state: words.start(),
     };
     let mut left = words.days;
     while let Some(row) = kept.pop() {

@@ -8,7 +8,7 @@ use Rattle.rwsp_terms.specs.declared.data.Symbol.{Symbol}
 use Rattle.rwsp_terms.specs.Instance.{Instance, cells, off_symbol, IsSymbol}
 use Rattle.rwsp_terms.specs.Window.{Bad, cell, window}
 use Rattle.rwsp_terms.specs.Roster.{IsRoster, MeetsAll}
-use Rattle.refutation_terms.proofs.Windows.{no_bad_met}
+use Rattle.refutation_terms.proofs.Windows.{bad-same_day, no_bad_met}
 use Rattle.crew_calendar.specs.Crew.{position_on, symbol_on}
 use Rattle.crew_calendar.specs.Facts.{stretch, FollowsCycle, IsClean, GoesRound}
 
@@ -30,8 +30,10 @@ follows_cycle P s roster e t days = stretch-window P s e t days roster.long
 pub is_clean : (P : Instance) (s : List Symbol) → 0 < cells P → MeetsAll P s → IsClean P s
 is_clean P s some meets e t days r is bad =
     let positive : 0 < length s = omega (arith, some, meets.is_roster.long) in
-    no_bad_met P r s positive (meets.rules r is) ((e - 1) * P.days + t) days
-    (subst (Bad P r) (stretch-window P s e t days meets.is_roster.long) bad)
+    let there = (e - 1) * P.days + t in
+    let same_day : t % P.days ≡ there % P.days = sym (add-mul-mod_self_right t (e - 1) P.days) ∙ ap (λ n. n % P.days) (let flip : t + (e - 1) * P.days ≡ there = omega arith in flip) in
+    no_bad_met P r s positive meets.is_roster.long (meets.rules r is) there days
+    (bad-same_day P r t there (window s there days) same_day (subst (Bad P r t) (stretch-window P s e t days meets.is_roster.long) bad))
 
 -- two days of one round with the same position are one
 same_day : (n a k m p : ℕ) → 0 < n → k < n → m < n → (a + k) % n ≡ p → (a + m) % n ≡ p → m ≡ k

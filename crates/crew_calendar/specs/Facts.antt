@@ -33,7 +33,7 @@ FollowsCycle P s = (e t days : ℕ) → stretch P s e t days ≡ window s ((e - 
 
 -- no days in a row of an employee are bad for a rule
 abbrev pub IsClean : Instance → List Symbol → Type 0
-IsClean P s = (e t days : ℕ) (r : Rule) → IsRule P r → Bad P r (stretch P s e t days) → ⊥
+IsClean P s = (e t days : ℕ) (r : Rule) → IsRule P r → Bad P r t (stretch P s e t days) → ⊥
 
 -- the employee is at the position on this one of the days of a round that begins on day t, and on no other
 pub record StandsOnce (P : Instance) (e t p day : ℕ) : Type 0 where

@@ -4,7 +4,7 @@ use Rattle.std.proofs.Math.Nat.{mod-eq-sub-div-mul, div-mul-le_self, mod-lt}
 use Rattle.std.proofs.lemmas.Bool.{cases_lt}
 use Rattle.rwsp_terms.specs.declared.data.Symbol.{Symbol}
 use Rattle.rwsp_terms.specs.declared.data.Rule.{Rule}
-use Rattle.rwsp_terms.specs.declared.data.Rule.TheVariants.{MaxShift, MinShift, MaxOff, MinOff, MaxWork, MinWork, Pair, Triple, Day}
+use Rattle.rwsp_terms.specs.declared.data.Rule.TheVariants.{Most, Least, Never, Day}
 use Rattle.rwsp_terms.specs.Instance.{Instance}
 use Rattle.rwsp_terms.specs.Window.{window, Bad}
 use Rattle.rwsp_terms.specs.Roster.{IsRoster, IsRule, MeetsRule, MeetsAll}
@@ -18,11 +18,11 @@ use Rattle.roster_checker.proofs.FirstBroken.{place_breaks}
 use Rattle.refutation_checker.proofs.Deciding.{least_number}
 
 -- a kind of which a window is has a first one
-some_window : (IsKind : List Symbol → Type 0) (s : List Symbol) → ((p n : ℕ) → IsFirstWindow IsKind s p n → ⊥) → (p len : ℕ) → p < length s → IsKind (window s p len) → ⊥
+some_window : (IsKind : ℕ → List Symbol → Type 0) (s : List Symbol) → ((p n : ℕ) → IsFirstWindow IsKind s p n → ⊥) → (p len : ℕ) → p < length s → IsKind p (window s p len) → ⊥
 some_window IsKind s none p len within bad =
-    least_number (λ q. (q < length s) × ((n : ℕ) × IsKind (window s q n)))
+    least_number (λ q. (q < length s) × ((n : ℕ) × IsKind q (window s q n)))
     (λ q least.
-    least_number (λ n. IsKind (window s q n))
+    least_number (λ n. IsKind q (window s q n))
     (λ n shortest. none q n (record {
       within = least.0.0;
       here = shortest.0;
@@ -34,14 +34,9 @@ some_window IsKind s none p len within bad =
 
 -- a rule that isn't met is broken at a first place
 some_place : (P : Instance) (r : Rule) (s : List Symbol) → IsRule P r → ((p n : ℕ) → IsFirstPlace P r s p n → ⊥) → (MeetsRule P r s → ⊥) → ⊥
-some_place P (MaxShift x) s is none broken = broken (some_window (Bad P (MaxShift x)) s none)
-some_place P (MinShift x) s is none broken = broken (some_window (Bad P (MinShift x)) s none)
-some_place P MaxOff s is none broken = broken (some_window (Bad P MaxOff) s none)
-some_place P MinOff s is none broken = broken (some_window (Bad P MinOff) s none)
-some_place P MaxWork s is none broken = broken (some_window (Bad P MaxWork) s none)
-some_place P MinWork s is none broken = broken (some_window (Bad P MinWork) s none)
-some_place P (Pair k) s is none broken = broken (some_window (Bad P (Pair k)) s none)
-some_place P (Triple k) s is none broken = broken (some_window (Bad P (Triple k)) s none)
+some_place P (Most c) s is none broken = broken (some_window (Bad P (Most c)) s none)
+some_place P (Least c) s is none broken = broken (some_window (Bad P (Least c)) s none)
+some_place P (Never k) s is none broken = broken (some_window (Bad P (Never k)) s none)
 some_place P (Day j) s is none broken = none (j - 1) 0 (broken, omega (arith, is), refl)
 
 -- the answer that names a place

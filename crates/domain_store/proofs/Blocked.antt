@@ -29,4 +29,4 @@ pub blocked_all_bad : (P : Instance) (S : Store) (number : ℕ) (r : Rule) (p le
     → IsBlocked P (has_domain S) number p len → AreAllBad P r (left_in S) p len
 blocked_all_bad P S number r p len long is blocked = λ u size stands.
     let same : blocked.0 ≡ r = same_Some blocked.0 r (sym blocked.1 ∙ is) in
-    subst (λ s. Bad P s u) same (blocked.2 u size (stands_over P S p u long stands))
+    subst (λ s. Bad P s p u) same (blocked.2 u size (stands_over P S p u long stands))

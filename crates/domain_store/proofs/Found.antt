@@ -51,6 +51,6 @@ bad_near P r A m p run (Some w) some is far few ends h =
     record {
       early = omega (arith, h.within.1);
       some = omega (arith, h.placed.2);
-      few = omega (arith, h.placed.2, h.placed.1.most, is.few, behind);
+      few = omega (arith, h.placed.2, h.placed.1.most, is.judged.few, behind);
       bad = placed_bad P r A m w.start w.length is h.placed;
     }

@@ -47,7 +47,7 @@ placed_once A m p i j some one a b = elim one [
 pub one_bad_length : (P : Instance) (r : Rule) (A : ℕ → Symbol → Type 0) (m : Pattern) (p n len : ℕ) → HasSome A → IsPatternOf (Bad P r) m → IsPlacedFor A m p n → AreAllBad P r A p len → len ≡ n
 one_bad_length P r A m p n len some is here each =
     let there = bad_placed P r A m p len some is each in
-    let same : there.0 ≡ here.0 = placed_once A m p there.0 here.0 some is.one_length there.1 here.1 in
+    let same : there.0 ≡ here.0 = placed_once A m p there.0 here.0 some is.judged.one_length there.1 here.1 in
     omega (arith, same, there.2, here.2)
 
 -- the run of the class behind a position, counted up to the most inner days of a window

@@ -72,13 +72,14 @@ keeps_last A (Some side) p on = keeps_side A side p (λ x may. on x (omega arith
 
 -- words
 
-word_of_place : (A : ℕ → Symbol → Type 0) (m : Pattern) (p inner : ℕ) (u : List Symbol) → IsPlaced A m p inner → length u ≡ 1 + inner + days_of m.last → MayStand A p u → IsShaped m u
+word_of_place : (A : ℕ → Symbol → Type 0) (m : Pattern) (p inner : ℕ) (u : List Symbol) → IsPlaced A m p inner → length u ≡ 1 + inner + days_of m.last → MayStand A p u → IsShaped m p u
 word_of_place A m p inner u h long stands =
     let zeroth : p + 0 ≡ p = omega arith in
     record {
       inner = inner;
       fewest = h.fewest;
       most = h.most;
+      on_day = h.on_day;
       long = long;
       first = on_side A m.first p (get_or u 0 off_symbol) h.first (subst (λ q. A q (get_or u 0 off_symbol)) zeroth (at_place A p u 0 stands (omega (arith, long))));
       within = λ i lt.
@@ -89,7 +90,7 @@ word_of_place A m p inner u h long stands =
           subst (λ q. A q (get_or u (suc inner) off_symbol)) e (at_place A p u (suc inner) stands (omega (arith, more, long))));
     }
 
-place_of_words : (A : ℕ → Symbol → Type 0) (m : Pattern) (p len : ℕ) → HasSome A → ((u : List Symbol) → length u ≡ len → MayStand A p u → IsShaped m u) → IsPlacedFor A m p len
+place_of_words : (A : ℕ → Symbol → Type 0) (m : Pattern) (p len : ℕ) → HasSome A → ((u : List Symbol) → length u ≡ len → MayStand A p u → IsShaped m p u) → IsPlacedFor A m p len
 place_of_words A m p len some each =
     let w = some_word A p len some in
     let one = each w.word w.long w.stands in
@@ -100,6 +101,7 @@ place_of_words A m p len some each =
       record {
         fewest = one.fewest;
         most = one.most;
+        on_day = one.on_day;
         first = keeps_side A m.first p (λ x may.
             let v = word_with A p len 0 x some (omega (arith, whole)) (subst (λ q. A q x) zeroth may) in
             subst (IsOn m.first) v.here (each v.word v.long v.stands).first);
@@ -121,13 +123,13 @@ place_of_words A m p len some each =
 -- what is bad for a rule with a pattern
 
 pub placed_bad : (P : Instance) (r : Rule) (A : ℕ → Symbol → Type 0) (m : Pattern) (p len : ℕ) → IsPatternOf (Bad P r) m → IsPlacedFor A m p len → AreAllBad P r A p len
-placed_bad P r A m p len is h u long stands = is.kind u (word_of_place A m p h.0 u h.1 (long ∙ h.2) stands)
+placed_bad P r A m p len is h u long stands = is.kind p u (word_of_place A m p h.0 u h.1 (long ∙ h.2) stands)
 
 pub bad_placed : (P : Instance) (r : Rule) (A : ℕ → Symbol → Type 0) (m : Pattern) (p len : ℕ) → HasSome A → IsPatternOf (Bad P r) m → AreAllBad P r A p len → IsPlacedFor A m p len
-bad_placed P r A m p len some is each = place_of_words A m p len some (λ u long stands. is.shaped u (each u long stands))
+bad_placed P r A m p len some is each = place_of_words A m p len some (λ u long stands. is.shaped p u (each u long stands))
 
 -- a rule for which no word is bad
-pub none_bad : (P : Instance) (r : Rule) (A : ℕ → Symbol → Type 0) (p len : ℕ) → HasSome A → ((u : List Symbol) → Bad P r u → ⊥) → AreAllBad P r A p len → ⊥
+pub none_bad : (P : Instance) (r : Rule) (A : ℕ → Symbol → Type 0) (p len : ℕ) → HasSome A → ((p : ℕ) (u : List Symbol) → Bad P r p u → ⊥) → AreAllBad P r A p len → ⊥
 none_bad P r A p len some none each =
     let w = some_word A p len some in
-    none w.word (each w.word w.long w.stands)
+    none p w.word (each w.word w.long w.stands)

@@ -1,9 +1,10 @@
 -- Patterns of windows: which words have one, and where every possible word has it.
-use Rattle.std.specs.Prelude.{◌≡◌, ◌⊎◌, ℕ, suc, ◌+◌, ◌<◌, ◌≤◌, List, [], ◌∷◌, length, slice_index_or, Option, Some, None}
+use Rattle.std.specs.Prelude.{◌≡◌, ◌⊎◌, ℕ, suc, ◌+◌, ◌<◌, ◌≤◌, List, length, slice_index_or, Option, Some, None}
 use Rattle.rwsp_terms.specs.declared.data.Symbol.{Symbol}
+use Rattle.rwsp_terms.specs.declared.data.Class.TheVariants.{Shift}
 use Rattle.rwsp_terms.specs.declared.limits.TheConstants.{GREATEST_BOUND}
 use Rattle.rwsp_terms.specs.Instance.{off_symbol}
-use Rattle.rwsp_terms.specs.Window.{InClass}
+use Rattle.rwsp_terms.specs.Window.{InClass, IsOnDay}
 use Rattle.domain_store.specs.declared.pattern.Side.{Side}
 use Rattle.domain_store.specs.declared.pattern.Side.TheVariants.{In, Outside}
 use Rattle.domain_store.specs.declared.pattern.Pattern.{Pattern}
@@ -11,12 +12,6 @@ use Rattle.domain_store.specs.declared.bad_windows.BadWindow.{BadWindow}
 use Rattle.domain_store.specs.declared.bad_windows.Start.{Start}
 use Rattle.domain_store.specs.declared.bad_windows.Start.TheVariants.{Bad, Clean}
 use Rattle.domain_store.specs.Views.{LiesIn, LiesOutside}
-
-abbrev pub IsPair : Symbol × Symbol → List Symbol → Type 0
-IsPair x u = u ≡ x.0 ∷ x.1 ∷ []
-
-abbrev pub IsTriple : Symbol × Symbol × Symbol → List Symbol → Type 0
-IsTriple x u = u ≡ x.0 ∷ x.1 ∷ x.2 ∷ []
 
 -- the symbol is on the side
 abbrev pub IsOn : Side → Symbol → Type 0
@@ -32,8 +27,14 @@ abbrev pub days_of : Option Side → ℕ
 days_of None = 0
 days_of (Some side) = 1
 
--- a word with the pattern, by its places
-pub record IsShaped (m : Pattern) (u : List Symbol) : Type 0 where
+-- the last day of a sequence, where it has three
+abbrev pub last_side : Option Symbol → Option Side
+last_side None = None
+last_side (Some x) = Some (In (Shift x))
+
+-- a word from position p on with the pattern, by its places
+pub record IsShaped (m : Pattern) (p : ℕ) (u : List Symbol) : Type 0 where
+  pub on_day : IsOnDay m.week m.day p
   pub inner : ℕ
   pub fewest : m.fewest ≤ inner
   pub most : inner ≤ m.most
@@ -55,6 +56,7 @@ KeepsLast A (Some side) p = Keeps A side p
 pub record IsPlaced (A : ℕ → Symbol → Type 0) (m : Pattern) (p inner : ℕ) : Type 0 where
   pub fewest : m.fewest ≤ inner
   pub most : inner ≤ m.most
+  pub on_day : IsOnDay m.week m.day p
   pub first : Keeps A m.first p
   pub within : (i : ℕ) → i < inner → LiesIn A m.inner (p + 1 + i)
   pub last : KeepsLast A m.last (p + 1 + inner)
@@ -68,12 +70,17 @@ IsPlacedFor A m p len = (inner : ℕ) × IsPlaced A m p inner × (len ≡ 1 + in
 abbrev pub HasOneLength : Pattern → Type 0
 HasOneLength m = (m.fewest ≡ m.most) ⊎ ((m.first ≡ Outside m.inner) × (m.last ≡ Some (Outside m.inner)))
 
--- the words of a kind are those with the pattern
-pub record IsPatternOf (IsKind : List Symbol → Type 0) (m : Pattern) : Type 0 where
+-- what the search for windows of a pattern asks of it
+pub record IsJudged (m : Pattern) : Type 0 where
   pub one_length : HasOneLength m
   pub few : m.most ≤ GREATEST_BOUND
-  pub shaped : (u : List Symbol) → IsKind u → IsShaped m u
-  pub kind : (u : List Symbol) → IsShaped m u → IsKind u
+  pub week : 0 < m.week
+
+-- the words of a kind are those with the pattern
+pub record IsPatternOf (IsKind : ℕ → List Symbol → Type 0) (m : Pattern) : Type 0 where
+  pub judged : IsJudged m
+  pub shaped : (p : ℕ) (u : List Symbol) → IsKind p u → IsShaped m p u
+  pub kind : (p : ℕ) (u : List Symbol) → IsShaped m p u → IsKind p u
 
 -- no window of the pattern begins from the one position on and before the other
 abbrev pub NonePlaced : (ℕ → Symbol → Type 0) → Pattern → ℕ → ℕ → Type 0

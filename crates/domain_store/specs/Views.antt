@@ -30,4 +30,4 @@ MayStand A p (x ∷ u) = A p x × MayStand A (p + 1) u
 
 -- every possible word of this length from the position on is bad for the rule
 abbrev pub AreAllBad : Instance → Rule → (ℕ → Symbol → Type 0) → ℕ → ℕ → Type 0
-AreAllBad P r A p len = (u : List Symbol) → length u ≡ len → MayStand A p u → Bad P r u
+AreAllBad P r A p len = (u : List Symbol) → length u ≡ len → MayStand A p u → Bad P r p u

@@ -5,9 +5,10 @@
 // further positions have none either.
 ghost use Rattle.std.specs.Prelude.{◌≡◌, ℕ, ◌+◌, ◌-◌, ◌*◌, ◌<◌, ◌≤◌, ◌↔◌, IsTrue, MatchOption};
 ghost use Rattle.rwsp_terms.specs.Roster.{IsRule};
+ghost use Rattle.rwsp_terms.specs.Window.{IsOnDay};
 ghost use Rattle.rwsp_terms.specs.declared.limits.TheConstants.{GREATEST_BOUND, LONGEST_WORD, MOST_CELLS};
 ghost use Rattle.domain_store.specs.Views.{LiesIn};
-ghost use Rattle.domain_store.specs.Patterns.{HasOneLength, Keeps, KeepsLast, IsStart, NonePlaced, IsFirstPlaced};
+ghost use Rattle.domain_store.specs.Patterns.{IsJudged, Keeps, KeepsLast, IsStart, NonePlaced, IsFirstPlaced};
 ghost use Rattle.domain_store.specs.BadWindows.{IsBadLength, HasNoneBefore, IsFirstBad, HasNoneOver, IsBadNear};
 
 use crate::View;
@@ -98,7 +99,7 @@ enum Start {
 // The first window of the pattern that begins at the position `from` or later, and before `end`.
 fn first_window<V: View>(view: &V, pattern: Pattern, from: u32, end: u32) -> Option<BadWindow>
     requires view { V.has_days view.now }
-    requires pattern { HasOneLength pattern × (pattern.most ≤ GREATEST_BOUND) }
+    requires pattern { IsJudged pattern }
     requires end { end ≤ LONGEST_WORD * (MOST_CELLS + 1) }
     ensures { MatchOption result
         (NonePlaced (V.allows view.now) pattern from end)
@@ -117,11 +118,14 @@ fn first_window<V: View>(view: &V, pattern: Pattern, from: u32, end: u32) -> Opt
 // The window of the pattern that begins at the position.
 fn window_from<V: View>(view: &V, pattern: Pattern, p: u32) -> Start
     requires view { V.has_days view.now }
-    requires pattern { HasOneLength pattern × (pattern.most ≤ GREATEST_BOUND) }
+    requires pattern { IsJudged pattern }
     requires position { p ≤ LONGEST_WORD * (MOST_CELLS + 1) }
     ensures { IsStart (V.allows view.now) pattern p result }
 {
     view.prove_some();
+    if !is_on_day(pattern, p) {
+        return Start::Clean(1);
+    }
     if !keeps(view, pattern.first, p) {
         return Start::Clean(1);
     }
@@ -146,6 +150,17 @@ fn clean_from(run: u32, most: u32) -> u32
     ensures all { most ≤ run → result ≡ 1 }
 {
     if run < most { run + 1 } else { 1 }
+}
+
+// Whether the pattern may begin on the position's day of the week.
+fn is_on_day(pattern: Pattern, p: u32) -> bool
+    requires { IsJudged pattern }
+    ensures { IsTrue result ↔ IsOnDay pattern.week pattern.day p }
+{
+    match pattern.day {
+        Some(day) => p % pattern.week + 1 == day,
+        None => true,
+    }
 }
 
 // Whether each possible symbol of the position is on the side.

@@ -1,16 +1,16 @@
 // What the windows that break a rule have in common. This is the one place that tells the kinds of rules on windows
 // apart.
-ghost use Rattle.std.specs.Prelude.{◌≡◌, ◌<◌, ◌≤◌, List, length, MatchOption, slice_get, Some};
-ghost use Rattle.rwsp_terms.specs.Instance.{bounds, IsClass};
+ghost use Rattle.std.specs.Prelude.{◌≡◌, ℕ, ◌<◌, ◌≤◌, List, length, MatchOption, Option};
+ghost use Rattle.rwsp_terms.specs.Instance.{bounds, sequences, IsClass};
 ghost use Rattle.rwsp_terms.specs.Roster.{IsRule};
-ghost use Rattle.rwsp_terms.specs.Window.{Bad, TooLong, TooShort};
-ghost use Rattle.rwsp_terms.specs.declared.data.Rule.TheVariants.{Pair, Triple};
+ghost use Rattle.rwsp_terms.specs.Window.{Bad, IsSequence, TooLong, TooShort};
+ghost use Rattle.rwsp_terms.specs.declared.data.Rule.TheVariants.{Never};
 ghost use Rattle.rwsp_terms.specs.declared.data.Symbol.{Symbol};
 ghost use Rattle.rwsp_terms.specs.declared.limits.TheConstants.{GREATEST_BOUND};
-ghost use Rattle.domain_store.specs.Patterns.{IsPair, IsPatternOf, IsTriple, days_of};
+ghost use Rattle.domain_store.specs.Patterns.{IsPatternOf, days_of, last_side};
 
 use rwsp_model::Problem;
-use rwsp_terms::{Class, Rule, Symbol};
+use rwsp_terms::{Class, Rule, Sequence, Symbol};
 
 /// On which side of a class a day is.
 #[derive(Clone, Copy)]
@@ -27,76 +27,54 @@ pub struct Pattern {
     pub fewest: u32,
     pub most: u32,
     pub last: Option<Side>,
+    /// The day of the week on which it begins, counted from 1; None where that may be any.
+    pub day: Option<u32>,
+    /// The days of a week.
+    pub week: u32,
 }
 
 /// What is common to all windows that break the rule. No window breaks the rule of a day.
 pub fn pattern_of(problem: &Problem, rule: Rule) -> Option<Pattern>
     requires { IsRule problem.now rule }
     ensures { MatchOption result
-        ((u : List Symbol) → Bad problem.now rule u → ⊥)
+        ((p : ℕ) (u : List Symbol) → Bad problem.now rule p u → ⊥)
         (IsPatternOf (Bad problem.now rule)) }
 {
     match rule {
-        Rule::MaxShift(shift) => Some(over_greatest(problem, Class::Shift(shift))),
-        Rule::MinShift(shift) => Some(under_least(problem, Class::Shift(shift))),
-        Rule::MaxOff => Some(over_greatest(problem, Class::Off)),
-        Rule::MinOff => Some(under_least(problem, Class::Off)),
-        Rule::MaxWork => Some(over_greatest(problem, Class::Work)),
-        Rule::MinWork => Some(under_least(problem, Class::Work)),
-        Rule::Pair(k) => Some(forbidden_pair(problem, k)),
-        Rule::Triple(k) => Some(forbidden_triple(problem, k)),
+        Rule::Most(class) => Some(over_greatest(problem, class)),
+        Rule::Least(class) => Some(under_least(problem, class)),
+        Rule::Never(place) => Some(forbidden(problem, place)),
         Rule::Day(_) => None,
     }
 }
 
 fn over_greatest(problem: &Problem, class: Class) -> Pattern
     requires { IsClass problem.now class }
-    ensures { IsPatternOf (TooLong class (bounds problem.now class).greatest) result }
+    ensures { IsPatternOf (λ p. TooLong class (bounds problem.now class).greatest) result }
 {
-    longer_than(class, problem.bounds(class).greatest)
+    longer_than(class, problem.bounds(class).greatest, problem.days())
 }
 
 fn under_least(problem: &Problem, class: Class) -> Pattern
     requires { IsClass problem.now class }
-    ensures { IsPatternOf (TooShort class (bounds problem.now class).least) result }
+    ensures { IsPatternOf (λ p. TooShort class (bounds problem.now class).least) result }
 {
-    shorter_than(class, problem.bounds(class).least)
+    shorter_than(class, problem.bounds(class).least, problem.days())
 }
 
-// Pairs count from 0.
-fn forbidden_pair(problem: &Problem, k: u32) -> Pattern
-    requires { k < length problem.now.pairs }
-    ensures { IsPatternOf (Bad problem.now (Pair k)) result }
+// Sequences count from 0.
+fn forbidden(problem: &Problem, place: u32) -> Pattern
+    requires { place < length (sequences problem.now) }
+    ensures { IsPatternOf (Bad problem.now (Never place)) result }
 {
-    two_symbols(pair_at(problem, k))
-}
-
-// Triples count from 0.
-fn forbidden_triple(problem: &Problem, k: u32) -> Pattern
-    requires { k < length problem.now.triples }
-    ensures { IsPatternOf (Bad problem.now (Triple k)) result }
-{
-    three_symbols(triple_at(problem, k))
-}
-
-fn pair_at(problem: &Problem, k: u32) -> (Symbol, Symbol)
-    requires { k < length problem.now.pairs }
-    ensures { slice_get problem.now.pairs k ≡ Some result }
-{
-    problem.pairs()[k as usize]
-}
-
-fn triple_at(problem: &Problem, k: u32) -> (Symbol, Symbol, Symbol)
-    requires { k < length problem.now.triples }
-    ensures { slice_get problem.now.triples k ≡ Some result }
-{
-    problem.triples()[k as usize]
+    symbols_in_a_row(problem.sequence(place), problem.days())
 }
 
 // One day more than the greatest length, all in the class.
-fn longer_than(class: Class, greatest: u32) -> Pattern
-    requires { greatest ≤ GREATEST_BOUND }
-    ensures { IsPatternOf (TooLong class greatest) result }
+fn longer_than(class: Class, greatest: u32, week: u32) -> Pattern
+    requires few { greatest ≤ GREATEST_BOUND }
+    requires week { 0 < week }
+    ensures { IsPatternOf (λ p. TooLong class greatest) result }
 {
     Pattern {
         first: Side::In(class),
@@ -104,13 +82,16 @@ fn longer_than(class: Class, greatest: u32) -> Pattern
         fewest: greatest,
         most: greatest,
         last: None,
+        day: None,
+        week,
     }
 }
 
 // A block with fewer days than the least length, between two days outside the class.
-fn shorter_than(class: Class, least: u32) -> Pattern
-    requires { least ≤ GREATEST_BOUND }
-    ensures { IsPatternOf (TooShort class least) result }
+fn shorter_than(class: Class, least: u32, week: u32) -> Pattern
+    requires few { least ≤ GREATEST_BOUND }
+    requires week { 0 < week }
+    ensures { IsPatternOf (λ p. TooShort class least) result }
 {
     Pattern {
         first: Side::Outside(class),
@@ -118,30 +99,34 @@ fn shorter_than(class: Class, least: u32) -> Pattern
         fewest: 1,
         most: least.saturating_sub(1),
         last: Some(Side::Outside(class)),
+        day: None,
+        week,
     }
 }
 
-fn two_symbols(pair: (Symbol, Symbol)) -> Pattern
-    ensures { IsPatternOf (IsPair pair) result }
+// The symbols of the sequence, on its day of the week.
+fn symbols_in_a_row(sequence: Sequence, week: u32) -> Pattern
+    requires { 0 < week }
+    ensures { IsPatternOf (IsSequence week sequence) result }
 {
     Pattern {
-        first: Side::In(Class::Shift(pair.0)),
-        inner: Class::Shift(pair.1),
+        first: Side::In(Class::Shift(sequence.first)),
+        inner: Class::Shift(sequence.second),
         fewest: 1,
         most: 1,
-        last: None,
+        last: last_side(sequence.third),
+        day: sequence.day,
+        week,
     }
 }
 
-fn three_symbols(triple: (Symbol, Symbol, Symbol)) -> Pattern
-    ensures { IsPatternOf (IsTriple triple) result }
+// The last day of a sequence, where it has three.
+fn last_side(third: Option<Symbol>) -> Option<Side>
+    ensures { result ≡ last_side third }
 {
-    Pattern {
-        first: Side::In(Class::Shift(triple.0)),
-        inner: Class::Shift(triple.1),
-        fewest: 1,
-        most: 1,
-        last: Some(Side::In(Class::Shift(triple.2))),
+    match third {
+        Some(symbol) => Some(Side::In(Class::Shift(symbol))),
+        None => None,
     }
 }
 

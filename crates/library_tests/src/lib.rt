@@ -35,4 +35,4 @@ mod rwsp_terms_tests;
 #[cfg(test)]
 mod rwsp_text_tests;
 #[cfg(test)]
-mod word_tail_tests;
+mod word_tests;

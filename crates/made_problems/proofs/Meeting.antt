@@ -1,16 +1,18 @@
 -- The hidden roster meets each rule.
-use Rattle.std.proofs.Common.{◌≡◌, ℕ, zero, suc, ◌-◌, ◌*◌, ◌<◌, ◌≤◌, List, [], ◌∷◌, length, Bool, true, false, ◌&&◌, ltb, Some, refl, subst, ◌∙◌, arith}
+use Rattle.std.proofs.Common.{◌≡◌, ℕ, zero, suc, ◌-◌, ◌*◌, ◌<◌, ◌≤◌, List, [], ◌∷◌, ◌++◌, length, map, true, ◌&&◌, ltb, Some, refl, ap, subst, ◌∙◌, arith}
 use Rattle.std.specs.Prelude.{slice_get}
 use Rattle.std.specs.List.{AllByRecursion}
-use Rattle.std.proofs.lemmas.Bool.{and_parts}
-use Rattle.rwsp_terms.specs.Instance.{bounds, bounds_of, IsClass}
-use Rattle.rwsp_terms.specs.Window.{window, TooLong, TooShort}
+use Rattle.std.proofs.lemmas.Bool.{and_parts, both_ways}
+use Rattle.std.proofs.lemmas.Option.{same_Some}
+use Rattle.rwsp_terms.specs.Instance.{bounds, bounds_of, of_pair, IsClass}
+use Rattle.rwsp_terms.specs.Window.{window, third_of, TooLong, TooShort}
 use Rattle.rwsp_terms.specs.Roster.{IsRule, MeetsRule, MeetsAll}
 use Rattle.rwsp_terms.specs.declared.data.Symbol.{Symbol}
+use Rattle.rwsp_terms.specs.declared.data.Sequence.{Sequence}
 use Rattle.rwsp_terms.specs.declared.data.Class.{Class}
 use Rattle.rwsp_terms.specs.declared.data.Class.TheVariants.{Shift, Off, Work}
 use Rattle.rwsp_terms.specs.declared.data.Rule.{Rule}
-use Rattle.rwsp_terms.specs.declared.data.Rule.TheVariants.{MaxShift, MinShift, MaxOff, MinOff, MaxWork, MinWork, Pair, Triple, Day}
+use Rattle.rwsp_terms.specs.declared.data.Rule.TheVariants.{Most, Least, Never, Day}
 use Rattle.rwsp_terms.proofs.Elements.{all_from}
 use Rattle.made_problems.specs.Stints.{IsUsual, AreStints}
 use Rattle.made_problems.specs.Blocks.{roster_of}
@@ -34,18 +36,15 @@ class_bounds weeks s (Shift x) h = shift_bounds x.number h.0 h.1
 class_bounds weeks s Off h = (refl, refl)
 class_bounds weeks s Work h = (refl, refl)
 
--- a forbidden pair has an earlier shift behind a later one
-unwrapped : {x y : Symbol × Symbol} → Some x ≡ Some y → x ≡ y
-unwrapped h = cc
+-- a forbidden sequence has an earlier shift behind a later one, and no more
+abbrev GoesBack : Sequence → Type 0
+GoesBack q = ((works q.second.number && ltb q.second.number q.first.number) ≡ true) × (third_of q.third ≡ [])
 
-pair_goes_back : (k : ℕ) (x : Symbol × Symbol) → k < 3 → slice_get pairs k ≡ Some x → (works x.1.number && ltb x.1.number x.0.number) ≡ true
-pair_goes_back zero x less h = let e = unwrapped h in subst (λ (y : Symbol × Symbol). (works y.1.number && ltb y.1.number y.0.number) ≡ true) e refl
-pair_goes_back (suc zero) x less h = let e = unwrapped h in subst (λ (y : Symbol × Symbol). (works y.1.number && ltb y.1.number y.0.number) ≡ true) e refl
-pair_goes_back (suc (suc zero)) x less h = let e = unwrapped h in subst (λ (y : Symbol × Symbol). (works y.1.number && ltb y.1.number y.0.number) ≡ true) e refl
-pair_goes_back (suc (suc (suc k))) x less h = absurd (omega (arith, less))
-
-not_both : (b : Bool) → b ≡ true → b ≡ false → ⊥
-not_both b p q = cc
+never_back : (k : ℕ) (q : Sequence) → k < 3 → slice_get (map of_pair pairs ++ []) k ≡ Some q → GoesBack q
+never_back zero q less h = subst GoesBack (same_Some _ q h) (refl, refl)
+never_back (suc zero) q less h = subst GoesBack (same_Some _ q h) (refl, refl)
+never_back (suc (suc zero)) q less h = subst GoesBack (same_Some _ q h) (refl, refl)
+never_back (suc (suc (suc k))) q less h = absurd (omega (arith, less))
 
 known_symbols : (e : Stand) (u : List Symbol) → walks e u ≡ true → AllByRecursion (λ y. y.number ≤ 3) u
 known_symbols e [] w = tt
@@ -57,28 +56,20 @@ known_symbols e (y ∷ u) w =
 abbrev Walks : List Symbol → Type 0
 Walks s = (p len : ℕ) → (f : Stand) × (walks f (window s p len) ≡ true)
 
-class_kept_short : (weeks : ℕ) (s : List Symbol) (c : Class) → IsClass (problem_of weeks s) c → Walks s → (p len : ℕ) → TooLong c (bounds (problem_of weeks s) c).greatest (window s p len) → ⊥
-class_kept_short weeks s c is w p len bad =
+rule_kept : (weeks : ℕ) (s : List Symbol) → Walks s → AllByRecursion (λ y. y.number ≤ 3) s → (r : Rule) → IsRule (problem_of weeks s) r → MeetsRule (problem_of weeks s) r s
+rule_kept weeks s w h (Most c) is = λ p len less bad.
     let f = w p len in
     never_too_long c f.0 (window s p len) f.1 (subst (λ n. TooLong c n (window s p len)) (class_bounds weeks s c is).0 bad)
-
-class_kept_long : (weeks : ℕ) (s : List Symbol) (c : Class) → IsClass (problem_of weeks s) c → Walks s → (p len : ℕ) → TooShort c (bounds (problem_of weeks s) c).least (window s p len) → ⊥
-class_kept_long weeks s c is w p len bad =
+rule_kept weeks s w h (Least c) is = λ p len less bad.
     let f = w p len in
     never_too_short c f.0 (window s p len) f.1 (subst (λ n. TooShort c n (window s p len)) (class_bounds weeks s c is).1 bad)
-
-rule_kept : (weeks : ℕ) (s : List Symbol) → Walks s → AllByRecursion (λ y. y.number ≤ 3) s → (r : Rule) → IsRule (problem_of weeks s) r → MeetsRule (problem_of weeks s) r s
-rule_kept weeks s w h (MaxShift x) is = λ p len less bad. class_kept_short weeks s (Shift x) is w p len bad
-rule_kept weeks s w h (MinShift x) is = λ p len less bad. class_kept_long weeks s (Shift x) is w p len bad
-rule_kept weeks s w h MaxOff is = λ p len less bad. class_kept_short weeks s Off tt w p len bad
-rule_kept weeks s w h MinOff is = λ p len less bad. class_kept_long weeks s Off tt w p len bad
-rule_kept weeks s w h MaxWork is = λ p len less bad. class_kept_short weeks s Work tt w p len bad
-rule_kept weeks s w h MinWork is = λ p len less bad. class_kept_long weeks s Work tt w p len bad
-rule_kept weeks s w h (Pair k) is = λ p len less bad.
+rule_kept weeks s w h (Never k) is = λ p len less bad.
     let f = w p len in
-    let behind = second_follows f.0 bad.0.0 bad.0.1 (subst (λ u. walks f.0 u ≡ true) bad.2 f.1) in
-    not_both (works bad.0.1.number && ltb bad.0.1.number bad.0.0.number) (pair_goes_back k bad.0 is bad.1) behind.forward
-rule_kept weeks s w h (Triple k) is = λ p len less bad. absurd (omega (arith, is))
+    let q = bad.0 in
+    let back = never_back k q is bad.1 in
+    let whole : window s p len ≡ q.first ∷ q.second ∷ [] = bad.2.0 ∙ ap (λ (u : List Symbol). q.first ∷ q.second ∷ u) back.1 in
+    let behind = second_follows f.0 q.first q.second (subst (λ u. walks f.0 u ≡ true) whole f.1) in
+    both_ways (works q.second.number && ltb q.second.number q.first.number) behind.forward back.0
 rule_kept weeks s w h (Day j) is = meets_days weeks s j is.0 is.1 h
 
 pub hidden_meets : (number weeks : ℕ) (ts : List Stint) → 1 ≤ weeks → AreStints number (weeks * 7) ts → MeetsAll (problem_of weeks (roster_of ts)) (roster_of ts)

@@ -1,29 +1,27 @@
 -- A roster that meets all rules has the rest.
-use Rattle.std.proofs.Common.{◌≡◌, ℕ, ◌+◌, ◌<◌, List, [], ◌∷◌, length, Bool, true, false, refl, ap, sym, subst, ◌∙◌, arith}
-use Rattle.std.specs.Prelude.{slice_get, Some, Contains}
+use Rattle.std.proofs.Common.{◌≡◌, ℕ, ◌+◌, ◌<◌, List, [], ◌∷◌, length, map, Bool, true, false, refl, ap, sym, subst, ◌∙◌, arith}
+use Rattle.std.specs.Prelude.{Some, Contains}
 use Rattle.std.proofs.lemmas.Bool.{ltb-false}
+use Rattle.std.proofs.lemmas.List.{get_or-map, length-map}
+use Rattle.std.proofs.lemmas.List.Elements.{Contains-append_left, Contains-append_right}
 use Rattle.std.proofs.lemmas.Option.{slice_get-get_or}
 use Rattle.rwsp_terms.specs.declared.data.Symbol.{Symbol}
-use Rattle.rwsp_terms.specs.declared.data.Rule.TheVariants.{Pair, Triple}
-use Rattle.rwsp_terms.specs.Instance.{Instance}
+use Rattle.rwsp_terms.specs.declared.data.Sequence.{Sequence}
+use Rattle.rwsp_terms.specs.declared.data.Rule.TheVariants.{Never}
+use Rattle.rwsp_terms.specs.Instance.{Instance, sequences, of_pair, of_triple}
 use Rattle.rwsp_terms.specs.Roster.{MeetsAll}
-use Rattle.rwsp_terms.specs.Window.{cell}
+use Rattle.rwsp_terms.specs.Window.{cell, window, IsSequence}
 use Rattle.made_problems.specs.Times.{start_later, end_of, is_too_short, Rests}
 use Rattle.made_problems.specs.Rested.{rested}
 use Rattle.made_problems.specs.RestLaws.{RostersRest}
 use Rattle.made_problems.proofs.Sequences.{pair_there, triple_there}
 
--- where an element stands
-stands : {X : Type 0} (xs : List X) (x : X) (h : Contains xs x) → slice_get xs h.0 ≡ Some x
-stands xs x h = slice_get-get_or xs h.0 x h.1 ∙ ap Some h.2
+-- what is forbidden stands nowhere
+no_sequence : (Q : Instance) (s : List Symbol) (p len : ℕ) (q : Sequence) → MeetsAll Q s → p < length s → Contains (sequences Q) q → IsSequence Q.days q p (window s p len) → ⊥
+no_sequence Q s p len q meets less h is = meets.rules (Never h.0) h.1 p len less (q, slice_get-get_or (sequences Q) h.0 q h.1 ∙ ap Some h.2, is)
 
-no_pair : (Q : Instance) (s : List Symbol) (p : ℕ) → MeetsAll Q s → p < length s → Contains Q.pairs (cell s p, cell s (p + 1)) → ⊥
-no_pair Q s p meets less h = meets.rules (Pair h.0) h.1 p 2 less ((cell s p, cell s (p + 1)), stands Q.pairs (cell s p, cell s (p + 1)) h, refl)
-
-no_triple : (Q : Instance) (s : List Symbol) (p : ℕ) → MeetsAll Q s → p < length s → Contains Q.triples (cell s p, cell s (p + 1), cell s (p + 2)) → ⊥
-no_triple Q s p meets less h =
-    let e : p + 2 ≡ p + 1 + 1 = omega arith in
-    meets.rules (Triple h.0) h.1 p 3 less ((cell s p, cell s (p + 1), cell s (p + 2)), stands Q.triples (cell s p, cell s (p + 1), cell s (p + 2)) h, ap (λ (q : ℕ). cell s p ∷ cell s (p + 1) ∷ cell s q ∷ []) (sym e))
+mapped : {X Y : Type 0} (f : X → Y) (xs : List X) (x : X) → Contains xs x → Contains (map f xs) (f x)
+mapped f xs x h = (h.0, omega (arith, h.1, length-map xs f), get_or-map f xs h.0 x (f x) h.1 ∙ ap f h.2)
 
 -- shifts that aren't too close rest
 rests : (P : Instance) (days minutes : ℕ) (x y : Symbol) → (is_too_short P days minutes x y ≡ true → ⊥) → Rests P days minutes x y
@@ -34,10 +32,18 @@ rests P days minutes x y h =
     ] refl
 
 pub rosters_rest : RostersRest
-rosters_rest P minutes s meets = record {
-  next_day = λ p less hx hy. rests P 1 minutes (cell s p) (cell s (p + 1)) (λ close.
-      no_pair (rested P minutes) s p meets less (pair_there P minutes (cell s p) (cell s (p + 1)) (hx, hy, close)));
-  over_a_day_off = λ p less hx off hy. rests P 2 minutes (cell s p) (cell s (p + 2)) (λ close.
-      no_triple (rested P minutes) s p meets less
-      (subst (λ (w : Symbol). Contains (rested P minutes).triples (cell s p, w, cell s (p + 2))) (sym off) (triple_there P minutes (cell s p) (cell s (p + 2)) (hx, hy, close))));
-}
+rosters_rest P minutes s meets =
+    let Q = rested P minutes in
+    let pairs = map of_pair Q.pairs in
+    let triples = map of_triple Q.triples in
+    record {
+      next_day = λ p less hx hy. rests P 1 minutes (cell s p) (cell s (p + 1)) (λ close.
+          let x : Symbol × Symbol = (cell s p, cell s (p + 1)) in
+          let there = mapped of_pair Q.pairs x (pair_there P minutes (cell s p) (cell s (p + 1)) (hx, hy, close)) in
+          no_sequence Q s p 2 (of_pair x) meets less (Contains-append_left pairs triples (of_pair x) there) (refl, tt));
+      over_a_day_off = λ p less hx off hy. rests P 2 minutes (cell s p) (cell s (p + 2)) (λ close.
+          let x : Symbol × Symbol × Symbol = (cell s p, cell s (p + 1), cell s (p + 2)) in
+          let here = subst (λ (w : Symbol). Contains Q.triples (cell s p, w, cell s (p + 2))) (sym off) (triple_there P minutes (cell s p) (cell s (p + 2)) (hx, hy, close)) in
+          let e : p + 1 + 1 ≡ p + 2 = omega arith in
+          no_sequence Q s p 3 (of_triple x) meets less (Contains-append_right pairs triples (of_triple x) (mapped of_triple Q.triples x here)) (ap (λ (n : ℕ). cell s p ∷ cell s (p + 1) ∷ cell s n ∷ []) e, tt));
+    }

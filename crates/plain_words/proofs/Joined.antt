@@ -37,9 +37,8 @@ two_of f x y old mid new first second = behind f (x ∷ []) (y ∷ []) old mid n
 pub three_of : {X : Type 0} (f : X → List ℕ) (a b c : List X) (old o1 o2 new : List ℕ) → o1 ≡ old ++ flat_map f a → o2 ≡ o1 ++ flat_map f b → new ≡ o2 ++ flat_map f c → new ≡ old ++ flat_map f (a ++ b ++ c)
 three_of f a b c old o1 o2 new h1 h2 h3 = behind f (a ++ b) c old o2 new (behind f a b old o1 o2 h1 h2) h3
 
-pub six_of : {X : Type 0} (f : X → List ℕ) (a b c d e g : List X) (old o1 o2 o3 o4 o5 new : List ℕ) → o1 ≡ old ++ flat_map f a → o2 ≡ o1 ++ flat_map f b → o3 ≡ o2 ++ flat_map f c → o4 ≡ o3 ++ flat_map f d → o5 ≡ o4 ++ flat_map f e → new ≡ o5 ++ flat_map f g → new ≡ old ++ flat_map f (a ++ b ++ c ++ d ++ e ++ g)
-six_of f a b c d e g old o1 o2 o3 o4 o5 new h1 h2 h3 h4 h5 h6 =
-    behind f (a ++ b ++ c ++ d ++ e) g old o5 new (three_of f (a ++ b ++ c) d e old o3 o4 o5 (three_of f a b c old o1 o2 o3 h1 h2 h3) h4 h5) h6
+pub five_of : {X : Type 0} (f : X → List ℕ) (a b c d e : List X) (old o1 o2 o3 o4 new : List ℕ) → o1 ≡ old ++ flat_map f a → o2 ≡ o1 ++ flat_map f b → o3 ≡ o2 ++ flat_map f c → o4 ≡ o3 ++ flat_map f d → new ≡ o4 ++ flat_map f e → new ≡ old ++ flat_map f (a ++ b ++ c ++ d ++ e)
+five_of f a b c d e old o1 o2 o3 o4 new h1 h2 h3 h4 h5 = three_of f (a ++ b ++ c) d e old o3 o4 new (three_of f a b c old o1 o2 o3 h1 h2 h3) h4 h5
 
 -- the pieces of one list more
 pub list_more : {X : Type 0} (f : X → List ℕ) (g : ℕ → List X) (a n at : ℕ) (old out new : List ℕ) → at ≡ a + n → out ≡ old ++ flat_map f (flat_map g (range_with_len a n)) → new ≡ out ++ flat_map f (g at) → new ≡ old ++ flat_map f (flat_map g (range_with_len a (n + 1)))

@@ -6,19 +6,17 @@ use Rattle.std.proofs.lemmas.Bool.{false≢true, both_ways}
 use Rattle.std.proofs.lemmas.List.{append-nil}
 use Rattle.std.proofs.lemmas.List.Folds.{list_any_at}
 use Rattle.std.proofs.lemmas.List.Elements.{filter-append, Contains-append_left, Contains-append_right, Contains-append_cases}
-use Rattle.rwsp_terms.specs.declared.data.Rule.{Rule}
-use Rattle.rwsp_terms.specs.declared.data.Rule.TheVariants.{Pair, Triple}
 use Rattle.rwsp_terms.specs.declared.data.Class.{Class}
 use Rattle.rwsp_terms.specs.declared.data.Class.TheVariants.{Shift, Off, Work}
 use Rattle.rwsp_terms.specs.declared.data.Symbol.{Symbol}
-use Rattle.rwsp_terms.specs.Instance.{Instance, shift_count, symbol_numbered}
+use Rattle.rwsp_terms.specs.Instance.{Instance, sequences, shift_count, symbol_numbered}
 use Rattle.rwsp_terms.specs.Rules.{rules}
 use Rattle.refutation_terms.specs.BlocksLeaf.{BlocksHold}
 use Rattle.rwsp_file.specs.declared.long_numbers.LongNumber.{LongNumber}
 use Rattle.plain_words.specs.declared.part.Part.{Part}
 use Rattle.plain_words.specs.declared.problem.Telling.TheVariants.{WithCounts}
 use Rattle.plain_words.specs.Statements.{Statement, Says, Named, Counted, said_if}
-use Rattle.plain_words.specs.Sentences.{size_statement, hours_statement, crossed_blocks, long_blocks, shift_slips, twice_at, pair_slips, triple_slips, crossed_slips, large_slips, demand_slips, full_slips, day_slips, slips, numeric_name, counted_at, counted, slip_statements, rule_statements, problem_statements}
+use Rattle.plain_words.specs.Sentences.{size_statement, hours_statement, crossed_blocks, long_blocks, shift_slips, twice_at, earlier, sequence_slips, crossed_slips, large_slips, demand_slips, full_slips, day_slips, slips, numeric_name, counted_at, counted, slip_statements, rule_statements, problem_statements}
 use Rattle.plain_words.specs.Counting.{is_misfit}
 use Rattle.plain_words.specs.Laws.{says_rule, RulesAreSaidOnce, CountedAreLeaves}
 use Rattle.plain_words.proofs.Misfits.{misfits_are_leaves}
@@ -46,9 +44,9 @@ pieces_none q g a (suc n) none = both_none q (g a) (flat_map g (range_with_len (
 abbrev Misses : (Statement → Bool) → Type 0
 Misses q = (text : List ℕ) (parts : List Part) → q (Says text parts) ≡ false
 
-twice_none : (q : Statement → Bool) → Misses q → (P : Instance) (rule : ℕ → Rule) (k : ℕ) (first : Option ℕ) → filter q (twice_at P rule k first) ≡ []
-twice_none q misses P rule k None = refl
-twice_none q misses P rule k (Some i) = said_none q _ _ (misses _ _)
+twice_none : (q : Statement → Bool) → Misses q → (P : Instance) (k : ℕ) (earlier : Option ℕ) → filter q (twice_at P k earlier) ≡ []
+twice_none q misses P k None = refl
+twice_none q misses P k (Some i) = one_none q _ [] (misses _ _)
 
 blocks_none : (q : Statement → Bool) → Misses q → (P : Instance) (c : Class) → filter q (crossed_blocks P c) ≡ []
 blocks_none q misses P c = said_none q _ _ (misses _ _)
@@ -66,11 +64,10 @@ shift_none q misses P x = both_none q (crossed_blocks P (Shift (symbol_numbered 
 slips_none : (q : Statement → Bool) → Misses q → (P : Instance) (is_sized : Bool) → filter q (slips P is_sized) ≡ []
 slips_none q misses P is_sized =
     let shifts = pieces_none q (shift_slips P) 1 (shift_count P) (shift_none q misses P) in
-    let pairs = pieces_none q (pair_slips P) 0 (length P.pairs) (λ k. twice_none q misses P Pair k _) in
-    let triples = pieces_none q (triple_slips P) 0 (length P.triples) (λ k. twice_none q misses P Triple k _) in
+    let twice = pieces_none q (sequence_slips P) 0 (length (sequences P)) (λ k. twice_none q misses P k (earlier P k)) in
     let days = pieces_none q (day_slips P is_sized) 1 P.days (day_none q misses P is_sized) in
     let blocks = both_none q _ _ (both_none q _ _ shifts (blocks_none q misses P Off)) (blocks_none q misses P Work) in
-    both_none q _ _ (both_none q _ _ (both_none q _ _ blocks pairs) triples) days
+    both_none q _ _ (both_none q _ _ blocks twice) days
 
 -- nor a slip or a long name
 abbrev before_counts : Instance → List LongNumber → List Statement

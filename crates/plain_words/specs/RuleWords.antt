@@ -4,14 +4,15 @@ use Rattle.std.specs.Fmt.{decimal}
 use Rattle.std.specs.List.{find, flat_map, range_with_len}
 use Rattle.rwsp_terms.specs.declared.data.Bounds.{Bounds}
 use Rattle.rwsp_terms.specs.declared.data.Symbol.{Symbol}
+use Rattle.rwsp_terms.specs.declared.data.Sequence.{Sequence}
 use Rattle.rwsp_terms.specs.declared.data.Class.{Class}
 use Rattle.rwsp_terms.specs.declared.data.Class.TheVariants.{Shift, Off, Work}
 use Rattle.rwsp_terms.specs.declared.data.Rule.{Rule}
-use Rattle.rwsp_terms.specs.declared.data.Rule.TheVariants.{MaxShift, MinShift, MaxOff, MinOff, MaxWork, MinWork, Pair, Triple, Day}
-use Rattle.rwsp_terms.specs.Instance.{Instance, bounds, shift_count, shift_demand, column_least, column_greatest}
+use Rattle.rwsp_terms.specs.declared.data.Rule.TheVariants.{Most, Least, Never, Day}
+use Rattle.rwsp_terms.specs.Instance.{Instance, bounds, sequences, shift_count, shift_demand, column_least, column_greatest}
 use Rattle.plain_words.specs.Words.{days_words, weeks_words, range_words, shift_words, symbol_words}
 use Rattle.plain_words.specs.Fixed.{fixed}
-use Rattle.plain_words.specs.declared.pieces.TheConstants.{AT_LEAST, AT_MOST, BLANK, COLON, COMMA, DAYS_OFF, DAY_FRONT, DAY_OFF, DOTS, FOR_OFF, IN_A_ROW, IS_CROSSED, NEEDS, NEVER, OF, OF_WORK, THEN}
+use Rattle.plain_words.specs.declared.pieces.TheConstants.{AT_LEAST, AT_MOST, BLANK, COLON, COMMA, DAYS_OFF, DAY_FRONT, DAY_OFF, DOTS, FOR_OFF, IN_A_ROW, IS_CROSSED, NEEDS, NEVER, OF, OF_WORK, ON_DAY, THEN}
 
 -- the days that the blocks of a class are made of
 unfoldable pub class_words : Instance → Class → List ℕ
@@ -27,23 +28,28 @@ most_words P c = fixed AT_MOST.now ++ days_words (bounds P c).greatest ++ class_
 unfoldable pub least_words : Instance → Class → List ℕ
 least_words P c = fixed AT_LEAST.now ++ days_words (bounds P c).least ++ class_words P c ++ fixed IN_A_ROW.now
 
--- `never N, then D`
-unfoldable pub pair_words : Instance → Symbol × Symbol → List ℕ
-pair_words P x =
-    fixed NEVER.now ++ symbol_words P x.0 DAY_OFF.now ++ fixed THEN.now ++ symbol_words P x.1 DAY_OFF.now
+-- the day of the week of the first symbol of a sequence, where one is named
+unfoldable pub on_day_words : Option ℕ → List ℕ
+on_day_words None = []
+on_day_words (Some day) = fixed ON_DAY.now ++ decimal day
 
--- `never N, then a day off, then D`
-unfoldable pub triple_words : Instance → Symbol × Symbol × Symbol → List ℕ
-triple_words P x =
-    pair_words P (x.0, x.1) ++ fixed THEN.now ++ symbol_words P x.2 DAY_OFF.now
+-- a symbol behind another, and a third one, where there is one
+unfoldable pub then_words : Instance → Symbol → List ℕ
+then_words P x = fixed THEN.now ++ symbol_words P x DAY_OFF.now
 
-abbrev pub pair_in_words : Instance → Option (Symbol × Symbol) → List ℕ
-pair_in_words P None = []
-pair_in_words P (Some x) = pair_words P x
+unfoldable pub third_words : Instance → Option Symbol → List ℕ
+third_words P None = []
+third_words P (Some x) = then_words P x
 
-abbrev pub triple_in_words : Instance → Option (Symbol × Symbol × Symbol) → List ℕ
-triple_in_words P None = []
-triple_in_words P (Some x) = triple_words P x
+-- `never N, then D`; `never N, then a day off, then D`
+unfoldable pub sequence_words : Instance → Sequence → List ℕ
+sequence_words P q =
+    fixed NEVER.now ++ symbol_words P q.first DAY_OFF.now ++ on_day_words q.day ++ then_words P q.second
+    ++ third_words P q.third
+
+abbrev pub sequence_in_words : Instance → Option Sequence → List ℕ
+sequence_in_words P None = []
+sequence_in_words P (Some q) = sequence_words P q
 
 -- what is demanded of a shift on a day, as `D 4 to 5, `
 unfoldable pub wanted_words : Instance → (j x : ℕ) → List ℕ
@@ -84,14 +90,9 @@ day_words P j = fixed DAY_FRONT.now ++ decimal j ++ fixed COLON.now ++ demand_wo
 
 -- the words of a rule
 unfoldable pub rule_words : Instance → Rule → List ℕ
-rule_words P (MaxShift x) = most_words P (Shift x)
-rule_words P (MinShift x) = least_words P (Shift x)
-rule_words P MaxOff = most_words P Off
-rule_words P MinOff = least_words P Off
-rule_words P MaxWork = most_words P Work
-rule_words P MinWork = least_words P Work
-rule_words P (Pair k) = pair_in_words P (slice_get P.pairs k)
-rule_words P (Triple k) = triple_in_words P (slice_get P.triples k)
+rule_words P (Most c) = most_words P c
+rule_words P (Least c) = least_words P c
+rule_words P (Never k) = sequence_in_words P (slice_get (sequences P) k)
 rule_words P (Day j) = day_words P j
 
 unfoldable pub rule_in_words : Instance → Option Rule → List ℕ

@@ -1,14 +1,15 @@
 -- What is said of a problem, statement by statement.
-use Rattle.std.specs.Prelude.{ℕ, ◌+◌, ◌-◌, ◌*◌, ◌/◌, ◌%◌, List, [], ◌∷◌, ◌++◌, length, map, slice_get, slice_index_or, Option, Some, None, option_map, unwrap_or, position, Bool, true, false, ◌&&◌, ◌||◌, ◌==◌, nat_lt, if◌then◌else◌}
-use Rattle.std.specs.List.{flat_map, range_with_len, sum_by}
+use Rattle.std.specs.Prelude.{ℕ, ◌+◌, ◌-◌, ◌*◌, ◌/◌, ◌%◌, List, [], ◌∷◌, ◌++◌, length, map, slice_get, Option, Some, None, option_map, unwrap_or, Bool, true, false, ◌&&◌, ◌||◌, ◌==◌, nat_lt, if◌then◌else◌}
+use Rattle.std.specs.List.{find, flat_map, range_with_len, sum_by}
+use Rattle.std.specs.Option.{option_eq}
 use Rattle.rwsp_terms.specs.declared.data.Bounds.{Bounds}
-use Rattle.rwsp_terms.specs.declared.data.Symbol.{Symbol}
+use Rattle.rwsp_terms.specs.declared.data.Sequence.{Sequence}
 use Rattle.rwsp_terms.specs.declared.data.ShiftRow.{ShiftRow}
 use Rattle.rwsp_terms.specs.declared.data.Class.{Class}
 use Rattle.rwsp_terms.specs.declared.data.Class.TheVariants as Classes
 use Rattle.rwsp_terms.specs.declared.data.Rule.{Rule}
-use Rattle.rwsp_terms.specs.declared.data.Rule.TheVariants.{MaxShift, MinShift, MaxOff, MinOff, MaxWork, MinWork, Pair, Triple, Day}
-use Rattle.rwsp_terms.specs.Instance.{Instance, bounds, shift_count, shift_demand, column_least, symbol_numbered, off_symbol}
+use Rattle.rwsp_terms.specs.declared.data.Rule.TheVariants.{Most, Least, Never, Day}
+use Rattle.rwsp_terms.specs.Instance.{Instance, bounds, sequences, shift_count, shift_demand, column_least, symbol_numbered}
 use Rattle.rwsp_terms.specs.Rules.{rules}
 use Rattle.rwsp_model.specs.RuleNumbers.{place_of}
 use Rattle.rwsp_file.specs.declared.long_numbers.LongNumber.{LongNumber}
@@ -61,12 +62,6 @@ hours_statement P = hours_by (mean_tenths P false) (mean_tenths P true)
 
 -- Slips, with the numbers of their rules in front.
 
--- the rules of the greatest and of the least length of a class
-abbrev pub block_rules : Class → Rule × Rule
-block_rules (Classes.Shift x) = (MaxShift x, MinShift x)
-block_rules Classes.Off = (MaxOff, MinOff)
-block_rules Classes.Work = (MaxWork, MinWork)
-
 abbrev pub number_of : Instance → Rule → ℕ
 number_of P r = place_of P r + 1
 
@@ -75,8 +70,8 @@ abbrev pub crossed_blocks : Instance → Class → List Statement
 crossed_blocks P c =
     said_if (nat_lt (bounds P c).greatest (bounds P c).least)
     (Says CROSSED_BLOCKS.now
-    (Number (number_of P (block_rules c).0) ∷ Number (number_of P (block_rules c).1)
-    ∷ Part.Rule (number_of P (block_rules c).1) ∷ Number (bounds P c).greatest ∷ []))
+    (Number (number_of P (Most c)) ∷ Number (number_of P (Least c)) ∷ Part.Rule (number_of P (Least c))
+    ∷ Number (bounds P c).greatest ∷ []))
 
 -- a shift's blocks that are longer than any block of work:
 -- `rules 4 and 7: at least 6 days of N in a row, but at most 5 days of work in a row`
@@ -84,8 +79,9 @@ abbrev pub long_blocks : Instance → (x : ℕ) → List Statement
 long_blocks P x =
     said_if (nat_lt P.work.greatest (bounds P (Classes.Shift (symbol_numbered x))).least)
     (Says LONG_BLOCKS.now
-    (Number (number_of P (MinShift (symbol_numbered x))) ∷ Number (number_of P MaxWork)
-    ∷ Part.Rule (number_of P (MinShift (symbol_numbered x))) ∷ Part.Rule (number_of P MaxWork) ∷ []))
+    (Number (number_of P (Least (Classes.Shift (symbol_numbered x)))) ∷ Number (number_of P (Most Classes.Work))
+    ∷ Part.Rule (number_of P (Least (Classes.Shift (symbol_numbered x))))
+    ∷ Part.Rule (number_of P (Most Classes.Work)) ∷ []))
 
 abbrev pub shift_slips : Instance → (x : ℕ) → List Statement
 shift_slips P x = crossed_blocks P (Classes.Shift (symbol_numbered x)) ++ long_blocks P x
@@ -94,27 +90,32 @@ shift_slips P x = crossed_blocks P (Classes.Shift (symbol_numbered x)) ++ long_b
 abbrev pub twice_by : (first second : ℕ) → Statement
 twice_by first second = Says TWICE.now (Number first ∷ Number second ∷ Part.Rule second ∷ [])
 
--- that at place k, where its first place is an earlier one
-abbrev pub twice_at : Instance → (ℕ → Rule) → (k : ℕ) → Option ℕ → List Statement
-twice_at P rule k None = []
-twice_at P rule k (Some i) = said_if (nat_lt i k) (twice_by (number_of P (rule i)) (number_of P (rule k)))
+-- that at place k, where an earlier place has it
+abbrev pub twice_at : Instance → (k : ℕ) → (earlier : Option ℕ) → List Statement
+twice_at P k None = []
+twice_at P k (Some i) = twice_by (number_of P (Never i)) (number_of P (Never k)) ∷ []
 
 -- the two sequences are one
-abbrev pub is_same_pair : (x y : Symbol × Symbol) → Bool
-is_same_pair x y = (x.0.number == y.0.number) && (x.1.number == y.1.number)
+abbrev pub is_same : (x y : Sequence) → Bool
+is_same x y =
+    (x.first.number == y.first.number) && (x.second.number == y.second.number)
+    && option_eq (λ a b. a.number == b.number) x.third y.third && option_eq ◌==◌ x.day y.day
 
-abbrev pub is_same_triple : (x y : Symbol × Symbol × Symbol) → Bool
-is_same_triple x y = (x.0.number == y.0.number) && (x.1.number == y.1.number) && (x.2.number == y.2.number)
+abbrev pub are_same : Option Sequence → Option Sequence → Bool
+are_same (Some x) (Some y) = is_same x y
+are_same x y = false
+
+-- the sequences at two places are one
+abbrev pub stands_at : Instance → (k i : ℕ) → Bool
+stands_at P k i = are_same (slice_get (sequences P) k) (slice_get (sequences P) i)
+
+-- the first earlier place of the sequence at place k
+abbrev pub earlier : Instance → (k : ℕ) → Option ℕ
+earlier P k = find (stands_at P k) (range_with_len 0 k)
 
 -- the sequence at place k stands earlier too
-abbrev pub pair_slips : Instance → (k : ℕ) → List Statement
-pair_slips P k =
-    twice_at P Pair k (position (is_same_pair (slice_index_or P.pairs k (off_symbol, off_symbol))) P.pairs)
-
-abbrev pub triple_slips : Instance → (k : ℕ) → List Statement
-triple_slips P k =
-    twice_at P Triple k
-    (position (is_same_triple (slice_index_or P.triples k (off_symbol, off_symbol, off_symbol))) P.triples)
+abbrev pub sequence_slips : Instance → (k : ℕ) → List Statement
+sequence_slips P k = twice_at P k (earlier P k)
 
 -- one of the numbers is above that of the weeks
 abbrev pub is_large : Instance → Bounds → Bool
@@ -152,8 +153,7 @@ day_slips P is_sized j =
 abbrev pub slips : Instance → (is_sized : Bool) → List Statement
 slips P is_sized =
     flat_map (shift_slips P) (range_with_len 1 (shift_count P)) ++ crossed_blocks P Classes.Off
-    ++ crossed_blocks P Classes.Work ++ flat_map (pair_slips P) (range_with_len 0 (length P.pairs))
-    ++ flat_map (triple_slips P) (range_with_len 0 (length P.triples))
+    ++ crossed_blocks P Classes.Work ++ flat_map (sequence_slips P) (range_with_len 0 (length (sequences P)))
     ++ flat_map (day_slips P is_sized) (range_with_len 1 P.days)
 
 -- The whole.

@@ -8,7 +8,7 @@ use Rattle.rwsp_terms.specs.declared.data.Class.{Class}
 use Rattle.rwsp_terms.specs.declared.data.Class.TheVariants.{Shift, Off}
 use Rattle.rwsp_terms.specs.declared.data.Symbol.{Symbol}
 use Rattle.rwsp_terms.specs.declared.data.Rule.{Rule}
-use Rattle.rwsp_terms.specs.declared.data.Rule.TheVariants.{MaxShift, MinShift, MaxOff, MinOff, MaxWork, MinWork, Pair, Triple, Day}
+use Rattle.rwsp_terms.specs.declared.data.Rule.TheVariants.{Most, Least, Never, Day}
 use Rattle.rwsp_terms.specs.Instance.{Instance, bounds, shift_count, shift_demand, symbol_numbered, least, greatest}
 use Rattle.rwsp_terms.specs.Rules.{rule_of}
 use Rattle.rwsp_terms.specs.Roster.{weeks_with}
@@ -24,7 +24,7 @@ use Rattle.crew_size.specs.declared.verdict.Staffed.TheVariants as Verdicts
 use Rattle.crew_size.specs.declared.verdict.StaffRefusal.{StaffRefusal}
 use Rattle.crew_size.specs.declared.verdict.StaffRefusal.TheVariants as Staffs
 use Rattle.ways_out.specs.declared.change.Change.{Change}
-use Rattle.ways_out.specs.declared.change.Change.TheVariants.{LongerBlocks, ShorterBlocks, LowerDemand, HigherDemand, DroppedPair, DroppedTriple}
+use Rattle.ways_out.specs.declared.change.Change.TheVariants.{LongerBlocks, ShorterBlocks, LowerDemand, HigherDemand, Dropped}
 use Rattle.ways_out.specs.declared.change.Outcome.{Outcome}
 use Rattle.ways_out.specs.declared.change.Outcome.TheVariants.{Helps}
 use Rattle.ways_out.specs.Loosened.{raised, lowered, changed_rule}
@@ -74,14 +74,9 @@ breaks text b n = Says text (Number b.rule ∷ Part.Rule b.rule ∷ Number b.wee
 -- how: `.., but the block from week 1, day 1 on has 5 days or more`; `.., but the block behind week 1, day 1 has 1 day`,
 -- of the days between the first and the last of the bad ones; `.., but so it is from week 3, day 2 on`
 abbrev pub rule_broken : Broken → Rule → Statement
-rule_broken b (MaxShift x) = breaks TOO_LONG.now b b.length
-rule_broken b (MinShift x) = breaks TOO_SHORT.now b (b.length - 2)
-rule_broken b MaxOff = breaks TOO_LONG.now b b.length
-rule_broken b MinOff = breaks TOO_SHORT.now b (b.length - 2)
-rule_broken b MaxWork = breaks TOO_LONG.now b b.length
-rule_broken b MinWork = breaks TOO_SHORT.now b (b.length - 2)
-rule_broken b (Pair k) = breaks FORBIDDEN.now b b.length
-rule_broken b (Triple k) = breaks FORBIDDEN.now b b.length
+rule_broken b (Most c) = breaks TOO_LONG.now b b.length
+rule_broken b (Least c) = breaks TOO_SHORT.now b (b.length - 2)
+rule_broken b (Never k) = breaks FORBIDDEN.now b b.length
 rule_broken b (Day j) = breaks BREAKS.now b b.length
 
 abbrev pub some_broken : Broken → Option Rule → Statement
@@ -184,8 +179,7 @@ changed P k (LowerDemand j x) n =
     widened k j x.number (shift_demand P x.number j) (lowered n (shift_demand P x.number j))
 changed P k (HigherDemand j x) n =
     widened k j x.number (shift_demand P x.number j) (raised n (shift_demand P x.number j))
-changed P k (DroppedPair i) n = dropped k
-changed P k (DroppedTriple i) n = dropped k
+changed P k (Dropped i) n = dropped k
 
 -- a change that helps
 abbrev pub way_statement : Instance → Change → Outcome → List Statement

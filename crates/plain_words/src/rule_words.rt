@@ -1,5 +1,5 @@
 // A rule in words.
-#![tactic(auto, unfolding(crate::specs::RuleWords::class_words, crate::specs::RuleWords::most_words, crate::specs::RuleWords::least_words, crate::specs::RuleWords::pair_words, crate::specs::RuleWords::triple_words, crate::specs::RuleWords::wanted_words, crate::specs::RuleWords::off_words, crate::specs::RuleWords::crossed_words, crate::specs::RuleWords::demand_words, crate::specs::RuleWords::day_words, crate::specs::RuleWords::rule_words, crate::specs::RuleWords::rule_in_words), using(crate::proofs::Joined::piece_more, crate::proofs::Joined::none_found))]
+#![tactic(auto, unfolding(crate::specs::RuleWords::class_words, crate::specs::RuleWords::most_words, crate::specs::RuleWords::least_words, crate::specs::RuleWords::on_day_words, crate::specs::RuleWords::then_words, crate::specs::RuleWords::third_words, crate::specs::RuleWords::sequence_words, crate::specs::RuleWords::wanted_words, crate::specs::RuleWords::off_words, crate::specs::RuleWords::crossed_words, crate::specs::RuleWords::demand_words, crate::specs::RuleWords::day_words, crate::specs::RuleWords::rule_words, crate::specs::RuleWords::rule_in_words), using(crate::proofs::Joined::piece_more, crate::proofs::Joined::none_found))]
 
 ghost use Rattle.std.specs.Prelude.{◌≡◌, ◌++◌, ◌+◌, ◌-◌, ◌*◌, ◌<◌, ◌≤◌, IfSome, OnOk, Some};
 ghost use Rattle.std.specs.List.{flat_map, range_with_len};
@@ -8,15 +8,15 @@ ghost use Rattle.rwsp_terms.specs.Instance.{bounds, shift_count, column_least, c
 ghost use Rattle.rwsp_terms.specs.Roster.{IsRule};
 ghost use Rattle.rwsp_terms.specs.Rules.{rule_of};
 ghost use Rattle.rwsp_model.specs.RuleNumbers.{place_of};
-ghost use Rattle.plain_words.specs.RuleWords.{class_words, most_words, least_words, pair_words, triple_words, wanted_words, off_range, off_words, is_crossed, crossed_words, first_crossed, demand_words, day_words, rule_words, rule_in_words};
+ghost use Rattle.plain_words.specs.RuleWords.{class_words, most_words, least_words, on_day_words, then_words, third_words, sequence_words, wanted_words, off_range, off_words, is_crossed, crossed_words, first_crossed, demand_words, day_words, rule_words, rule_in_words};
 
 use crate::pieces::{
     AT_LEAST, AT_MOST, BLANK, COLON, COMMA, DAY_FRONT, DAY_OFF, DAYS_OFF, DOTS, Done, FOR_OFF,
-    IN_A_ROW, IS_CROSSED, NEEDS, NEVER, OF, OF_WORK, THEN, put,
+    IN_A_ROW, IS_CROSSED, NEEDS, NEVER, OF, OF_WORK, ON_DAY, THEN, put,
 };
 use crate::words::{put_days, put_range, put_shift, put_symbol, put_weeks};
 use rwsp_model::{Problem, number_of, rule_at, rule_count};
-use rwsp_terms::{Bounds, Class, Rule, Symbol};
+use rwsp_terms::{Bounds, Class, Rule, Sequence, Symbol};
 use rwsp_text::put_number;
 
 /// Appends the days that the blocks of a class are made of.
@@ -55,23 +55,44 @@ fn put_least(out: &mut Vec<u8>, problem: &Problem, class: Class) -> Done
     put(out, IN_A_ROW)
 }
 
-// Appends a forbidden pair.
-fn put_pair(out: &mut Vec<u8>, problem: &Problem, pair: (Symbol, Symbol)) -> Done
-    ensures { OnOk result (out.new.items ≡ out.old.items ++ pair_words problem.now pair) }
+// Appends the day of the week of a forbidden sequence, where one is named.
+fn put_on_day(out: &mut Vec<u8>, day: Option<u32>) -> Done
+    ensures { OnOk result (out.new.items ≡ out.old.items ++ on_day_words day) }
 {
-    put(out, NEVER)?;
-    put_symbol(out, problem, pair.0, DAY_OFF)?;
-    put(out, THEN)?;
-    put_symbol(out, problem, pair.1, DAY_OFF)
+    let Some(day) = day else {
+        return Ok(());
+    };
+    put(out, ON_DAY)?;
+    put_number(out, u64::from(day))
 }
 
-// Appends a forbidden triple.
-fn put_triple(out: &mut Vec<u8>, problem: &Problem, triple: (Symbol, Symbol, Symbol)) -> Done
-    ensures { OnOk result (out.new.items ≡ out.old.items ++ triple_words problem.now triple) }
+// Appends a symbol behind another.
+fn put_then(out: &mut Vec<u8>, problem: &Problem, x: Symbol) -> Done
+    ensures { OnOk result (out.new.items ≡ out.old.items ++ then_words problem.now x) }
 {
-    put_pair(out, problem, (triple.0, triple.1))?;
     put(out, THEN)?;
-    put_symbol(out, problem, triple.2, DAY_OFF)
+    put_symbol(out, problem, x, DAY_OFF)
+}
+
+// Appends a third symbol, where there is one.
+fn put_third(out: &mut Vec<u8>, problem: &Problem, third: Option<Symbol>) -> Done
+    ensures { OnOk result (out.new.items ≡ out.old.items ++ third_words problem.now third) }
+{
+    match third {
+        Some(x) => put_then(out, problem, x),
+        None => Ok(()),
+    }
+}
+
+// Appends a forbidden sequence.
+fn put_sequence(out: &mut Vec<u8>, problem: &Problem, sequence: Sequence) -> Done
+    ensures { OnOk result (out.new.items ≡ out.old.items ++ sequence_words problem.now sequence) }
+{
+    put(out, NEVER)?;
+    put_symbol(out, problem, sequence.first, DAY_OFF)?;
+    put_on_day(out, sequence.day)?;
+    put_then(out, problem, sequence.second)?;
+    put_third(out, problem, sequence.third)
 }
 
 // Appends what is demanded of a shift on a day.
@@ -206,16 +227,10 @@ pub fn put_rule_words(out: &mut Vec<u8>, problem: &Problem, rule: Rule) -> Done
     requires { IsRule problem.now rule }
     ensures { OnOk result (out.new.items ≡ out.old.items ++ rule_words problem.now rule) }
 {
-    problem.prove_limits();
     match rule {
-        Rule::MaxShift(shift) => put_most(out, problem, Class::Shift(shift)),
-        Rule::MinShift(shift) => put_least(out, problem, Class::Shift(shift)),
-        Rule::MaxOff => put_most(out, problem, Class::Off),
-        Rule::MinOff => put_least(out, problem, Class::Off),
-        Rule::MaxWork => put_most(out, problem, Class::Work),
-        Rule::MinWork => put_least(out, problem, Class::Work),
-        Rule::Pair(place) => put_pair(out, problem, problem.pairs()[place as usize]),
-        Rule::Triple(place) => put_triple(out, problem, problem.triples()[place as usize]),
+        Rule::Most(class) => put_most(out, problem, class),
+        Rule::Least(class) => put_least(out, problem, class),
+        Rule::Never(place) => put_sequence(out, problem, problem.sequence(place)),
         Rule::Day(day) => put_day(out, problem, day),
     }
 }

@@ -1,12 +1,11 @@
 // What looks like a slip in a problem.
 #![tactic(auto, using(crate::proofs::Joined::one_of, crate::proofs::Joined::behind, crate::proofs::Joined::list_more))]
 
-ghost use Rattle.std.specs.Prelude.{◌≡◌, ◌+◌, ◌<◌, ◌≤◌, ◌∷◌, [], ◌++◌, length, position, IfSome, OnOk};
+ghost use Rattle.std.specs.Prelude.{◌≡◌, ◌+◌, ◌<◌, ◌≤◌, ◌∷◌, [], ◌++◌, length, IfSome, OnOk};
 ghost use Rattle.std.specs.List.{flat_map, range_with_len};
-ghost use Rattle.rwsp_terms.specs.Instance.{shift_count, IsClass, IsDay};
-ghost use Rattle.rwsp_terms.specs.Roster.{IsRule};
+ghost use Rattle.rwsp_terms.specs.Instance.{sequences, shift_count, IsClass, IsDay};
 ghost use Rattle.plain_words.specs.Statements.{lines};
-ghost use Rattle.plain_words.specs.Sentences.{block_rules, crossed_blocks, long_blocks, shift_slips, twice_by, is_same_pair, is_same_triple, pair_slips, triple_slips, is_large, demand_slips, day_slips, slips};
+ghost use Rattle.plain_words.specs.Sentences.{crossed_blocks, long_blocks, shift_slips, twice_by, is_same, stands_at, earlier, sequence_slips, is_large, demand_slips, day_slips, slips};
 
 use crate::part::Part::{Crossed, Name, Number, Range, Rule as Stated, Weeks};
 use crate::pieces::{
@@ -15,29 +14,15 @@ use crate::pieces::{
 use crate::rule_words::{is_crossed, least_of_day, rule_number};
 use crate::statement::{Teller, put_if, put_line};
 use rwsp_model::Problem;
-use rwsp_terms::{Bounds, Class, Rule, Symbol};
-
-// The rules of the greatest and of the least length of a class.
-fn block_rules(problem: &Problem, class: Class) -> (Rule, Rule)
-    requires { IsClass problem.now class }
-    ensures value { result ≡ block_rules class }
-    ensures rules { IsRule problem.now result.0 × IsRule problem.now result.1 }
-{
-    match class {
-        Class::Shift(shift) => (Rule::MaxShift(shift), Rule::MinShift(shift)),
-        Class::Off => (Rule::MaxOff, Rule::MinOff),
-        Class::Work => (Rule::MaxWork, Rule::MinWork),
-    }
-}
+use rwsp_terms::{Bounds, Class, Rule, Sequence, Symbol};
 
 // Appends that a least length of blocks is above the greatest, where it is.
 fn put_crossed_blocks(out: &mut Vec<u8>, by: &Teller, class: Class) -> Done
     requires { IsClass by.now.problem.now class }
     ensures { OnOk result (out.new.items ≡ out.old.items ++ lines by.now (crossed_blocks by.now.problem.now class)) }
 {
-    let rules = block_rules(by.problem, class);
-    let most = rule_number(by.problem, rules.0);
-    let least = rule_number(by.problem, rules.1);
+    let most = rule_number(by.problem, Rule::Most(class));
+    let least = rule_number(by.problem, Rule::Least(class));
     let bounds = by.problem.bounds(class);
     let is_said = bounds.greatest < bounds.least;
     let parts = [
@@ -54,11 +39,10 @@ fn put_long_blocks(out: &mut Vec<u8>, by: &Teller, number: u8) -> Done
     requires { (0 < number) × (number ≤ shift_count by.now.problem.now) }
     ensures { OnOk result (out.new.items ≡ out.old.items ++ lines by.now (long_blocks by.now.problem.now number)) }
 {
-    let shift = Symbol { number };
-    let least = rule_number(by.problem, Rule::MinShift(shift));
-    let most = rule_number(by.problem, Rule::MaxWork);
-    let is_said = by.problem.bounds(Class::Work).greatest
-        < by.problem.bounds(Class::Shift(shift)).least;
+    let class = Class::Shift(Symbol { number });
+    let least = rule_number(by.problem, Rule::Least(class));
+    let most = rule_number(by.problem, Rule::Most(Class::Work));
+    let is_said = by.problem.bounds(Class::Work).greatest < by.problem.bounds(class).least;
     let parts = [Number(least), Number(most), Stated(least), Stated(most)];
     put_if(out, by, is_said, LONG_BLOCKS, &parts)
 }
@@ -83,37 +67,35 @@ fn put_all_shift_slips(out: &mut Vec<u8>, by: &Teller) -> Done
     Ok(())
 }
 
-// Whether the two pairs are one.
-fn is_same_pair(x: (Symbol, Symbol), y: (Symbol, Symbol)) -> bool
-    ensures { result ≡ is_same_pair x y }
+// Whether the two sequences are one.
+fn is_same(x: Sequence, y: Sequence) -> bool
+    ensures { result ≡ is_same x y }
 {
-    x.0.number == y.0.number && x.1.number == y.1.number
+    x.first == y.first && x.second == y.second && x.third == y.third && x.day == y.day
 }
 
-// Whether the two triples are one.
-fn is_same_triple(x: (Symbol, Symbol, Symbol), y: (Symbol, Symbol, Symbol)) -> bool
-    ensures { result ≡ is_same_triple x y }
+// Whether the sequences at two places are one.
+fn stands_at(problem: &Problem, place: u32, earlier: u32) -> bool
+    requires place { place < length (sequences problem.now) }
+    requires earlier { earlier < length (sequences problem.now) }
+    ensures { result ≡ stands_at problem.now place earlier }
 {
-    x.0.number == y.0.number && x.1.number == y.1.number && x.2.number == y.2.number
+    is_same(problem.sequence(place), problem.sequence(earlier))
 }
 
-// The first place of a pair.
-fn place_of_pair(pairs: &[(Symbol, Symbol)], x: (Symbol, Symbol)) -> Option<usize>
-    ensures place { result ≡ position (is_same_pair x) pairs.now }
-    ensures within { IfSome result (λ i. i < length pairs.now) }
+// The first earlier place of the sequence at a place.
+#[tactic(auto, using(crate::proofs::Joined::none_found))]
+fn earlier(problem: &Problem, place: u32) -> Option<u32>
+    requires { place < length (sequences problem.now) }
+    ensures value { result ≡ earlier problem.now place }
+    ensures before { IfSome result (λ i. i < place) }
 {
-    pairs.iter().position(|y| is_same_pair(x, *y))
-}
-
-// The first place of a triple.
-fn place_of_triple(
-    triples: &[(Symbol, Symbol, Symbol)],
-    x: (Symbol, Symbol, Symbol),
-) -> Option<usize>
-    ensures place { result ≡ position (is_same_triple x) triples.now }
-    ensures within { IfSome result (λ i. i < length triples.now) }
-{
-    triples.iter().position(|y| is_same_triple(x, *y))
+    for i in 0..place {
+        if stands_at(problem, place, i) {
+            return Some(i);
+        }
+    }
+    None
 }
 
 // Appends that a sequence stands twice, by its rules.
@@ -124,54 +106,27 @@ fn put_twice(out: &mut Vec<u8>, by: &Teller, first: u32, second: u32) -> Done
     put_line(out, by, TWICE, &parts)
 }
 
-// Appends that the pair at a place stands earlier too, where it does.
-fn put_pair_slips(out: &mut Vec<u8>, by: &Teller, place: u32) -> Done
-    requires { place < length by.now.problem.now.pairs }
-    ensures { OnOk result (out.new.items ≡ out.old.items ++ lines by.now (pair_slips by.now.problem.now place)) }
+// Appends that the sequence at a place stands earlier too, where it does.
+fn put_sequence_slips(out: &mut Vec<u8>, by: &Teller, place: u32) -> Done
+    requires { place < length (sequences by.now.problem.now) }
+    ensures { OnOk result (out.new.items ≡ out.old.items ++ lines by.now (sequence_slips by.now.problem.now place)) }
 {
-    by.problem.prove_limits();
-    match place_of_pair(by.problem.pairs(), by.problem.pairs()[place as usize]) {
-        Some(first) if first < place as usize => {
-            let first = rule_number(by.problem, Rule::Pair(first as u32));
-            put_twice(out, by, first, rule_number(by.problem, Rule::Pair(place)))
+    match earlier(by.problem, place) {
+        Some(first) => {
+            let first = rule_number(by.problem, Rule::Never(first));
+            put_twice(out, by, first, rule_number(by.problem, Rule::Never(place)))
         }
-        _ => Ok(()),
+        None => Ok(()),
     }
 }
 
-// Appends that the triple at a place stands earlier too, where it does.
-fn put_triple_slips(out: &mut Vec<u8>, by: &Teller, place: u32) -> Done
-    requires { place < length by.now.problem.now.triples }
-    ensures { OnOk result (out.new.items ≡ out.old.items ++ lines by.now (triple_slips by.now.problem.now place)) }
-{
-    by.problem.prove_limits();
-    match place_of_triple(by.problem.triples(), by.problem.triples()[place as usize]) {
-        Some(first) if first < place as usize => {
-            let first = rule_number(by.problem, Rule::Triple(first as u32));
-            put_twice(out, by, first, rule_number(by.problem, Rule::Triple(place)))
-        }
-        _ => Ok(()),
-    }
-}
-
-// Appends which pairs stand twice. It costs a step for each two of them.
-fn put_all_pair_slips(out: &mut Vec<u8>, by: &Teller) -> Done
+// Appends which sequences stand twice. It costs a step for each two of them.
+fn put_all_sequence_slips(out: &mut Vec<u8>, by: &Teller) -> Done
     ensures { OnOk result (out.new.items ≡ out.old.items ++ lines by.now
-        (flat_map (pair_slips by.now.problem.now) (range_with_len 0 (length by.now.problem.now.pairs)))) }
+        (flat_map (sequence_slips by.now.problem.now) (range_with_len 0 (length (sequences by.now.problem.now))))) }
 {
-    for place in 0..by.problem.pairs().len() as u32 {
-        put_pair_slips(out, by, place)?;
-    }
-    Ok(())
-}
-
-// Appends which triples stand twice. It costs a step for each two of them.
-fn put_all_triple_slips(out: &mut Vec<u8>, by: &Teller) -> Done
-    ensures { OnOk result (out.new.items ≡ out.old.items ++ lines by.now
-        (flat_map (triple_slips by.now.problem.now) (range_with_len 0 (length by.now.problem.now.triples)))) }
-{
-    for place in 0..by.problem.triples().len() as u32 {
-        put_triple_slips(out, by, place)?;
+    for place in 0..by.problem.sequence_count() {
+        put_sequence_slips(out, by, place)?;
     }
     Ok(())
 }
@@ -241,14 +196,13 @@ fn put_all_day_slips(out: &mut Vec<u8>, by: &Teller, is_sized: bool) -> Done
 }
 
 /// Appends what looks like a slip, in the order of the rules, with what goes by the number of weeks or without.
-#[tactic(auto, using(crate::proofs::Joined::six_of))]
+#[tactic(auto, using(crate::proofs::Joined::five_of))]
 pub fn put_slips(out: &mut Vec<u8>, by: &Teller, is_sized: bool) -> Done
     ensures { OnOk result (out.new.items ≡ out.old.items ++ lines by.now (slips by.now.problem.now is_sized)) }
 {
     put_all_shift_slips(out, by)?;
     put_crossed_blocks(out, by, Class::Off)?;
     put_crossed_blocks(out, by, Class::Work)?;
-    put_all_pair_slips(out, by)?;
-    put_all_triple_slips(out, by)?;
+    put_all_sequence_slips(out, by)?;
     put_all_day_slips(out, by, is_sized)
 }

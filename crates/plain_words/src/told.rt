@@ -144,13 +144,9 @@ fn put_rule_broken(out: &mut Vec<u8>, by: &Teller, broken: Broken, rule: Rule) -
 {
     let days = broken.length;
     match rule {
-        Rule::MaxShift(_) | Rule::MaxOff | Rule::MaxWork => {
-            put_breaks(out, by, TOO_LONG, broken, days)
-        }
-        Rule::MinShift(_) | Rule::MinOff | Rule::MinWork => {
-            put_breaks(out, by, TOO_SHORT, broken, days.saturating_sub(2))
-        }
-        Rule::Pair(_) | Rule::Triple(_) => { put_breaks(out, by, FORBIDDEN, broken, days) }
+        Rule::Most(_) => put_breaks(out, by, TOO_LONG, broken, days),
+        Rule::Least(_) => put_breaks(out, by, TOO_SHORT, broken, days.saturating_sub(2)),
+        Rule::Never(_) => put_breaks(out, by, FORBIDDEN, broken, days),
         Rule::Day(_) => put_breaks(out, by, BREAKS, broken, days),
     }
 }

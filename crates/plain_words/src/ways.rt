@@ -101,7 +101,7 @@ fn put_change(out: &mut Vec<u8>, problem: &Problem, change: Change, way: Way) ->
             to.greatest += way.steps;
             put_widened(out, problem, day, shift, to, way)
         }
-        Change::DroppedPair(_) | Change::DroppedTriple(_) => {
+        Change::Dropped(_) => {
             let nearest = Nearest(way.is_nearest);
             let parts = [Number(way.rule), Rule(way.rule), nearest];
             put_told(out, problem, DROPPED, &parts)

@@ -123,5 +123,5 @@ none_spent C S h none p x s = none p x (record {
   position = s.position;
   useful = s.useful;
   nowhere = λ u long over clean has.
-      s.nowhere u long over (clean_for_some C.problem C.rules s.short u h.short.all_short (all_are_short C.problem s.short s.all_short) clean) has;
+      s.nowhere u long over (clean_for_some C.problem C.rules s.short 0 u h.short.all_short (all_are_short C.problem s.short s.all_short) clean) has;
 })

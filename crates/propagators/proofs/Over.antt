@@ -6,6 +6,7 @@ use Rattle.rwsp_terms.specs.declared.data.Symbol.{Symbol}
 use Rattle.rwsp_terms.specs.declared.data.Rule.{Rule}
 use Rattle.rwsp_terms.specs.declared.limits.TheConstants.{LONGEST_WORD}
 use Rattle.rwsp_terms.specs.Instance.{Instance, cells}
+use Rattle.refutation_terms.proofs.Windows.{bad-same_day, day_round}
 use Rattle.rwsp_terms.specs.Rules.{rules, rule_of}
 use Rattle.domain_store.specs.Store.{Store, has_domain}
 use Rattle.domain_store.specs.declared.bad_windows.BadWindow.{BadWindow}
@@ -31,8 +32,11 @@ stands_round S a b (x ∷ u) same stands = (
   stands_round S (a + 1) (b + 1) u (later_mod (length S.sets) a b 1 same) stands.1,
 )
 
-all_bad_round : (P : Instance) (S : Store) (r : Rule) (a b len : ℕ) → a % length S.sets ≡ b % length S.sets → AreAllBad P r (left_in S) a len → AreAllBad P r (left_in S) b len
-all_bad_round P S r a b len same each u long stands = each u long (stands_round S b a u (sym same) stands)
+all_bad_round : (P : Instance) (S : Store) (r : Rule) (a b len : ℕ) → length S.sets ≡ cells P → a % length S.sets ≡ b % length S.sets → AreAllBad P r (left_in S) a len → AreAllBad P r (left_in S) b len
+all_bad_round P S r a b len cycle same each u long stands =
+    let round : a % cells P ≡ b % cells P = ap (λ n. a % n) (sym cycle) ∙ same ∙ ap (λ n. b % n) cycle in
+    let days : a % P.days ≡ b % P.days = sym (day_round a P.weeks P.days) ∙ ap (λ q. q % P.days) round ∙ day_round b P.weeks P.days in
+    bad-same_day P r a b u days (each u long (stands_round S b a u (sym same) stands))
 
 mod_mod : (n a : ℕ) → a % n ≡ a % n % n
 mod_mod n a =
@@ -50,7 +54,7 @@ leaf_of_window P S r number later n w is some many long some_cells cells_is foun
     let same : w.start % length S.sets ≡ w.start % n % length S.sets = ap (λ m. w.start % m) (sym round) ∙ mod_mod n w.start ∙ ap (λ m. w.start % n % m) round in
     record {
       fits = (some, many, omega (arith, less, cells_is), (found.some, omega (arith, found.few)));
-      holds = all_bad_blocked P S number r (w.start % n) w.length long is (all_bad_round P S r w.start (w.start % n) w.length same found.bad);
+      holds = all_bad_blocked P S number r (w.start % n) w.length long is (all_bad_round P S r w.start (w.start % n) w.length long same found.bad);
     }
 
 -- the later position at which a window begins that has the position in it
@@ -79,4 +83,4 @@ no_window_over P S r number q later is long lt later_is none p len window (i, le
     let start = q + LONGEST_WORD * cells P - i in
     let same : p % length S.sets ≡ start % length S.sets = ap (λ m. p % m) long ∙ at.same ∙ ap (λ m. start % m) (sym long) in
     none start len (omega (arith, at.early, later_is)) (omega (arith, at.place, less, later_is))
-    (all_bad_round P S r p start len same (blocked_all_bad P S number r p len long is window.holds))
+    (all_bad_round P S r p start len long same (blocked_all_bad P S number r p len long is window.holds))

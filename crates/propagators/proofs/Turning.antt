@@ -12,6 +12,7 @@ use Rattle.refutation_terms.specs.Sharp.{NoWordHas}
 use Rattle.domain_store.specs.Sets.{has_symbol}
 use Rattle.domain_store.specs.Store.{Store, BelongsTo, IsStore, domain_at}
 use Rattle.clean_words.specs.declared.step.Step.{Step}
+use Rattle.clean_words.proofs.FromFirstDay.{clean_first, reads_first}
 use Rattle.clean_words.specs.Automata.{RuleAutomaton, HasSymbolsOf}
 use Rattle.propagators.specs.declared.marks.Way.{Way}
 use Rattle.propagators.specs.declared.marks.Way.TheVariants.{On, Back}
@@ -43,13 +44,13 @@ pub dead_by : {A : RuleAutomaton} {sets front back : List (List ℕ)} (c : IsCyc
 dead_by {A} {sets} {front} {back} c mark is = (
   λ dead u long over clean.
       let held = held_of_over A sets 0 u c.long over in
-      let leads = c.automaton.clean u (symbols_of_held A.problem sets 0 u c.small held) clean in
+      let leads = clean_first A c.automaton u (symbols_of_held A.problem sets 0 u c.small held) clean in
       let all : 0 + length u ≡ 2 * cells A.problem = omega (arith, long) in
       both mark dead (is ∙ goes.1 (record { word = u; long = all; end = leads.0; leads = leads.1; held = held })),
   λ dead. neither mark (λ marked.
       let g = goes.0 (sym is ∙ marked) in
       let long : length g.word ≡ 2 * cells A.problem = omega (arith, g.long) in
-      dead g.word long (over_of_held A sets 0 g.word c.long g.held) (c.automaton.reads g.word g.end g.leads)),
+      dead g.word long (over_of_held A sets 0 g.word c.long g.held) (reads_first A c.automaton g.word g.end g.leads)),
 )
   where
     goes : IsTrue (is_marked (row_at back 0) 0) ↔ GoesOn A (has_on sets) 0 0
@@ -76,14 +77,14 @@ pub supported_by : {A : RuleAutomaton} {sets front back : List (List ℕ)} (c : 
     → IsTrue (has_symbol (get_or sets p []) x.number) → HasJoiningStep A.steps x (row_at front p) (row_at back (p + 1)) → NoWordHas A.problem (knows_symbol (known A sets)) A.rules p x → ⊥
 supported_by {A} {sets} {front} {back} c p x within held joins none =
     let w = word_has c p x (omega (arith, within)) (on_place sets p x.number (omega (arith, within, c.long)) ∙ held) joins in
-    none w.word w.long (over_of_held A sets 0 w.word c.long w.held) (c.automaton.reads w.word w.end w.leads) w.has
+    none w.word w.long (over_of_held A sets 0 w.word c.long w.held) (reads_first A c.automaton w.word w.end w.leads) w.has
 
 -- no word has it where none joins, or where it isn't left
 pub nowhere_by : {A : RuleAutomaton} {sets front back : List (List ℕ)} (c : IsCycle A sets front back) (p : ℕ) (x : Symbol) → p < cells A.problem
     → (IsTrue (has_symbol (get_or sets p []) x.number) → HasJoiningStep A.steps x (row_at front p) (row_at back (p + 1)) → ⊥) → NoWordHas A.problem (knows_symbol (known A sets)) A.rules p x
 nowhere_by {A} {sets} {front} {back} c p x within none u long over clean has =
     let held = held_of_over A sets 0 u c.long over in
-    let leads = c.automaton.clean u (symbols_of_held A.problem sets 0 u c.small held) clean in
+    let leads = clean_first A c.automaton u (symbols_of_held A.problem sets 0 u c.small held) clean in
     let s = has_support c p x (omega (arith, within)) (record { word = u; long = long; end = leads.0; leads = leads.1; held = held; has = has }) in
     none (sym (on_place sets p x.number (omega (arith, within, c.long))) ∙ s.0) s.1
 

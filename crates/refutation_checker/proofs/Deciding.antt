@@ -11,7 +11,6 @@ use Rattle.rwsp_terms.specs.declared.data.Symbol.{Symbol}
 use Rattle.rwsp_terms.specs.declared.data.Weight.{Weight}
 use Rattle.rwsp_terms.specs.declared.data.Rule.{Rule}
 use Rattle.rwsp_terms.specs.declared.data.Rule.TheVariants as TheRules
-use Rattle.rwsp_terms.specs.declared.data.Class.TheVariants.{Shift}
 use Rattle.rwsp_terms.specs.Instance.{Instance, cells, bounds, symbol_numbered}
 use Rattle.rwsp_terms.specs.Roster.{IsRule}
 use Rattle.rwsp_terms.specs.Rules.{rule_of, Names, IsShort, NamesShortOnly}
@@ -78,14 +77,9 @@ le_or_not : (a b : ℕ) → (a ≤ b) ⊎ (a ≤ b → ⊥)
 le_or_not a b = elim (cases_lt b a) [ inl less ↦ inr (λ h. omega (arith, less, h)) | inr le ↦ inl le ]
 
 short_or_not : (P : Instance) (r : Rule) → IsShort P r ⊎ (IsShort P r → ⊥)
-short_or_not P (TheRules.MaxShift x) = le_or_not (bounds P (Shift x)).greatest 30
-short_or_not P (TheRules.MinShift x) = le_or_not (bounds P (Shift x)).least 30
-short_or_not P TheRules.MaxOff = le_or_not P.off.greatest 30
-short_or_not P TheRules.MinOff = le_or_not P.off.least 30
-short_or_not P TheRules.MaxWork = le_or_not P.work.greatest 30
-short_or_not P TheRules.MinWork = le_or_not P.work.least 30
-short_or_not P (TheRules.Pair k) = inl tt
-short_or_not P (TheRules.Triple k) = inl tt
+short_or_not P (TheRules.Most c) = le_or_not (bounds P c).greatest 30
+short_or_not P (TheRules.Least c) = le_or_not (bounds P c).least 30
+short_or_not P (TheRules.Never k) = inl tt
 short_or_not P (TheRules.Day j) = inr (λ h. h)
 
 names_short : (P : Instance) (R : List ℕ) → ((k : ℕ) → IsLongIn P R k → ⊥) → NamesShortOnly P R

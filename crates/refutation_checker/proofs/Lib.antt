@@ -10,7 +10,7 @@ pub mod Deciding
 pub mod KnownCells
 pub mod SomeVerdict
 pub mod LeafJudging
-pub mod ShortTails
+pub mod ShortWords
 pub mod LastFeed
 pub mod Unread
 pub mod Starts

@@ -1,23 +1,28 @@
--- Tails of clean words, day after day.
-use Rattle.std.specs.Prelude.{◌≡◌, ℕ, ◌<◌, List, [], ◌∷◌, ◌++◌, Bool, IsTrue, Contains}
+-- States of an automaton that words lead to, day after day.
+use Rattle.std.specs.Prelude.{◌≡◌, ℕ, ◌+◌, ◌<◌, List, length, Some, Bool, IsTrue, All, Contains}
 use Rattle.rwsp_terms.specs.declared.data.Symbol.{Symbol}
-use Rattle.refutation_terms.specs.Word.{Domains, Clean}
-use Rattle.refutation_terms.specs.Escape.{IsCleanOver}
-use Rattle.clean_words.specs.Listed.{Listed}
-use Rattle.clean_words.specs.Tails.{tail_of}
-use Rattle.clean_words.specs.declared.tail.Tail.{Tail}
+use Rattle.refutation_terms.specs.Word.{Domains, Over}
+use Rattle.clean_words.specs.Automata.{RuleAutomaton}
+use Rattle.clean_words.specs.Moves.{move_at, lead}
 
--- each clean word of so many days over the domains from position p on has one of these tails
-abbrev pub HaveTails : Listed → Domains → ℕ → ℕ → List Tail → Type 0
-HaveTails T D p days tails = (u : List Symbol) → IsCleanOver T.problem D p days T.rules u → Contains tails (tail_of u)
-
--- where a clean word has the tail, and is clean with one more of the symbols whose numbers are below the count, the
--- longer word has one of these
-abbrev pub GoOn : Listed → (ℕ → Bool) → ℕ → Tail → List Tail → Type 0
-GoOn T symbols count tail longer =
-    (w : List Symbol) (x : Symbol) → tail_of w ≡ tail → Clean T.problem T.rules w → x.number < count
-    → IsTrue (symbols x.number) → Clean T.problem T.rules (w ++ x ∷ []) → Contains longer (tail_of (w ++ x ∷ []))
+abbrev pub AreStates : RuleAutomaton → List ℕ → Type 0
+AreStates A states = All (λ s. s < length A.moves) states
 
 -- all of the first are among the others
-abbrev pub HaveAll : List Tail → List Tail → Type 0
-HaveAll some others = (t : Tail) → Contains some t → Contains others t
+abbrev pub HaveAll : List ℕ → List ℕ → Type 0
+HaveAll some others = (s : ℕ) → Contains some s → Contains others s
+
+-- where one of the symbols leads whose numbers are below the count is one of these states
+abbrev pub GoOn : RuleAutomaton → (ℕ → Bool) → (count state : ℕ) → List ℕ → Type 0
+GoOn A symbols count state later =
+    (x to : ℕ) → x < count → IsTrue (symbols x) → move_at A.moves state x ≡ Some to → Contains later to
+
+-- a word over the domains from p on of so many days that leads somewhere from one of the states
+pub record GoesFrom (A : RuleAutomaton) (D : Domains) (p days : ℕ) (states : List ℕ) : Type 0 where
+  pub word : List Symbol
+  pub state : ℕ
+  pub to : ℕ
+  pub among : Contains states state
+  pub long : length word ≡ days
+  pub over : Over A.problem D p word
+  pub leads : lead A.moves (Some state) word ≡ Some to

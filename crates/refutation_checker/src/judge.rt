@@ -1,5 +1,5 @@
 // The lines of a log's tree, judged one after the other.
-ghost use Rattle.std.specs.Prelude.{◌≡◌, IfOk, IsTrue, MatchOption, false};
+ghost use Rattle.std.specs.Prelude.{◌≡◌, IfOk, MatchOption, false};
 ghost use Rattle.refutation_terms.specs.declared.lines.Opening.TheVariants.{Full};
 ghost use Rattle.refutation_terms.specs.Log.{LineFits, ListsShortOnly};
 ghost use Rattle.rwsp_model.specs.Refusals.{MatchAnswer};
@@ -7,15 +7,14 @@ ghost use Rattle.domain_store.specs.Store.{BelongsTo, has_domain};
 ghost use Rattle.domain_store.specs.States.{IsWalkOf};
 ghost use Rattle.refutation_checker.specs.LineTexts.{HoldsByWordsUnder, EscapesUnder, IsSoundUnder, HasCause, ReadsNext, RefusesNext, PassesNext, HasCauseNext, IsSpellingRefusal};
 
-use crate::kept::{automaton_of, tails_of};
+use crate::kept::automaton_of;
 use crate::line_walk::step;
 use crate::plain_causes::plain_refusal;
-use crate::short_words::is_plainly_dead;
 use crate::word_leaves::{escape_of, list_of};
-use clean_words::{Automaton, TailRules};
+use clean_words::Automaton;
 use domain_store::{Domains, Walk};
 use refutation_log::{LineRefusal, read_line};
-use refutation_terms::{Leaf, Line, LogRefusal, Terms, WordClaim};
+use refutation_terms::{Line, LogRefusal, Terms};
 use rwsp_model::{Fail, Problem};
 use rwsp_terms::{RuleList, Word};
 use std::alloc::{AllocError, Global};
@@ -47,14 +46,13 @@ impl<'a> Model for Judging<'a> {
     ghost invariant = { λ j. GoalFits j.problem.now Full j.terms.goal };
 }
 
-/// Judges lines of a log of these terms, under the rules that its header names. What was made for the list of a
-/// line serves the next lines with the same list: tail rules at once, and the automaton where it was needed.
+/// Judges lines of a log of these terms, under the rules that its header names. The automaton of the list of a line
+/// serves the next lines with the same list.
 #[derive(Drop)]
 pub struct Judge<'a> {
     problem: &'a Problem,
     named: &'a RuleList,
     terms: Terms,
-    tails: Option<TailRules>,
     automaton: Option<Automaton>,
 }
 
@@ -73,8 +71,7 @@ impl<'a> Model for Judge<'a> {
       counts = j.terms.counts;
     } };
 
-    ghost invariant = { λ j. IfSome j.tails (λ tails. tails.problem ≡ j.problem.now)
-        × GoalFits j.problem.now Full j.terms.goal
+    ghost invariant = { λ j. GoalFits j.problem.now Full j.terms.goal
         × IfSome j.automaton (λ automaton. automaton.problem ≡ j.problem.now) };
 }
 
@@ -87,7 +84,6 @@ impl<'a> Judge<'a> {
             problem: judging.problem,
             named: judging.named,
             terms: judging.terms,
-            tails: None,
             automaton: None,
         }
     }
@@ -197,51 +193,10 @@ impl<'a> Judge<'a> {
         let Some(list) = list_of(line) else {
             return Ok(None);
         };
-        if self.holds_plainly(alloc, doms, line)? {
-            return Ok(None);
-        }
         let automaton = automaton_of(alloc, self.problem, self.automaton.take(), list)?;
         let found = escape_of(alloc, &automaton, doms, self.terms, line);
         self.keep(automaton);
         found
-    }
-
-    // Whether it is plain that a dead leaf holds. Then no automaton is needed, which costs more than many short leaves
-    // where the list changes from line to line.
-    fn holds_plainly(
-        &mut self,
-        alloc: Global,
-        doms: &Domains,
-        line: &Line,
-    ) -> Result<bool, AllocError>
-        requires domains { BelongsTo self.old.problem doms.now }
-        requires line { LineFits self.old.problem self.old.goal self.old.counts line.now }
-        requires short { ListsShortOnly self.old.problem line.now }
-        ensures same { self.new ≡ self.old }
-        ensures plain { IfOk result (λ plain. IsTrue plain
-            → HoldsByWordsUnder self.old (has_domain doms.now) line.now) }
-    {
-        let Line::Closing(leaf) = line else {
-            return Ok(false);
-        };
-        let Leaf::Words { p, rules, claim } = leaf else {
-            return Ok(false);
-        };
-        let WordClaim::Dead { len } = claim else {
-            return Ok(false);
-        };
-        let tails = tails_of(alloc, self.problem, self.tails.take(), rules)?;
-        let plain = is_plainly_dead(alloc, &tails, doms, *p, *len);
-        self.keep_tails(tails);
-        plain
-    }
-
-    // Keeps the tail rules for the next lines.
-    fn keep_tails(&mut self, tails: TailRules)
-        requires { tails.problem ≡ self.old.problem }
-        ensures { self.new ≡ self.old }
-    {
-        self.tails = Some(tails);
     }
 
     // Keeps the automaton for the next lines.

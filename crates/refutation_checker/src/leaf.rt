@@ -20,7 +20,7 @@ use crate::outside::{
 use domain_store::{Domains, blocks_holds, day_holds, few_holds, window_holds};
 use refutation_terms::{Leaf, Terms, WordClaim};
 use rwsp_model::Problem;
-use rwsp_terms::{Rule, RuleList, Symbol, Weights};
+use rwsp_terms::{Class, Rule, RuleList, Symbol, Weights};
 
 /// Whether the leaf holds, if it isn't one of words. Those aren't judged here.
 pub fn leaf_stands(problem: &Problem, terms: Terms, doms: &Domains, leaf: &Leaf) -> bool
@@ -117,10 +117,16 @@ fn unnamed_length(problem: &Problem, named: &RuleList, x: Symbol) -> Option<u32>
     if x.number == 0 {
         rules_outside(
             problem,
-            &[Rule::MaxOff, Rule::MinOff, Rule::MaxWork, Rule::MinWork],
+            &[
+                Rule::Most(Class::Off),
+                Rule::Least(Class::Off),
+                Rule::Most(Class::Work),
+                Rule::Least(Class::Work),
+            ],
             named,
         )
     } else {
-        rules_outside(problem, &[Rule::MaxShift(x), Rule::MinShift(x)], named)
+        let class = Class::Shift(x);
+        rules_outside(problem, &[Rule::Most(class), Rule::Least(class)], named)
     }
 }

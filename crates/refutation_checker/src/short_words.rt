@@ -1,86 +1,90 @@
-// Words that few are clean, by the tails of the clean ones.
-ghost use Rattle.std.specs.Prelude.{ℕ, ◌+◌, ◌<◌, ◌≤◌, length, slice_index_or, IsTrue, IfOk, OnOk};
+// Words few of which are clean, by the states of an automaton that they lead to.
+ghost use Rattle.std.specs.Prelude.{◌+◌, ◌<◌, ◌≤◌, length, All, IsTrue, IfOk, OnOk};
 ghost use Rattle.rwsp_terms.specs.Instance.{cells, shift_count};
 ghost use Rattle.rwsp_terms.specs.declared.limits.TheConstants.{LONGEST_WORD};
 ghost use Rattle.refutation_terms.specs.WordsLeaf.{IsDead};
 ghost use Rattle.domain_store.specs.Store.{BelongsTo, has_domain};
-ghost use Rattle.clean_words.specs.declared.tail.Tail.{Tail};
-ghost use Rattle.refutation_checker.specs.ShortWords.{GoOn, HaveAll};
+ghost use Rattle.refutation_checker.specs.ShortWords.{AreStates, GoOn, HaveAll};
 
-use clean_words::{Tail, TailRules};
+use clean_words::Automaton;
 use domain_store::Domains;
 use rwsp_terms::Symbol;
 use std::alloc::{AllocError, Global};
 
-// The most clean words of one length that are followed.
-const MOST_WORDS: usize = 100;
+// The most states that are followed.
+const MOST_FOLLOWED: usize = 100;
 
-/// Whether it is plain that no word of `len` days over the domains from position `p` on is clean for the rules: few are
-/// clean day after day, and then none is. Where there are more this says nothing. Takes a look at the rules for each of
-/// these words and each symbol, and nothing is made first that grows with the rules.
+/// Whether it is plain that no word of `len` days over the domains from position `p` on is clean for the rules of the
+/// automaton: day after day clean words lead to few states, and then to none. Where there are more this says nothing.
 pub fn is_plainly_dead(
     alloc: Global,
-    rules: &TailRules,
+    automaton: &Automaton,
     doms: &Domains,
     p: u32,
     len: u32,
 ) -> Result<bool, AllocError>
-    requires belongs { BelongsTo rules.now.problem doms.now }
-    requires position { p < cells rules.now.problem }
+    requires belongs { BelongsTo automaton.now.problem doms.now }
+    requires position { p < cells automaton.now.problem }
     requires few { len ≤ LONGEST_WORD }
     ensures { IfOk result (λ plain. IsTrue plain
-        → IsDead rules.now.problem (has_domain doms.now) p len rules.now.rules) }
+        → IsDead automaton.now.problem (has_domain doms.now) p len automaton.now.rules) }
 {
     doms.prove_facts();
+    automaton.prove_facts();
     let cells = doms.cells();
-    let mut tails = vec![in alloc; Tail::empty()]?;
+    let mut states = vec![in alloc; automaton.start(p)]?;
     for day in 0..len {
-        if tails.len() > MOST_WORDS {
+        if states.len() > MOST_FOLLOWED {
             return Ok(false);
         }
-        tails = day_later(alloc, rules, doms, (p + day) % cells, &tails)?;
+        states = day_later(alloc, automaton, doms, (p + day) % cells, &states)?;
     }
-    Ok(tails.is_empty())
+    Ok(states.is_empty())
 }
 
-// The tails of the words with one of these tails, and one symbol of the position's domain more.
+// Where the symbols of the position's domain lead from the states.
 fn day_later(
     alloc: Global,
-    rules: &TailRules,
+    automaton: &Automaton,
     doms: &Domains,
     position: u32,
-    tails: &[Tail],
-) -> Result<Vec<Tail>, AllocError>
-    requires { position < length doms.now.sets }
-    ensures { IfOk result (λ longer. (k : ℕ) (d : Tail) → k < length tails.now
-        → GoOn rules.now (has_domain doms.now position) (shift_count rules.now.problem + 1)
-        (slice_index_or tails.now k d) longer.items) }
+    states: &[u32],
+) -> Result<Vec<u32>, AllocError>
+    requires position { position < length doms.now.sets }
+    requires states { AreStates automaton.now states.now }
+    ensures states { IfOk result (λ later. AreStates automaton.now later.items) }
+    ensures go_on { IfOk result (λ later. All (λ state. GoOn automaton.now (has_domain doms.now position)
+        (shift_count automaton.now.problem + 1) state later.items) states.now) }
 {
-    let mut longer = Vec::new(alloc);
-    for tail in tails {
-        put_longer(&mut longer, rules, doms, position, *tail)?;
+    let mut later = Vec::new(alloc);
+    for place in 0..states.len() {
+        put_later(&mut later, automaton, doms, position, states[place])?;
     }
-    Ok(longer)
+    Ok(later)
 }
 
-// Puts the tails of the words with this tail, and one symbol of the position's domain more, behind others.
-fn put_longer(
-    longer: &mut Vec<Tail>,
-    rules: &TailRules,
+// Puts the states where the symbols of the position's domain lead from the state behind others.
+fn put_later(
+    later: &mut Vec<u32>,
+    automaton: &Automaton,
     doms: &Domains,
     position: u32,
-    tail: Tail,
+    state: u32,
 ) -> Result<(), AllocError>
-    requires { position < length doms.now.sets }
-    ensures keeps { OnOk result (HaveAll longer.old.items longer.new.items) }
-    ensures goes_on { OnOk result (GoOn rules.now (has_domain doms.now position) (shift_count rules.now.problem + 1)
-        tail longer.new.items) }
+    requires position { position < length doms.now.sets }
+    requires state { state < length automaton.now.moves }
+    requires states { AreStates automaton.now later.old.items }
+    ensures keeps { OnOk result (HaveAll later.old.items later.new.items) }
+    ensures states { OnOk result (AreStates automaton.now later.new.items) }
+    ensures goes_on { OnOk result (GoOn automaton.now (has_domain doms.now position)
+        (shift_count automaton.now.problem + 1) state later.new.items) }
 {
-    for number in 0..rules.problem().shifts() + 1 {
+    automaton.prove_facts();
+    for number in 0..automaton.problem().shifts() + 1 {
         let x = Symbol { number };
         if doms.has(position, x) {
-            if let Some(next) = rules.follow(tail, x) {
-                longer.push(next)?;
+            if let Some(next) = automaton.follow(state, x) {
+                later.push(next)?;
             }
         }
     }

@@ -11,6 +11,7 @@ ghost use Rattle.clean_words.specs.Found.{IsLeastFound};
 ghost use Rattle.clean_words.specs.Claims.{IsEscapeFound};
 ghost use Rattle.refutation_checker.specs.LineVerdicts.{HasNoList, HasList, HoldsByWords};
 
+use crate::short_words::is_plainly_dead;
 use clean_words::{Automaton, Claim, CleanWords, claim_escape, escape};
 use domain_store::Domains;
 use refutation_terms::{Leaf, Line, Terms, WordClaim};
@@ -100,6 +101,9 @@ fn dead_escape(
     requires long { len ≤ LONGEST_WORD }
     ensures { IfOk result (IsLeastFound automaton.now.problem (has_domain doms.now) p len automaton.now.rules) }
 {
+    if is_plainly_dead(alloc, automaton, doms, p, len)? {
+        return Ok(None);
+    }
     let words = CleanWords {
         automaton,
         domains: doms,

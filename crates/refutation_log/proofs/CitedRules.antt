@@ -5,12 +5,13 @@ use Rattle.std.proofs.lemmas.Option.{slice_get-get_or, same_Some}
 use Rattle.std.proofs.lemmas.List.Elements.{All-contains}
 use Rattle.std.proofs.lemmas.Bool.{false_from_ne_true}
 use Rattle.rwsp_terms.specs.declared.data.Weight.{Weight}
+use Rattle.rwsp_terms.specs.declared.data.Class.TheVariants.{Shift}
 use Rattle.rwsp_terms.specs.declared.data.Rule.{Rule}
-use Rattle.rwsp_terms.specs.declared.data.Rule.TheVariants.{Day, MaxOff, MinOff, MaxWork, MinWork, MaxShift, MinShift}
+use Rattle.rwsp_terms.specs.declared.data.Rule.TheVariants.{Day}
 use Rattle.rwsp_terms.specs.declared.data.Symbol.{Symbol}
 use Rattle.rwsp_terms.specs.Instance.{Instance, symbol_numbered}
 use Rattle.rwsp_terms.specs.Roster.{IsRule}
-use Rattle.rwsp_terms.specs.Rules.{rule_of, rules, shift_rules, Names}
+use Rattle.rwsp_terms.specs.Rules.{rule_of, rules, block_rules, Names}
 use Rattle.rwsp_terms.specs.Weights.{ComesBefore, weight_at, AreWeights, IsWeight}
 use Rattle.rwsp_terms.specs.Places.{is_at}
 use Rattle.rwsp_terms.proofs.Ascending.{Contains-cons, Contains-first, weight_past, weight_first, test_from_here, here_from_test}
@@ -25,7 +26,7 @@ use Rattle.refutation_terms.specs.declared.lines.Opening.TheVariants.{Full, Turn
 use Rattle.refutation_terms.specs.Ranges.{AreRules, HasWeight}
 use Rattle.refutation_terms.specs.WindowLeaf.{WindowFits, WindowCites}
 use Rattle.refutation_terms.specs.WordsLeaf.{WordsFit}
-use Rattle.refutation_terms.specs.BlocksLeaf.{IsBlockRule}
+use Rattle.refutation_terms.specs.BlocksLeaf.{block_rules_of, IsBlockRule}
 use Rattle.refutation_terms.specs.Log.{LineFits, Cites, OpeningFits, OpeningCites}
 use Rattle.refutation_terms.proofs.LeafLaws.{leaf_cites_rules}
 use Rattle.refutation_log.specs.Cited.{Adds, AddsSome, IsCited, IsDayRule, IsWeighedDayRule, ListAndClaimFit}
@@ -33,7 +34,7 @@ use Rattle.refutation_log.proofs.Adding.{on_ok, on_err, adds_same, adds_both, so
 
 pub rule_there : (P : Instance) (k : ℕ) → 0 < k → k ≤ length (rules P) → (r : Rule) × (rule_of P k ≡ Some r)
 rule_there P zero some within = absurd (omega (arith, some))
-rule_there P (suc k) some within = (get_or (rules P) k MaxOff, slice_get-get_or (rules P) k MaxOff (omega (arith, within)))
+rule_there P (suc k) some within = (get_or (rules P) k (Day 0), slice_get-get_or (rules P) k (Day 0) (omega (arith, within)))
 
 -- A k is what makes k the number of a rule that is cited
 abbrev pub TellsCited : Instance → (Rule → Type 0) → (ℕ → Type 0) → Type 0
@@ -168,57 +169,15 @@ some_of_both P old mid new A B f g =
     some_same old new (λ k. IsCited P A k ⊎ IsCited P B k) (IsCited P (λ r. A r ⊎ B r)) (some_then old mid new (IsCited P A) (IsCited P B) f g) (either_cited P A B)
 
 -- the rules on blocks, as lists
-abbrev pub off_rules : List Rule
-off_rules = MaxOff ∷ MinOff ∷ MaxWork ∷ MinWork ∷ []
+pub off_cited : (P : Instance) (n : ℕ) → n ≡ 0 → TellsCited P (IsBlockRule n) (IsCited P (Contains (block_rules_of 0)))
+off_cited P n e = subst (λ z. TellsCited P (IsBlockRule z) (IsCited P (Contains (block_rules_of 0)))) (sym e) (λ k. (λ q. q, λ q. q))
 
-off_listed : (r : Rule) → Contains off_rules r ↔ IsBlockRule 0 r
-off_listed r = (
-  λ c. first c,
-  λ b. elim b [
-    | inl e ↦ (0, omega arith, sym e)
-    | inr b ↦ elim b [
-      | inl e ↦ (1, omega arith, sym e)
-      | inr b ↦ elim b [
-        | inl e ↦ (2, omega arith, sym e)
-        | inr e ↦ (3, omega arith, sym e)
-      ]
-    ]
-  ],
-)
-  where
-    fourth : Contains (MinWork ∷ []) r → r ≡ MinWork
-    fourth c = elim (Contains-cons MinWork [] r c) [ inl none ↦ absurd (omega (arith, none.1)) | inr e ↦ e ]
+shift_rules_of : (n : ℕ) → n ≢ 0 → block_rules_of n ≡ block_rules (Shift (symbol_numbered n))
+shift_rules_of zero some = absurd (some refl)
+shift_rules_of (suc n) some = refl
 
-    third : Contains (MaxWork ∷ MinWork ∷ []) r → (r ≡ MaxWork) ⊎ (r ≡ MinWork)
-    third c = elim (Contains-cons MaxWork (MinWork ∷ []) r c) [ inl c ↦ inr (fourth c) | inr e ↦ inl e ]
-
-    second : Contains (MinOff ∷ MaxWork ∷ MinWork ∷ []) r → (r ≡ MinOff) ⊎ (r ≡ MaxWork) ⊎ (r ≡ MinWork)
-    second c = elim (Contains-cons MinOff (MaxWork ∷ MinWork ∷ []) r c) [ inl c ↦ inr (third c) | inr e ↦ inl e ]
-
-    first : Contains off_rules r → IsBlockRule 0 r
-    first c = elim (Contains-cons MaxOff (MinOff ∷ MaxWork ∷ MinWork ∷ []) r c) [ inl c ↦ inr (second c) | inr e ↦ inl e ]
-
-shift_listed : (n : ℕ) (r : Rule) → 0 < n → Contains (shift_rules n) r ↔ IsBlockRule n r
-shift_listed zero r some = absurd (omega (arith, some))
-shift_listed (suc n) r some = (
-  λ c. first c,
-  λ b. elim b [ inl e ↦ (0, omega arith, sym e) | inr e ↦ (1, omega arith, sym e) ],
-)
-  where
-    last : Contains (MinShift (symbol_numbered (suc n)) ∷ []) r → r ≡ MinShift (symbol_numbered (suc n))
-    last c = elim (Contains-cons (MinShift (symbol_numbered (suc n))) [] r c) [ inl none ↦ absurd (omega (arith, none.1)) | inr e ↦ e ]
-
-    first : Contains (shift_rules (suc n)) r → IsBlockRule (suc n) r
-    first c = elim (Contains-cons (MaxShift (symbol_numbered (suc n))) (MinShift (symbol_numbered (suc n)) ∷ []) r c) [ inl c ↦ inr (last c) | inr e ↦ inl e ]
-
-same_cited : (P : Instance) (A B : Rule → Type 0) → ((r : Rule) → A r ↔ B r) → (k : ℕ) → IsCited P A k ↔ IsCited P B k
-same_cited P A B same k = (λ q. (q.0, q.1, (same q.0).0 q.2), λ q. (q.0, q.1, (same q.0).1 q.2))
-
-pub off_cited : (P : Instance) (n : ℕ) → n ≡ 0 → TellsCited P (IsBlockRule n) (IsCited P (Contains off_rules))
-off_cited P n e = subst (λ z. TellsCited P (IsBlockRule z) (IsCited P (Contains off_rules))) (sym e) (same_cited P (Contains off_rules) (IsBlockRule 0) off_listed)
-
-pub shift_cited : (P : Instance) (x : Symbol) → x.number ≢ 0 → TellsCited P (IsBlockRule x.number) (IsCited P (Contains (MaxShift x ∷ MinShift x ∷ [])))
-shift_cited P x some = same_cited P (Contains (shift_rules x.number)) (IsBlockRule x.number) (λ r. shift_listed x.number r (omega (arith, some)))
+pub shift_cited : (P : Instance) (x : Symbol) → x.number ≢ 0 → TellsCited P (IsBlockRule x.number) (IsCited P (Contains (block_rules (Shift x))))
+shift_cited P x some = subst (λ (rs : List Rule). TellsCited P (Contains rs) (IsCited P (Contains (block_rules (Shift x))))) (sym (shift_rules_of x.number some)) (λ k. (λ q. q, λ q. q))
 
 -- names
 

@@ -16,7 +16,7 @@ ghost use Rattle.refutation_log.specs.Printing.{spaced, light_head, weighed_word
 use crate::fields::{put_count, put_numbers, put_place, put_way, put_weights, put_word};
 use refutation_terms::{Leaf, Terms, WordClaim};
 use rwsp_model::{Problem, number_of};
-use rwsp_terms::{Rule, RuleList, Symbol, Weight, Weights};
+use rwsp_terms::{Class, Rule, RuleList, Symbol, Weight, Weights};
 use std::alloc::AllocError;
 
 /// A copy of the leaf.
@@ -338,10 +338,16 @@ fn put_block_rules(rules: &mut RuleList, problem: &Problem, x: Symbol) -> Result
         put_rules(
             rules,
             problem,
-            &[Rule::MaxOff, Rule::MinOff, Rule::MaxWork, Rule::MinWork],
+            &[
+                Rule::Most(Class::Off),
+                Rule::Least(Class::Off),
+                Rule::Most(Class::Work),
+                Rule::Least(Class::Work),
+            ],
         )
     } else {
-        put_rules(rules, problem, &[Rule::MaxShift(x), Rule::MinShift(x)])
+        let class = Class::Shift(x);
+        put_rules(rules, problem, &[Rule::Most(class), Rule::Least(class)])
     }
 }
 

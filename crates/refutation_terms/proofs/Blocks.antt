@@ -167,6 +167,13 @@ days_fit P s x long small met =
 between : (l g : ℤ) (a t b : ℕ) → l ≤ℤ pos t → pos t ≤ℤ g → a ≤ t → t ≤ b → (pos a ≤ℤ g) × (l ≤ℤ pos b)
 between l g a t b low high le less = (omega (arith, ints), omega (arith, ints))
 
+-- where both lengths of its blocks are met, the class has so many cells as they can have
+class_can_be : (P : Instance) (c : Class) (s : List Symbol) (f : ℕ → Bool) → length s ≡ cells P → Tells c s f → MeetsRule P (TheRules.Most c) s → MeetsRule P (TheRules.Least c) s → CanBe (bounds P c) (counted (length s) (rises f)) (counted (length s) f)
+class_can_be P c s f long tells most least =
+    can_be c (bounds P c) s f tells
+    (λ p len some. no_bad_met P (TheRules.Most c) s some long most p len)
+    (λ p len some. no_bad_met P (TheRules.Least c) s some long least p len)
+
 -- the number of blocks fits
 count_fits : (P : Instance) (n : ℕ) (s : List Symbol) → IsRoster P s → n ≤ shift_count P → ((r : Rule) → BlocksCite P (symbol_numbered n) r → MeetsRule P r s) → BlocksFitBy P n (block_count s n)
 count_fits P zero s roster small met =
@@ -174,13 +181,9 @@ count_fits P zero s roster small met =
     let days = days_fit P s 0 roster.long small (λ j day. met (TheRules.Day j) (inr (j, day, refl))) in
     let k = counted L (rises (has s 0)) in
     let off : CanBe P.off k (counted L (has s 0)) =
-    can_be Off P.off s (has s 0) (tells_off s)
-    (λ p len some. no_bad_met P TheRules.MaxOff s some (met TheRules.MaxOff (inl (inl refl))) p len)
-    (λ p len some. no_bad_met P TheRules.MinOff s some (met TheRules.MinOff (inl (inr (inl refl)))) p len) in
+    class_can_be P Off s (has s 0) roster.long (tells_off s) (met (TheRules.Most Off) (inl (0, omega arith, refl))) (met (TheRules.Least Off) (inl (1, omega arith, refl))) in
     let work : CanBe P.work (counted L (rises (lacks s 0))) (counted L (lacks s 0)) =
-    can_be Work P.work s (lacks s 0) (tells_work s)
-    (λ p len some. no_bad_met P TheRules.MaxWork s some (met TheRules.MaxWork (inl (inr (inr (inl refl))))) p len)
-    (λ p len some. no_bad_met P TheRules.MinWork s some (met TheRules.MinWork (inl (inr (inr (inr refl))))) p len) in
+    class_can_be P Work s (lacks s 0) roster.long (tells_work s) (met (TheRules.Most Work) (inl (2, omega arith, refl))) (met (TheRules.Least Work) (inl (3, omega arith, refl))) in
     let rest : counted L (has s 0) + counted L (lacks s 0) ≡ L = count_rest L (has s 0) in
     let inside : counted L (has s 0) ≤ cells P = omega (arith, rest, roster.long) in
     let others : counted L (lacks s 0) ≡ cells P - counted L (has s 0) = omega (arith, rest, roster.long) in
@@ -199,9 +202,7 @@ count_fits P (suc n) s roster small met =
     let days = days_fit P s x roster.long small (λ j day. met (TheRules.Day j) (inr (j, day, refl))) in
     let k = counted L (rises (has s x)) in
     let shift : CanBe (bounds P c) k (counted L (has s x)) =
-    can_be c (bounds P c) s (has s x) (tells_shift s x)
-    (λ p len some. no_bad_met P (TheRules.MaxShift (symbol_numbered x)) s some (met (TheRules.MaxShift (symbol_numbered x)) (inl (inl refl))) p len)
-    (λ p len some. no_bad_met P (TheRules.MinShift (symbol_numbered x)) s some (met (TheRules.MinShift (symbol_numbered x)) (inl (inr refl))) p len) in
+    class_can_be P c s (has s x) roster.long (tells_shift s x) (met (TheRules.Most c) (inl (0, omega arith, refl))) (met (TheRules.Least c) (inl (1, omega arith, refl))) in
     subst (BlocksFitBy P x) (sym (blocks_are_runs s x))
     (between (least_days P x) (most_days P x) (k * shortest (bounds P c)) (counted L (has s x)) (k * (bounds P c).greatest) days.0 days.1 shift.0 shift.1)
 

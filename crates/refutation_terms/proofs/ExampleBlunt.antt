@@ -40,14 +40,14 @@ two_parts : (before : List Symbol) (a b : Symbol) (after : List Symbol) → befo
 two_parts [] a b after = refl
 two_parts (x ∷ before) a b after = ap (λ w. x ∷ w) (two_parts before a b after)
 
-never_both_D : (days weeks : ℕ) (demand : List Bounds) (short : List ℕ) → NamesShortRules (singles days weeks demand) short → (before after : List Symbol) (a b : Symbol) → a.number ≡ 1 → b.number ≡ 1 → Clean (singles days weeks demand) short (before ++ a ∷ b ∷ after) → ⊥
-never_both_D days weeks demand short all before after a b e f clean =
-    clean before (a ∷ b ∷ []) after (two_parts before a b after) (TheRules.MaxShift shift_D) ((all (TheRules.MaxShift shift_D)).1 ((lit< tt, lit≤ tt), lit≤ tt))
+never_both_D : (days weeks : ℕ) (demand : List Bounds) (short : List ℕ) → NamesShortRules (singles days weeks demand) short → (p : ℕ) (before after : List Symbol) (a b : Symbol) → a.number ≡ 1 → b.number ≡ 1 → Clean (singles days weeks demand) short p (before ++ a ∷ b ∷ after) → ⊥
+never_both_D days weeks demand short all p before after a b e f clean =
+    clean (TheRules.Most (Shift shift_D)) ((all (TheRules.Most (Shift shift_D))).1 ((lit< tt, lit≤ tt), lit≤ tt)) before (a ∷ b ∷ []) after (two_parts before a b after)
     (record { long = refl; within = all_from (InClass (Shift shift_D)) (a ∷ b ∷ []) (ap symbol_numbered e, (ap symbol_numbered f, tt)) })
 
-never_both_off : (days weeks : ℕ) (demand : List Bounds) (short : List ℕ) → NamesShortRules (singles days weeks demand) short → (before after : List Symbol) (a b : Symbol) → a.number ≡ 0 → b.number ≡ 0 → Clean (singles days weeks demand) short (before ++ a ∷ b ∷ after) → ⊥
-never_both_off days weeks demand short all before after a b e f clean =
-    clean before (a ∷ b ∷ []) after (two_parts before a b after) TheRules.MaxOff ((all TheRules.MaxOff).1 (tt, lit≤ tt))
+never_both_off : (days weeks : ℕ) (demand : List Bounds) (short : List ℕ) → NamesShortRules (singles days weeks demand) short → (p : ℕ) (before after : List Symbol) (a b : Symbol) → a.number ≡ 0 → b.number ≡ 0 → Clean (singles days weeks demand) short p (before ++ a ∷ b ∷ after) → ⊥
+never_both_off days weeks demand short all p before after a b e f clean =
+    clean (TheRules.Most Off) ((all (TheRules.Most Off)).1 (tt, lit≤ tt)) before (a ∷ b ∷ []) after (two_parts before a b after)
     (record { long = refl; within = all_from (InClass Off) (a ∷ b ∷ []) (e, (f, tt)) })
 
 -- so two turns are dead: D, then two symbols, then D
@@ -61,11 +61,11 @@ D_twice_is_dead short all (a ∷ b ∷ []) long over clean = absurd (omega (arit
 D_twice_is_dead short all (a ∷ b ∷ c ∷ []) long over clean = absurd (omega (arith, long))
 D_twice_is_dead short all (a ∷ b ∷ c ∷ d ∷ u) long over clean =
     elim (either 1 3 some_wanted 1 b.number over.1.0) [
-      | inr b_D ↦ never_both_D 1 3 some_wanted short all [] (c ∷ d ∷ u) a b (first_is_D 1 3 some_wanted a.number over.0) b_D clean
+      | inr b_D ↦ never_both_D 1 3 some_wanted short all 0 [] (c ∷ d ∷ u) a b (first_is_D 1 3 some_wanted a.number over.0) b_D clean
       | inl b_off ↦ (
           elim (either 1 3 some_wanted 2 c.number over.1.1.0) [
-            | inr c_D ↦ never_both_D 1 3 some_wanted short all (a ∷ b ∷ []) u c d c_D (first_is_D 1 3 some_wanted d.number over.1.1.1.0) clean
-            | inl c_off ↦ never_both_off 1 3 some_wanted short all (a ∷ []) (d ∷ u) b c b_off c_off clean
+            | inr c_D ↦ never_both_D 1 3 some_wanted short all 0 (a ∷ b ∷ []) u c d c_D (first_is_D 1 3 some_wanted d.number over.1.1.1.0) clean
+            | inl c_off ↦ never_both_off 1 3 some_wanted short all 0 (a ∷ []) (d ∷ u) b c b_off c_off clean
           ])
     ]
 
@@ -99,7 +99,7 @@ too_light_at_top short all (a ∷ b ∷ []) long over clean =
     let a_D = first_is_D 2 1 each_day a.number over.0 in
     elim (either 2 1 each_day 1 b.number over.1.0) [
       | inl b_off ↦ one_is_light a b a_D b_off
-      | inr b_D ↦ absurd (never_both_D 2 1 each_day short all [] [] a b a_D b_D clean)
+      | inr b_D ↦ absurd (never_both_D 2 1 each_day short all 0 [] [] a b a_D b_D clean)
     ]
 too_light_at_top short all (a ∷ b ∷ c ∷ u) long over clean = absurd (omega (arith, long))
 
@@ -133,7 +133,7 @@ free_split_is_blunt sharp =
     let spent = (sharp.splits 0 0 off refl).forced 0 shift_D (D_is_spent sharp.short) in
     elim spent.spent [
       | inl day ↦ no_day_leaf day.0 day.1.number day.2 day.3.0 day.3.1 day.4
-      | inr none ↦ none off_first refl (refl, (refl, (refl, (refl, tt)))) (alternating_is_clean 1 2 (from_to 0 0 ∷ []) sharp.short off_first (off_D, (D_off, (off_D, tt)))) refl
+      | inr none ↦ none off_first refl (refl, (refl, (refl, (refl, tt)))) (alternating_is_clean 1 2 (from_to 0 0 ∷ []) sharp.short 0 off_first (off_D, (D_off, (off_D, tt)))) refl
     ]
 
 -- D is demanded on day 1, and no turn is made

@@ -6,6 +6,7 @@ use Rattle.std.specs.Int.Signed.{le_z_yes}
 use Rattle.rwsp_terms.specs.declared.limits.TheConstants.{GREATEST_SHORT_BOUND}
 use Rattle.rwsp_terms.specs.declared.data.Bounds.{Bounds}
 use Rattle.rwsp_terms.specs.declared.data.Symbol.{Symbol}
+use Rattle.rwsp_terms.specs.declared.data.Class.TheVariants.{Shift, Off, Work}
 use Rattle.rwsp_terms.specs.declared.data.Rule.{Rule}
 use Rattle.rwsp_terms.specs.declared.data.Rule.TheVariants as TheRules
 use Rattle.rwsp_terms.specs.Instance.{Instance, symbol_numbered}
@@ -42,14 +43,13 @@ AreNear b = (b.greatest ≤ GREATEST_SHORT_BOUND) × (b.least ≤ GREATEST_SHORT
 
 -- the six rules on blocks
 six_are_short : (days weeks : ℕ) (demand : List Bounds) (block : Bounds) (r : Rule) → IsRule (one_shift days weeks demand block) r → IsShort (one_shift days weeks demand block) r → Names (one_shift days weeks demand block) short_rules r
-six_are_short days weeks demand block (TheRules.MaxShift x) is short = (1, (0, lit< tt, refl), ap (λ y. Some (TheRules.MaxShift y)) (one_shift_is x is))
-six_are_short days weeks demand block (TheRules.MinShift x) is short = (2, (1, lit< tt, refl), ap (λ y. Some (TheRules.MinShift y)) (one_shift_is x is))
-six_are_short days weeks demand block TheRules.MaxOff is short = (3, (2, lit< tt, refl), refl)
-six_are_short days weeks demand block TheRules.MinOff is short = (4, (3, lit< tt, refl), refl)
-six_are_short days weeks demand block TheRules.MaxWork is short = (5, (4, lit< tt, refl), refl)
-six_are_short days weeks demand block TheRules.MinWork is short = (6, (5, lit< tt, refl), refl)
-six_are_short days weeks demand block (TheRules.Pair k) is short = absurd (omega (arith, is))
-six_are_short days weeks demand block (TheRules.Triple k) is short = absurd (omega (arith, is))
+six_are_short days weeks demand block (TheRules.Most (Shift x)) is short = (1, (0, lit< tt, refl), ap (λ y. Some (TheRules.Most (Shift y))) (one_shift_is x is))
+six_are_short days weeks demand block (TheRules.Least (Shift x)) is short = (2, (1, lit< tt, refl), ap (λ y. Some (TheRules.Least (Shift y))) (one_shift_is x is))
+six_are_short days weeks demand block (TheRules.Most Off) is short = (3, (2, lit< tt, refl), refl)
+six_are_short days weeks demand block (TheRules.Least Off) is short = (4, (3, lit< tt, refl), refl)
+six_are_short days weeks demand block (TheRules.Most Work) is short = (5, (4, lit< tt, refl), refl)
+six_are_short days weeks demand block (TheRules.Least Work) is short = (6, (5, lit< tt, refl), refl)
+six_are_short days weeks demand block (TheRules.Never k) is short = let none : k < 0 = is in absurd (omega (arith, none))
 six_are_short days weeks demand block (TheRules.Day j) is short = absurd short
 
 pub block_rules_are_short : (days weeks : ℕ) (demand : List Bounds) (block : Bounds) → AreNear block → NamesShortRules (one_shift days weeks demand block) short_rules

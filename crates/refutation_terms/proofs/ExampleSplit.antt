@@ -62,22 +62,21 @@ never_long c before (a ∷ b ∷ x ∷ part) after h l = let e = l.long in omega
 never_short : (c : Class) (u : List Symbol) → TooShort c 1 u → ⊥
 never_short c u h = let a = h.some in let b = h.few in omega (arith, a, b)
 
-never_bad : (days weeks : ℕ) (demand : List Bounds) (r : Rule) → IsRule (singles days weeks demand) r → (before part after : List Symbol) → Alternates (before ++ part ++ after) → Bad (singles days weeks demand) r part → ⊥
-never_bad days weeks demand (TheRules.MaxShift x) is before part after h bad =
+never_bad : (days weeks : ℕ) (demand : List Bounds) (r : Rule) → IsRule (singles days weeks demand) r → (p : ℕ) (before part after : List Symbol) → Alternates (before ++ part ++ after) → Bad (singles days weeks demand) r p part → ⊥
+never_bad days weeks demand (TheRules.Most (Shift x)) is p before part after h bad =
     never_long (Shift x) before part after h (subst (λ y. TooLong (Shift x) (bounds (singles days weeks demand) (Shift y)).greatest part) (sym (one_shift_is x is)) bad)
-never_bad days weeks demand (TheRules.MinShift x) is before part after h bad =
+never_bad days weeks demand (TheRules.Least (Shift x)) is p before part after h bad =
     never_short (Shift x) part (subst (λ y. TooShort (Shift x) (bounds (singles days weeks demand) (Shift y)).least part) (sym (one_shift_is x is)) bad)
-never_bad days weeks demand TheRules.MaxOff is before part after h bad = never_long Off before part after h bad
-never_bad days weeks demand TheRules.MinOff is before part after h bad = never_short Off part bad
-never_bad days weeks demand TheRules.MaxWork is before part after h bad = never_long Work before part after h bad
-never_bad days weeks demand TheRules.MinWork is before part after h bad = never_short Work part bad
-never_bad days weeks demand (TheRules.Pair k) is before part after h bad = absurd (omega (arith, is))
-never_bad days weeks demand (TheRules.Triple k) is before part after h bad = absurd (omega (arith, is))
-never_bad days weeks demand (TheRules.Day j) is before part after h bad = bad
+never_bad days weeks demand (TheRules.Most Off) is p before part after h bad = never_long Off before part after h bad
+never_bad days weeks demand (TheRules.Least Off) is p before part after h bad = never_short Off part bad
+never_bad days weeks demand (TheRules.Most Work) is p before part after h bad = never_long Work before part after h bad
+never_bad days weeks demand (TheRules.Least Work) is p before part after h bad = never_short Work part bad
+never_bad days weeks demand (TheRules.Never k) is p before part after h bad = let none : k < 0 = is in omega (arith, none)
+never_bad days weeks demand (TheRules.Day j) is p before part after h bad = bad
 
-pub alternating_is_clean : (days weeks : ℕ) (demand : List Bounds) (R : List ℕ) (u : List Symbol) → Alternates u → Clean (singles days weeks demand) R u
-alternating_is_clean days weeks demand R u h before part after e r named bad =
-    never_bad days weeks demand r (named-IsRule (singles days weeks demand) R r named) before part after (subst Alternates e h) bad
+pub alternating_is_clean : (days weeks : ℕ) (demand : List Bounds) (R : List ℕ) (p : ℕ) (u : List Symbol) → Alternates u → Clean (singles days weeks demand) R p u
+alternating_is_clean days weeks demand R p u h r named before part after e bad =
+    never_bad days weeks demand r (named-IsRule (singles days weeks demand) R r named) (p + length before) before part after (subst Alternates e h) bad
 
 -- two symbols by turns
 pub D_off : Differ shift_D off
@@ -114,8 +113,9 @@ over_start x y a b p (suc n) = (a (p % cells odd), over_start y x b a (p + 1) n)
 no_window : SomeWindowHolds odd start → ⊥
 no_window h =
     let w = by_turns off shift_D h.2 in
-    alternating_is_clean 1 3 (from_to 0 3 ∷ []) (h.0 ∷ []) w (alternate off shift_D off_D D_off h.2) [] w [] (sym (append-nil w)) h.4.0 (h.0, (0, omega arith, refl), h.4.1)
-    (h.4.2 w (length-by_turns off shift_D h.2) (over_start off shift_D (λ q. refl) (λ q. refl) h.1 h.2))
+    let none : h.1 ≡ h.1 + 0 = omega arith in
+    alternating_is_clean 1 3 (from_to 0 3 ∷ []) (h.0 ∷ []) h.1 w (alternate off shift_D off_D D_off h.2) h.4.0 (h.0, (0, omega arith, refl), h.4.1) [] w [] (sym (append-nil w))
+    (subst (λ q. Bad odd h.4.0 q w) none (h.4.2 w (length-by_turns off shift_D h.2) (over_start off shift_D (λ q. refl) (λ q. refl) h.1 h.2)))
 
 -- any number of D and of days off is allowed on the day
 at_most : (f : ℕ) → f ≤ 3 → pos 3 <ℤ pos f → ⊥
@@ -140,12 +140,12 @@ no_day D h = no_day_leaf D h.0 h.1.number h.2 h.3.0 h.3.1 h.4
 by_D_first : (q n : ℕ) → slice_get (by_turns shift_D off 6) q ≡ Some (symbol_numbered n) → NoWordHas odd start short_rules q (symbol_numbered n) → ⊥
 by_D_first q n e none =
     none (by_turns shift_D off 6) refl (over_start shift_D off (λ q. refl) (λ q. refl) 0 6)
-    (alternating_is_clean 1 3 (from_to 0 3 ∷ []) short_rules (by_turns shift_D off 6) (alternate shift_D off D_off off_D 6)) e
+    (alternating_is_clean 1 3 (from_to 0 3 ∷ []) short_rules 0 (by_turns shift_D off 6) (alternate shift_D off D_off off_D 6)) e
 
 by_off_first : (q n : ℕ) → slice_get (by_turns off shift_D 6) q ≡ Some (symbol_numbered n) → NoWordHas odd start short_rules q (symbol_numbered n) → ⊥
 by_off_first q n e none =
     none (by_turns off shift_D 6) refl (over_start off shift_D (λ q. refl) (λ q. refl) 0 6)
-    (alternating_is_clean 1 3 (from_to 0 3 ∷ []) short_rules (by_turns off shift_D 6) (alternate off shift_D off_D D_off 6)) e
+    (alternating_is_clean 1 3 (from_to 0 3 ∷ []) short_rules 0 (by_turns off shift_D 6) (alternate off shift_D off_D D_off 6)) e
 
 each_is_there : (q n : ℕ) → q < 3 → n ≤ 1 → NoWordHas odd start short_rules q (symbol_numbered n) → ⊥
 each_is_there zero zero lt small = by_off_first 0 0 refl
@@ -203,7 +203,7 @@ day_is_met (suc (suc j)) day x small = let a : suc (suc j) ≤ 1 = day.1 in absu
 no_bound : (y : List Weight) → HoldsAtTop odd (opening odd Full) short_rules y → ⊥
 no_bound y h =
     too_light (weight odd y 0 D_twice) (pos 1 *ℤ total odd y)
-    (h D_twice refl (refl, (refl, (refl, tt))) (alternating_is_clean 1 3 (from_to 0 3 ∷ []) short_rules D_twice (alternate shift_D off D_off off_D 3)))
+    (h D_twice refl (refl, (refl, (refl, tt))) (alternating_is_clean 1 3 (from_to 0 3 ∷ []) short_rules 0 D_twice (alternate shift_D off D_off off_D 3)))
     (window_weighs_enough odd y D_twice 0 1 (record { long = refl; symbols = all_from (IsSymbol odd) D_twice (lit≤ tt, (lit≤ tt, (lit≤ tt, tt))) }) (λ j day weighs. day_is_met j day))
 
 le_z_no : pos 1 ≤ℤ pos 0 → ⊥

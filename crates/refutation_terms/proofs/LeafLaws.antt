@@ -7,15 +7,16 @@ use Rattle.std.specs.List.{AllByRecursion}
 use Rattle.std.proofs.lemmas.Bool.{cases_Bool}
 use Rattle.rwsp_terms.specs.declared.data.Symbol.{Symbol}
 use Rattle.rwsp_terms.specs.declared.data.Weight.{Weight}
+use Rattle.rwsp_terms.specs.declared.data.Class.TheVariants.{Shift, Off, Work}
 use Rattle.rwsp_terms.specs.declared.data.Rule.{Rule}
 use Rattle.rwsp_terms.specs.declared.data.Rule.TheVariants as TheRules
-use Rattle.rwsp_terms.specs.Instance.{Instance, cells, shift_count, IsDay, IsSymbol, least, greatest}
+use Rattle.rwsp_terms.specs.Instance.{Instance, cells, shift_count, IsDay, IsSymbol, least, greatest, symbol_numbered}
 use Rattle.rwsp_terms.specs.Window.{Bad, window}
 use Rattle.rwsp_terms.specs.Roster.{IsRule, IsRoster, MeetsDay}
 use Rattle.rwsp_terms.specs.Rules.{Names, Meets}
 use Rattle.rwsp_terms.specs.Weights.{weight_at}
 use Rattle.rwsp_terms.proofs.Windows.{length-window}
-use Rattle.rwsp_terms.proofs.Elements.{all_to}
+use Rattle.rwsp_terms.proofs.Elements.{all_from, all_to}
 use Rattle.rwsp_terms.proofs.Ascending.{here_from_test, weight_past}
 use Rattle.refutation_terms.specs.declared.lines.Leaf.{Leaf}
 use Rattle.refutation_terms.specs.declared.lines.Leaf.TheVariants.{Window, Day, Few, Words, Blocks}
@@ -27,11 +28,11 @@ use Rattle.refutation_terms.specs.Word.{Domains, Within, AreSame}
 use Rattle.refutation_terms.specs.Ranges.{HasWeight}
 use Rattle.refutation_terms.specs.Escape.{ComesFirst}
 use Rattle.refutation_terms.specs.WordsLeaf.{RewardFits, WordsFit, WordsCite, WordsHold, WordsEscape, worth, owed}
-use Rattle.refutation_terms.specs.BlocksLeaf.{IsBlockRule}
+use Rattle.refutation_terms.specs.BlocksLeaf.{block_rules_of, IsBlockRule}
 use Rattle.refutation_terms.specs.Leaves.{LeafFits, LeafCites, LeafHolds, LeafListsShort, LeafListsLong, LeafEscapes, IsWordless}
 use Rattle.refutation_terms.specs.Log.{GoalFits}
 use Rattle.refutation_terms.specs.Laws.{HasGoal}
-use Rattle.refutation_terms.proofs.Named.{named-IsRule}
+use Rattle.refutation_terms.proofs.Named.{named-IsRule, block_rules_are}
 use Rattle.refutation_terms.proofs.Windows.{over-window, clean-window, no_bad_met}
 use Rattle.refutation_terms.proofs.SameCells.{turned_round, same_fixed, same_possible, same_over, same_clean, same_least, same_few}
 use Rattle.refutation_terms.proofs.Counts.{met_not_too_many, met_not_too_few}
@@ -71,9 +72,9 @@ leaf_leaves_none P o goal counts named D s (Window number p len) goal_fits has m
     let some : 0 < cells P = cells_some P p fits.2 in
     let r = blocked.0 in
     let is_named : Names P named r = cited r (number, (0, omega arith, refl), blocked.1) in
-    let bad : Bad P r (window s p len) = blocked.2 (window s p len) (length-window s p len) (over-window P D s p len some w) in
+    let bad : Bad P r p (window s p len) = blocked.2 (window s p len) (length-window s p len) (over-window P D s p len some w) in
     let positive : 0 < length s = omega (arith, some, w.is_roster.long) in
-    no_bad_met P r s positive (met.rules r is_named) p len bad
+    no_bad_met P r s positive w.is_roster.long (met.rules r is_named) p len bad
 leaf_leaves_none P o goal counts named D s (Day j x true) goal_fits has met w fits cited holds =
     met_not_too_many P D s j x.number fits.0 fits.1 w (met.rules (TheRules.Day j) (cited (TheRules.Day j) refl)) holds
 leaf_leaves_none P o goal counts named D s (Day j x false) goal_fits has met w fits cited holds =
@@ -98,20 +99,18 @@ words_cite_rules P goal p R (Light turns reward y) r fits (inl c) = named-IsRule
 words_cite_rules P goal p R (Light turns reward y) r fits (inr c) =
     subst (IsRule P) (sym c.2) (weighed_is_day P y c.0 c.1.0 (all_to (λ e. IsDay P e.day × IsSymbol P e.symbol) y fits.3.1) c.1.1)
 
-block_rules_are : (P : Instance) (n : ℕ) (r : Rule) → n ≤ shift_count P → IsBlockRule n r → IsRule P r
-block_rules_are P zero r small (inl e) = subst (IsRule P) (sym e) tt
-block_rules_are P zero r small (inr (inl e)) = subst (IsRule P) (sym e) tt
-block_rules_are P zero r small (inr (inr (inl e))) = subst (IsRule P) (sym e) tt
-block_rules_are P zero r small (inr (inr (inr e))) = subst (IsRule P) (sym e) tt
-block_rules_are P (suc n) r small (inl e) = subst (IsRule P) (sym e) (omega arith, small)
-block_rules_are P (suc n) r small (inr e) = subst (IsRule P) (sym e) (omega arith, small)
+block_rule_is : (P : Instance) (n : ℕ) (r : Rule) → n ≤ shift_count P → IsBlockRule n r → IsRule P r
+block_rule_is P zero r small c =
+    subst (IsRule P) c.2 (all_from (IsRule P) (block_rules_of 0) (block_rules_are P (Off ∷ Work ∷ []) (tt, (tt, tt))) c.0 r c.1)
+block_rule_is P (suc n) r small c =
+    subst (IsRule P) c.2 (all_from (IsRule P) (block_rules_of (suc n)) (block_rules_are P (Shift (symbol_numbered (suc n)) ∷ []) ((omega arith, small), tt)) c.0 r c.1)
 
 -- what a leaf that fits rests on are rules of the problem
 pub leaf_cites_rules : (P : Instance) (goal : Option ℕ) (counts : Bool) (leaf : Leaf) (r : Rule) → LeafFits P goal counts leaf → LeafCites P leaf r → IsRule P r
 leaf_cites_rules P goal counts (Window number p len) r fits c = named-IsRule P (number ∷ []) r c
 leaf_cites_rules P goal counts (Day j x over) r fits c = subst (IsRule P) (sym c) fits.0
 leaf_cites_rules P goal counts (Words p R claim) r fits c = words_cite_rules P goal p R claim r fits c
-leaf_cites_rules P goal counts (Blocks x) r fits (inl c) = block_rules_are P x.number r fits.1 c
+leaf_cites_rules P goal counts (Blocks x) r fits (inl c) = block_rule_is P x.number r fits.1 c
 leaf_cites_rules P goal counts (Blocks x) r fits (inr c) = subst (IsRule P) (sym c.2) c.1
 leaf_cites_rules P goal counts leaf r fits c = absurd c
 

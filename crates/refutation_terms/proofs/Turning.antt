@@ -8,14 +8,14 @@ use Rattle.std.proofs.lemmas.Bool.{eqb-true}
 use Rattle.std.proofs.Math.Nat.{add-mod-mod, add-mod_right, add-mul-mod_self_right, mod-eq_of_lt, mul-le-mul_right}
 use Rattle.rwsp_terms.specs.declared.data.Symbol.{Symbol}
 use Rattle.rwsp_terms.specs.declared.data.Rule.{Rule}
-use Rattle.rwsp_terms.specs.declared.data.Rule.TheVariants.{MaxShift, MinShift, MaxOff, MinOff, MaxWork, MinWork, Pair, Triple, Day}
+use Rattle.rwsp_terms.specs.declared.data.Rule.TheVariants.{Most, Least, Never, Day}
 use Rattle.rwsp_terms.specs.Instance.{Instance, cells, least, greatest, IsDay, IsSymbol, symbol_numbered, off_symbol}
 use Rattle.rwsp_terms.specs.Window.{Bad, cell, window}
 use Rattle.rwsp_terms.specs.Roster.{IsRoster, IsRule, MeetsDay, MeetsRule, HasNoWindow, weeks_with}
 use Rattle.rwsp_terms.proofs.Windows.{length-window, get_or-window}
 use Rattle.rwsp_terms.proofs.Counting.{count_same, count_next}
 use Rattle.refutation_terms.specs.Word.{turned}
-use Rattle.refutation_terms.proofs.Windows.{window-same, no_bad_window}
+use Rattle.refutation_terms.proofs.Windows.{window-same, bad-same_day, day_round, no_bad_window}
 use Rattle.refutation_terms.proofs.Counts.{in_column}
 
 pub length-turned : (P : Instance) (k : ℕ) (s : List Symbol) → length (turned P k s) ≡ cells P
@@ -133,38 +133,38 @@ back_place P k p s long some =
     le_times k zero w h = absurd (omega (arith, h))
     le_times k (suc n) w h = let e : k * (suc n * w) ≡ k * w + k * (n * w) = omega arith in omega (arith, e)
 
+-- the day of the week stays
+turned_day : (p k d : ℕ) → (k * d + p) % d ≡ p % d
+turned_day p k d = let e : k * d + p ≡ p + k * d = omega arith in ap (λ n. n % d) e ∙ add-mul-mod_self_right p k d
+
 no_bad-turned : (P : Instance) (k : ℕ) (r : Rule) (s : List Symbol) → 0 < cells P → length s ≡ cells P → HasNoWindow (Bad P r) s → HasNoWindow (Bad P r) (turned P k s)
 no_bad-turned P k r s some long h p len lt bad =
-    no_bad_window P r s (omega (arith, some, long)) h (k * P.days + p) len (subst (Bad P r) (window-turned P k s p len some long) bad)
+    no_bad_window P r s (omega (arith, some, long)) long h (k * P.days + p) len
+    (bad-same_day P r p (k * P.days + p) (window s (k * P.days + p) len) (sym (turned_day p k P.days)) (subst (Bad P r p) (window-turned P k s p len some long) bad))
 
 no_bad-back : (P : Instance) (k : ℕ) (r : Rule) (s : List Symbol) → 0 < cells P → length s ≡ cells P → HasNoWindow (Bad P r) (turned P k s) → HasNoWindow (Bad P r) s
 no_bad-back P k r s some long h p len lt bad =
     let q = back_place P k p s long some in
     let positive : 0 < length (turned P k s) = omega (arith, some, length-turned P k s) in
-    no_bad_window P r (turned P k s) positive h q.0 len
-    (subst (Bad P r) (sym (window-turned P k s q.0 len some long ∙ window-same s (k * P.days + q.0) p len q.1)) bad)
+    let round : (k * P.days + q.0) % P.days ≡ p % P.days =
+    sym (day_round (k * P.days + q.0) P.weeks P.days) ∙ ap (λ m. ((k * P.days + q.0) % m) % P.days) (sym long) ∙ ap (λ n. n % P.days) q.1
+    ∙ ap (λ m. (p % m) % P.days) long ∙ day_round p P.weeks P.days in
+    let days : p % P.days ≡ q.0 % P.days = sym round ∙ turned_day q.0 k P.days in
+    no_bad_window P r (turned P k s) positive (length-turned P k s) h q.0 len
+    (bad-same_day P r p q.0 (window (turned P k s) q.0 len) days
+    (subst (Bad P r p) (sym (window-turned P k s q.0 len some long ∙ window-same s (k * P.days + q.0) p len q.1)) bad))
 
 -- turning keeps every rule met, and every rule not met
 pub turned-meets : (P : Instance) (k : ℕ) (r : Rule) (s : List Symbol) → 0 < cells P → IsRoster P s → IsRule P r → MeetsRule P r s → MeetsRule P r (turned P k s)
-turned-meets P k (MaxShift x) s some roster is h = no_bad-turned P k (MaxShift x) s some roster.long h
-turned-meets P k (MinShift x) s some roster is h = no_bad-turned P k (MinShift x) s some roster.long h
-turned-meets P k MaxOff s some roster is h = no_bad-turned P k MaxOff s some roster.long h
-turned-meets P k MinOff s some roster is h = no_bad-turned P k MinOff s some roster.long h
-turned-meets P k MaxWork s some roster is h = no_bad-turned P k MaxWork s some roster.long h
-turned-meets P k MinWork s some roster is h = no_bad-turned P k MinWork s some roster.long h
-turned-meets P k (Pair i) s some roster is h = no_bad-turned P k (Pair i) s some roster.long h
-turned-meets P k (Triple i) s some roster is h = no_bad-turned P k (Triple i) s some roster.long h
+turned-meets P k (Most c) s some roster is h = no_bad-turned P k (Most c) s some roster.long h
+turned-meets P k (Least c) s some roster is h = no_bad-turned P k (Least c) s some roster.long h
+turned-meets P k (Never i) s some roster is h = no_bad-turned P k (Never i) s some roster.long h
 turned-meets P k (Day j) s some roster is h = MeetsDay-along P j s (turned P k s) (λ x. weeks_with-turned P k s x j some is roster.long) h
 
 pub turned-meets_back : (P : Instance) (k : ℕ) (r : Rule) (s : List Symbol) → 0 < cells P → IsRoster P s → IsRule P r → MeetsRule P r (turned P k s) → MeetsRule P r s
-turned-meets_back P k (MaxShift x) s some roster is h = no_bad-back P k (MaxShift x) s some roster.long h
-turned-meets_back P k (MinShift x) s some roster is h = no_bad-back P k (MinShift x) s some roster.long h
-turned-meets_back P k MaxOff s some roster is h = no_bad-back P k MaxOff s some roster.long h
-turned-meets_back P k MinOff s some roster is h = no_bad-back P k MinOff s some roster.long h
-turned-meets_back P k MaxWork s some roster is h = no_bad-back P k MaxWork s some roster.long h
-turned-meets_back P k MinWork s some roster is h = no_bad-back P k MinWork s some roster.long h
-turned-meets_back P k (Pair i) s some roster is h = no_bad-back P k (Pair i) s some roster.long h
-turned-meets_back P k (Triple i) s some roster is h = no_bad-back P k (Triple i) s some roster.long h
+turned-meets_back P k (Most c) s some roster is h = no_bad-back P k (Most c) s some roster.long h
+turned-meets_back P k (Least c) s some roster is h = no_bad-back P k (Least c) s some roster.long h
+turned-meets_back P k (Never i) s some roster is h = no_bad-back P k (Never i) s some roster.long h
 turned-meets_back P k (Day j) s some roster is h = MeetsDay-along P j (turned P k s) s (λ x. sym (weeks_with-turned P k s x j some is roster.long)) h
 
 -- where some pass, one does

@@ -1,14 +1,15 @@
 -- A leaf that counts: no number of blocks of a symbol has as many days as the demand asks for.
-use Rattle.std.specs.Prelude.{◌≡◌, ◌⊎◌, ℕ, zero, suc, ◌+◌, ◌-◌, ◌*◌, ◌<◌, ◌≤◌, ◌==◌, ◌&&◌, not, IsTrue, List, length, Bool, count_by, ℤ, pos, ◌≤ℤ◌}
+use Rattle.std.specs.Prelude.{◌≡◌, ◌⊎◌, ℕ, zero, suc, ◌+◌, ◌-◌, ◌*◌, ◌<◌, ◌≤◌, ◌==◌, ◌&&◌, not, IsTrue, List, ◌++◌, length, Bool, Contains, count_by, ℤ, pos, ◌≤ℤ◌}
 use Rattle.std.specs.Int.{int_max, int_min}
 use Rattle.std.specs.List.{range_with_len}
 use Rattle.rwsp_terms.specs.declared.data.Bounds.{Bounds}
 use Rattle.rwsp_terms.specs.declared.data.Symbol.{Symbol}
-use Rattle.rwsp_terms.specs.declared.data.Class.TheVariants.{Shift}
+use Rattle.rwsp_terms.specs.declared.data.Class.TheVariants.{Shift, Off, Work}
 use Rattle.rwsp_terms.specs.declared.data.Rule.{Rule}
 use Rattle.rwsp_terms.specs.declared.data.Rule.TheVariants as TheRules
 use Rattle.rwsp_terms.specs.Instance.{Instance, cells, bounds, least, greatest, IsDay, IsSymbol, symbol_numbered}
 use Rattle.rwsp_terms.specs.Window.{cell}
+use Rattle.rwsp_terms.specs.Rules.{block_rules}
 use Rattle.refutation_terms.specs.Word.{int_sum_by}
 
 -- a block of the symbol begins at the position: it is there, and not on the day before, round the cycle
@@ -63,11 +64,13 @@ BlocksHold P x = (k : ℕ) → k ≤ cells P → BlockCountFits P x k → ⊥
 abbrev pub BlocksFit : Instance → Bool → Symbol → Type 0
 BlocksFit P counts x = IsTrue counts × IsSymbol P x
 
--- both lengths of the blocks of the symbol, and with the day off those of work
+-- the rules on both lengths of the blocks of the symbol, and with the day off those of work
+abbrev pub block_rules_of : ℕ → List Rule
+block_rules_of zero = block_rules Off ++ block_rules Work
+block_rules_of (suc x) = block_rules (Shift (symbol_numbered (suc x)))
+
 abbrev pub IsBlockRule : ℕ → Rule → Type 0
-IsBlockRule zero r = (r ≡ TheRules.MaxOff) ⊎ (r ≡ TheRules.MinOff) ⊎ (r ≡ TheRules.MaxWork) ⊎ (r ≡ TheRules.MinWork)
-IsBlockRule (suc x) r =
-    (r ≡ TheRules.MaxShift (symbol_numbered (suc x))) ⊎ (r ≡ TheRules.MinShift (symbol_numbered (suc x)))
+IsBlockRule x r = Contains (block_rules_of x) r
 
 -- it rests on these and on every day
 abbrev pub BlocksCite : Instance → Symbol → Rule → Type 0

@@ -15,7 +15,7 @@ ComesFirst (x ∷ u) (y ∷ v) = (x.number < y.number) ⊎ ((x ≡ y) × ComesFi
 pub record IsCleanOver (P : Instance) (D : Domains) (p len : ℕ) (R : List ℕ) (u : List Symbol) : Type 0 where
   pub long : length u ≡ len
   pub over : Over P D p u
-  pub clean : Clean P R u
+  pub clean : Clean P R p u
 
 -- the least of these words
 pub record IsLeastClean (P : Instance) (D : Domains) (p len : ℕ) (R : List ℕ) (u : List Symbol) : Type 0 where

@@ -102,19 +102,19 @@ SidesShareNone =
 abbrev pub WindowsAreClean : Type 0
 WindowsAreClean =
     (P : Instance) (R : List ℕ) (s : List Symbol) (p len : ℕ)
-    → 0 < cells P → Meets P R s → Clean P R (window s p len)
+    → 0 < cells P → Meets P R s → Clean P R p (window s p len)
 
 -- a clean word stays clean when it is cut at either end
 abbrev pub PartsAreClean : Type 0
 PartsAreClean =
-    (P : Instance) (R : List ℕ) (before part after : List Symbol)
-    → Clean P R (before ++ part ++ after) → Clean P R part
+    (P : Instance) (R : List ℕ) (p : ℕ) (before part after : List Symbol)
+    → Clean P R p (before ++ part ++ after) → Clean P R (p + length before) part
 
 -- and when rules are taken out of the list
 abbrev pub FewerRulesAreClean : Type 0
 FewerRulesAreClean =
-    (P : Instance) (R fewer : List ℕ) (u : List Symbol)
-    → ((k : ℕ) → Contains fewer k → Contains R k) → Clean P R u → Clean P fewer u
+    (P : Instance) (R fewer : List ℕ) (p : ℕ) (u : List Symbol)
+    → ((k : ℕ) → Contains fewer k → Contains R k) → Clean P R p u → Clean P fewer p u
 
 -- the roster meets the rule of each day on which something weighs
 abbrev pub MeetsWeighedDays : Instance → List Weight → List Symbol → Type 0

@@ -32,7 +32,7 @@ SomeDayHolds P D = (j : ℕ) × (x : Symbol) × (over : Bool) × LineFits P None
 -- no word of two turns that is clean for the list has the symbol at the position
 abbrev pub NoWordHas : Instance → Domains → List ℕ → ℕ → Symbol → Type 0
 NoWordHas P D R p x =
-    (u : List Symbol) → length u ≡ 2 * cells P → Over P D 0 u → Clean P R u → slice_get u p ≡ Some x → ⊥
+    (u : List Symbol) → length u ≡ 2 * cells P → Over P D 0 u → Clean P R 0 u → slice_get u p ≡ Some x → ⊥
 
 -- a symbol is spent at a position where another is left there too, and a day leaf holds once it is alone there, or no
 -- word has it there

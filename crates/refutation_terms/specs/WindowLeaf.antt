@@ -19,4 +19,4 @@ WindowCites P number r = Names P (number ∷ []) r
 -- the number is that of a rule for which every word of this length from p on is bad. No day's rule has bad words
 abbrev pub IsBlocked : Instance → Domains → ℕ → ℕ → ℕ → Type 0
 IsBlocked P D number p len =
-    (r : Rule) × (rule_of P number ≡ Some r) × ((u : List Symbol) → length u ≡ len → Over P D p u → Bad P r u)
+    (r : Rule) × (rule_of P number ≡ Some r) × ((u : List Symbol) → length u ≡ len → Over P D p u → Bad P r p u)

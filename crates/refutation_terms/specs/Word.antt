@@ -1,12 +1,12 @@
 -- Words over domains, clean words, and what words weigh.
-use Rattle.std.specs.Prelude.{◌≡◌, ℕ, ◌+◌, ◌*◌, ◌%◌, ◌<◌, ◌≤◌, List, [], ◌∷◌, ◌++◌, Bool, IsTrue, nat_le, ℤ, pos, ◌+ℤ◌, ◌*ℤ◌, slice_index_or}
+use Rattle.std.specs.Prelude.{◌≡◌, ℕ, ◌+◌, ◌*◌, ◌%◌, ◌<◌, ◌≤◌, List, [], ◌∷◌, Bool, IsTrue, nat_le, ℤ, pos, ◌+ℤ◌, ◌*ℤ◌, slice_index_or}
 use Rattle.std.specs.Int.{int_min}
 use Rattle.std.specs.List.{range_with_len}
 use Rattle.rwsp_terms.specs.declared.data.Symbol.{Symbol}
 use Rattle.rwsp_terms.specs.declared.data.Weight.{Weight}
 use Rattle.rwsp_terms.specs.declared.data.Rule.{Rule}
 use Rattle.rwsp_terms.specs.Instance.{Instance, cells, shift_count, least, greatest, off_symbol}
-use Rattle.rwsp_terms.specs.Window.{Bad, window}
+use Rattle.rwsp_terms.specs.Window.{HasNoBadPart, window}
 use Rattle.rwsp_terms.specs.Roster.{IsRoster}
 use Rattle.rwsp_terms.specs.Rules.{Names}
 use Rattle.rwsp_terms.specs.Weights.{weight_at}
@@ -43,10 +43,9 @@ abbrev pub Over : Instance → Domains → ℕ → List Symbol → Type 0
 Over P D p [] = Unit {0}
 Over P D p (x ∷ u) = IsTrue (D (p % cells P) x.number) × Over P D (p + 1) u
 
--- no part of the word is bad for a rule that the list names
-abbrev pub Clean : Instance → List ℕ → List Symbol → Type 0
-Clean P R u =
-    (before part after : List Symbol) → u ≡ before ++ part ++ after → (r : Rule) → Names P R r → Bad P r part → ⊥
+-- no part of the word from position p on is bad for a rule that the list names
+abbrev pub Clean : Instance → List ℕ → ℕ → List Symbol → Type 0
+Clean P R p u = (r : Rule) → Names P R r → HasNoBadPart P r p u
 
 -- the sum of what each day of a word from position p on weighs
 abbrev pub weight : Instance → List Weight → ℕ → List Symbol → ℤ

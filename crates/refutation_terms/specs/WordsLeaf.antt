@@ -42,12 +42,12 @@ owed P (Some goal) y reward = total P y +ℤ pos (reward * goal)
 
 -- no word of this length from p on is clean for the rules
 abbrev pub IsDead : Instance → Domains → ℕ → ℕ → List ℕ → Type 0
-IsDead P D p len R = (u : List Symbol) → length u ≡ len → Over P D p u → Clean P R u → ⊥
+IsDead P D p len R = (u : List Symbol) → length u ≡ len → Over P D p u → Clean P R p u → ⊥
 
 -- every clean word of this number of turns, from p on, weighs less than is owed for these turns
 abbrev pub IsTooLight : Instance → Option ℕ → Domains → ℕ → ℕ → ℕ → List ℕ → List Weight → Type 0
 IsTooLight P goal D p turns reward R y =
-    (u : List Symbol) → length u ≡ turns * cells P → Over P D p u → Clean P R u
+    (u : List Symbol) → length u ≡ turns * cells P → Over P D p u → Clean P R p u
     → worth P goal y reward p u <ℤ (pos turns *ℤ owed P goal y reward)
 
 -- the claim is true under the domains

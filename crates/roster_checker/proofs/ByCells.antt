@@ -3,7 +3,7 @@ use Rattle.std.proofs.Common.{◌≡◌, ℕ, zero, suc, ◌+◌, ◌<◌, List,
 use Rattle.std.specs.Prelude.{Option, MatchOption}
 use Rattle.rwsp_terms.specs.declared.data.Symbol.{Symbol}
 use Rattle.rwsp_terms.specs.declared.data.Rule.{Rule}
-use Rattle.rwsp_terms.specs.declared.data.Rule.TheVariants.{MaxShift, MinShift, MaxOff, MinOff, MaxWork, MinWork, Pair, Triple, Day}
+use Rattle.rwsp_terms.specs.declared.data.Rule.TheVariants.{Most, Least, Never, Day}
 use Rattle.rwsp_terms.specs.Instance.{Instance}
 use Rattle.rwsp_terms.specs.Roster.{HasNoWindow, MeetsRule}
 use Rattle.rwsp_terms.specs.Window.{Bad, window}
@@ -23,11 +23,11 @@ only_window : (s : List Symbol) (p : ℕ) (u : List Symbol) → MayStand (held_b
 only_window s p [] stands = refl
 only_window s p (x ∷ u) stands = ap (λ y. y ∷ window s (p + 1) (length u)) stands.0 ∙ ap (λ w. x ∷ w) (only_window s (p + 1) u stands.1)
 
-bad_window : (P : Instance) (r : Rule) (s : List Symbol) (p len : ℕ) → AreAllBad P r (held_by s) p len → Bad P r (window s p len)
+bad_window : (P : Instance) (r : Rule) (s : List Symbol) (p len : ℕ) → AreAllBad P r (held_by s) p len → Bad P r p (window s p len)
 bad_window P r s p len each = each (window s p len) (length-window s p len) (window_stands s p len)
 
-all_bad : (P : Instance) (r : Rule) (s : List Symbol) (p len : ℕ) → Bad P r (window s p len) → AreAllBad P r (held_by s) p len
-all_bad P r s p len bad u long stands = subst (Bad P r) (ap (window s p) (sym long) ∙ only_window s p u stands) bad
+all_bad : (P : Instance) (r : Rule) (s : List Symbol) (p len : ℕ) → Bad P r p (window s p len) → AreAllBad P r (held_by s) p len
+all_bad P r s p len bad u long stands = subst (Bad P r p) (ap (window s p) (sym long) ∙ only_window s p u stands) bad
 
 pub no_window : (P : Instance) (r : Rule) (s : List Symbol) (n : ℕ) → n ≡ length s → HasNoneBefore P r (held_by s) n → HasNoWindow (Bad P r) s
 no_window P r s n is none p len lt bad = none p len (subst (λ m. p < m) (sym is) lt) (all_bad P r s p len bad)
@@ -46,25 +46,15 @@ first_window P r s n w is h = record {
 -- a rule that isn't a day's is met where it has no bad window, and broken at its first one
 
 meets_windows : (P : Instance) (r : Rule) (s : List Symbol) → ((j : ℕ) → r ≡ Day j → ⊥) → HasNoWindow (Bad P r) s → MeetsRule P r s
-meets_windows P (MaxShift x) s other none = none
-meets_windows P (MinShift x) s other none = none
-meets_windows P MaxOff s other none = none
-meets_windows P MinOff s other none = none
-meets_windows P MaxWork s other none = none
-meets_windows P MinWork s other none = none
-meets_windows P (Pair k) s other none = none
-meets_windows P (Triple k) s other none = none
+meets_windows P (Most c) s other none = none
+meets_windows P (Least c) s other none = none
+meets_windows P (Never k) s other none = none
 meets_windows P (Day j) s other none = absurd (other j refl)
 
 breaks_window : (P : Instance) (r : Rule) (s : List Symbol) (p n : ℕ) → ((j : ℕ) → r ≡ Day j → ⊥) → IsFirstWindow (Bad P r) s p n → IsFirstPlace P r s p n
-breaks_window P (MaxShift x) s p n other first = first
-breaks_window P (MinShift x) s p n other first = first
-breaks_window P MaxOff s p n other first = first
-breaks_window P MinOff s p n other first = first
-breaks_window P MaxWork s p n other first = first
-breaks_window P MinWork s p n other first = first
-breaks_window P (Pair k) s p n other first = first
-breaks_window P (Triple k) s p n other first = first
+breaks_window P (Most c) s p n other first = first
+breaks_window P (Least c) s p n other first = first
+breaks_window P (Never k) s p n other first = first
 breaks_window P (Day j) s p n other first = absurd (other j refl)
 
 pub window_place : (P : Instance) (r : Rule) (s : List Symbol) (found : Option Place) → ((j : ℕ) → r ≡ Day j → ⊥)

@@ -11,7 +11,7 @@ use Rattle.rwsp_terms.specs.Roster.{MeetsRule, MeetsAll, IsRule}
 use Rattle.rwsp_terms.specs.Rules.{rule_of}
 use Rattle.rwsp_terms.specs.declared.data.Symbol.{Symbol}
 use Rattle.rwsp_terms.specs.declared.data.Rule.{Rule}
-use Rattle.rwsp_terms.specs.declared.data.Rule.TheVariants.{MaxShift, MinShift, MaxOff, MinOff, MaxWork, MinWork, Pair, Triple, Day}
+use Rattle.rwsp_terms.specs.declared.data.Rule.TheVariants.{Most, Least, Never, Day}
 use Rattle.roster_checker.specs.FirstBroken.{BeginsFirstBadWindow, BreaksFirst, FailsDay, IsFirstWindow, IsFirstBroken, position_of}
 use Rattle.roster_checker.specs.Places.{IsFirstPlace, IsBrokenAt}
 use Rattle.roster_checker.specs.declared.broken.Broken.{Broken}
@@ -19,14 +19,9 @@ use Rattle.rwsp_model.proofs.Numbering.{rule_numbered}
 
 -- a rule that is broken isn't met
 breaks-not_met : (P : Instance) (r : Rule) (s : List Symbol) (b : Broken) → BreaksFirst P r s b → MeetsRule P r s → ⊥
-breaks-not_met P (MaxShift x) s b h met = met _ _ h.first.within h.first.here
-breaks-not_met P (MinShift x) s b h met = met _ _ h.first.within h.first.here
-breaks-not_met P MaxOff s b h met = met _ _ h.first.within h.first.here
-breaks-not_met P MinOff s b h met = met _ _ h.first.within h.first.here
-breaks-not_met P MaxWork s b h met = met _ _ h.first.within h.first.here
-breaks-not_met P MinWork s b h met = met _ _ h.first.within h.first.here
-breaks-not_met P (Pair k) s b h met = met _ _ h.first.within h.first.here
-breaks-not_met P (Triple k) s b h met = met _ _ h.first.within h.first.here
+breaks-not_met P (Most c) s b h met = met _ _ h.first.within h.first.here
+breaks-not_met P (Least c) s b h met = met _ _ h.first.within h.first.here
+breaks-not_met P (Never k) s b h met = met _ _ h.first.within h.first.here
 breaks-not_met P (Day j) s b h met = h.fails met
 
 pub first_broken-not_met : (P : Instance) (s : List Symbol) (b : Broken) → IsFirstBroken P s b → MeetsAll P s → ⊥
@@ -34,14 +29,14 @@ first_broken-not_met P s b f all = breaks-not_met P f.rule s b f.breaks (all.rul
 
 -- the first window of a kind is one
 
-same_position : (IsKind : List Symbol → Type 0) (s : List Symbol) (p m q n : ℕ) → IsFirstWindow IsKind s p m → IsFirstWindow IsKind s q n → p ≡ q
+same_position : (IsKind : ℕ → List Symbol → Type 0) (s : List Symbol) (p m q n : ℕ) → IsFirstWindow IsKind s p m → IsFirstWindow IsKind s q n → p ≡ q
 same_position IsKind s p m q n a b =
     elim (cases_order p q) [
       | inl same ↦ same
       | inr other ↦ elim other [ inl less ↦ absurd (b.earliest p m less a.here) | inr more ↦ absurd (a.earliest q n more b.here) ]
     ]
 
-same_length : (IsKind : List Symbol → Type 0) (s : List Symbol) (p m n : ℕ) → IsFirstWindow IsKind s p m → IsFirstWindow IsKind s p n → m ≡ n
+same_length : (IsKind : ℕ → List Symbol → Type 0) (s : List Symbol) (p m n : ℕ) → IsFirstWindow IsKind s p m → IsFirstWindow IsKind s p n → m ≡ n
 same_length IsKind s p m n a b =
     elim (cases_order m n) [
       | inl same ↦ same
@@ -72,14 +67,9 @@ same_window P r s a b f g =
     )
 
 same_place : (P : Instance) (r : Rule) (s : List Symbol) (a b : Broken) → BreaksFirst P r s a → BreaksFirst P r s b → SamePlace a b
-same_place P (MaxShift x) s a b f g = same_window P (MaxShift x) s a b f g
-same_place P (MinShift x) s a b f g = same_window P (MinShift x) s a b f g
-same_place P MaxOff s a b f g = same_window P MaxOff s a b f g
-same_place P MinOff s a b f g = same_window P MinOff s a b f g
-same_place P MaxWork s a b f g = same_window P MaxWork s a b f g
-same_place P MinWork s a b f g = same_window P MinWork s a b f g
-same_place P (Pair k) s a b f g = same_window P (Pair k) s a b f g
-same_place P (Triple k) s a b f g = same_window P (Triple k) s a b f g
+same_place P (Most c) s a b f g = same_window P (Most c) s a b f g
+same_place P (Least c) s a b f g = same_window P (Least c) s a b f g
+same_place P (Never k) s a b f g = same_window P (Never k) s a b f g
 same_place P (Day j) s a b f g = (f.week ∙ sym g.week, f.day ∙ sym g.day, f.length ∙ sym g.length)
 
 same_answer : (a b : Broken) → a.rule ≡ b.rule → SamePlace a b → a ≡ b
@@ -142,23 +132,13 @@ day_fails P j s b p n is at first =
     }
 
 pub place_breaks : (P : Instance) (r : Rule) (s : List Symbol) (b : Broken) (p n : ℕ) → length s ≡ P.weeks * P.days → IsRule P r → IsBrokenAt P b p n → IsFirstPlace P r s p n → BreaksFirst P r s b
-place_breaks P (MaxShift x) s b p n long is at first = window_begins P (MaxShift x) s b p n long at first
-place_breaks P (MinShift x) s b p n long is at first = window_begins P (MinShift x) s b p n long at first
-place_breaks P MaxOff s b p n long is at first = window_begins P MaxOff s b p n long at first
-place_breaks P MinOff s b p n long is at first = window_begins P MinOff s b p n long at first
-place_breaks P MaxWork s b p n long is at first = window_begins P MaxWork s b p n long at first
-place_breaks P MinWork s b p n long is at first = window_begins P MinWork s b p n long at first
-place_breaks P (Pair k) s b p n long is at first = window_begins P (Pair k) s b p n long at first
-place_breaks P (Triple k) s b p n long is at first = window_begins P (Triple k) s b p n long at first
+place_breaks P (Most c) s b p n long is at first = window_begins P (Most c) s b p n long at first
+place_breaks P (Least c) s b p n long is at first = window_begins P (Least c) s b p n long at first
+place_breaks P (Never k) s b p n long is at first = window_begins P (Never k) s b p n long at first
 place_breaks P (Day j) s b p n long is at first = day_fails P j s b p n is at first
 
 pub place_is_small : (P : Instance) (r : Rule) (s : List Symbol) (p n : ℕ) → length s ≤ MOST_CELLS → P.days ≤ MOST_CELLS → IsRule P r → IsFirstPlace P r s p n → p < MOST_CELLS
-place_is_small P (MaxShift x) s p n few days is first = omega (arith, few, first.within)
-place_is_small P (MinShift x) s p n few days is first = omega (arith, few, first.within)
-place_is_small P MaxOff s p n few days is first = omega (arith, few, first.within)
-place_is_small P MinOff s p n few days is first = omega (arith, few, first.within)
-place_is_small P MaxWork s p n few days is first = omega (arith, few, first.within)
-place_is_small P MinWork s p n few days is first = omega (arith, few, first.within)
-place_is_small P (Pair k) s p n few days is first = omega (arith, few, first.within)
-place_is_small P (Triple k) s p n few days is first = omega (arith, few, first.within)
+place_is_small P (Most c) s p n few days is first = omega (arith, few, first.within)
+place_is_small P (Least c) s p n few days is first = omega (arith, few, first.within)
+place_is_small P (Never k) s p n few days is first = omega (arith, few, first.within)
 place_is_small P (Day j) s p n few days is first = omega (arith, days, is.1, first.1)

@@ -9,13 +9,13 @@ use Rattle.rwsp_terms.specs.declared.data.Rule.{Rule}
 use Rattle.rwsp_terms.specs.declared.data.Rule.TheVariants.{Day}
 use Rattle.roster_checker.specs.declared.broken.Broken.{Broken}
 
--- the window of this length from p on is of the kind, none that begins earlier is, and none that begins there and
--- is shorter
-pub record IsFirstWindow (IsKind : List Symbol → Type 0) (s : List Symbol) (p days : ℕ) : Type 0 where
+-- the window of this length from p on is of the kind, which may ask for the position where it begins; none that begins
+-- earlier is, and none that begins there and is shorter
+pub record IsFirstWindow (IsKind : ℕ → List Symbol → Type 0) (s : List Symbol) (p days : ℕ) : Type 0 where
   pub within : p < length s
-  pub here : IsKind (window s p days)
-  pub earliest : (q len : ℕ) → q < p → IsKind (window s q len) → ⊥
-  pub shortest : (len : ℕ) → len < days → IsKind (window s p len) → ⊥
+  pub here : IsKind p (window s p days)
+  pub earliest : (q len : ℕ) → q < p → IsKind q (window s q len) → ⊥
+  pub shortest : (len : ℕ) → len < days → IsKind p (window s p len) → ⊥
 
 -- the position of a day in a week, both counted from 1; positions are counted from 0
 abbrev pub position_of : Instance → ℕ → ℕ → ℕ

@@ -5,11 +5,12 @@ use Rattle.rwsp_terms.specs.declared.data.Symbol.{Symbol}
 use Rattle.refutation_terms.specs.Word.{Clean}
 use Rattle.refutation_terms.proofs.Windows.{clean-part}
 use Rattle.clean_words.specs.Moves.{Moves, after, lead}
-use Rattle.clean_words.specs.Automata.{RuleAutomaton, IsAutomaton}
+use Rattle.clean_words.specs.Automata.{RuleAutomaton, IsAutomaton, begin_at}
 use Rattle.roster_finder.specs.Cycles.{repeated, IsCleanCycle, IsClosedWalk}
+use Rattle.roster_finder.specs.Led.{LeadsRound, word_of}
 
 -- a word leads on from where the one before it leads
-pub lead_on : (moves : Moves) (s : Option ℕ) (u w : List Symbol) → lead moves s (u ++ w) ≡ lead moves (lead moves s u) w
+lead_on : (moves : Moves) (s : Option ℕ) (u w : List Symbol) → lead moves s (u ++ w) ≡ lead moves (lead moves s u) w
 lead_on moves s [] w = refl
 lead_on moves s (x ∷ u) w = lead_on moves (after moves s x) u w
 
@@ -21,11 +22,21 @@ leads_back moves s w (suc k) closed =
     ∙ ap (λ (t : Option ℕ). lead moves t (repeated k w)) closed
     ∙ leads_back moves s w k closed
 
-pub closed_is_clean : (a : RuleAutomaton) → IsAutomaton a → (w : List Symbol) → IsClosedWalk a w → IsCleanCycle a w
-closed_is_clean a is w round k =
-    let whole : lead a.moves (Some 0) (round.entry ++ repeated k w) ≡ Some round.state =
-    lead_on a.moves (Some 0) round.entry (repeated k w)
-    ∙ ap (λ (t : Option ℕ). lead a.moves t (repeated k w)) round.entered
-    ∙ leads_back a.moves round.state w k round.closed in
-    let clean : Clean a.problem a.rules (round.entry ++ repeated k w) = is.reads (round.entry ++ repeated k w) round.state whole in
-    clean-part a.problem a.rules round.entry (repeated k w) [] (subst (Clean a.problem a.rules) (sym (append-nil (round.entry ++ repeated k w))) clean)
+-- what leads to a state and from there round and round is clean
+round_clean : (a : RuleAutomaton) → IsAutomaton a → (p s : ℕ) (entry w : List Symbol) (k : ℕ) → lead a.moves (Some (begin_at a p)) entry ≡ Some s → lead a.moves (Some s) w ≡ Some s → Clean a.problem a.rules p (entry ++ repeated k w)
+round_clean a is p s entry w k entered closed =
+    is.reads p (entry ++ repeated k w) s
+    (lead_on a.moves (Some (begin_at a p)) entry (repeated k w)
+    ∙ ap (λ (t : Option ℕ). lead a.moves t (repeated k w)) entered
+    ∙ leads_back a.moves s w k closed)
+
+pub closed_is_clean : (a : RuleAutomaton) → IsAutomaton a → (p : ℕ) (w : List Symbol) → IsClosedWalk a p w → IsCleanCycle a p w
+closed_is_clean a is p w round k =
+    let clean : Clean a.problem a.rules round.start (round.entry ++ repeated k w) = round_clean a is round.start round.state round.entry w k round.entered round.closed in
+    subst (λ (q : ℕ). Clean a.problem a.rules q (repeated k w)) (sym round.behind)
+    (clean-part a.problem a.rules round.start round.entry (repeated k w) [] (subst (Clean a.problem a.rules round.start) (sym (append-nil (round.entry ++ repeated k w))) clean))
+
+-- so is a word that leads from where it leads, read from the first day on, back there
+pub round_is_clean : (a : RuleAutomaton) → IsAutomaton a → (numbers : List ℕ) → LeadsRound a numbers → IsCleanCycle a 0 (word_of numbers)
+round_is_clean a is numbers round zero = is.reads 0 [] (begin_at a 0) refl
+round_is_clean a is numbers round (suc k) = round_clean a is 0 round.0 (word_of numbers) (word_of numbers) k round.1 round.2

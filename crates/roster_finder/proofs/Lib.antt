@@ -1,7 +1,7 @@
 pub mod AutomatonSteps
 pub mod ClosedWalks
 pub mod GivenCells
-pub mod LedStates
+pub mod Leading
 pub mod Places
 pub mod QuotaSteps
 pub mod UsedSteps

@@ -1,19 +1,8 @@
--- The states that words lead to.
-use Rattle.std.specs.Prelude.{◌≡◌, ℕ, ◌<◌, List, length, map, Option, Some, slice_index_or}
+-- Where words lead whose symbols are given by their numbers.
+use Rattle.std.specs.Prelude.{◌≡◌, ℕ, List, map, Option, Some}
 use Rattle.rwsp_terms.specs.declared.data.Symbol.{Symbol}
 use Rattle.clean_words.specs.Moves.{lead}
-use Rattle.clean_words.specs.Automata.{RuleAutomaton}
-use Rattle.roster_finder.specs.Cycles.{IsCleanCycle}
-
--- some word leads to the state
-pub record IsLed (a : RuleAutomaton) (s : ℕ) : Type 0 where
-  pub state : s < length a.moves
-  pub word : List Symbol
-  pub leads : lead a.moves (Some 0) word ≡ Some s
-
--- some word leads to the state, where there is one
-abbrev pub IsLedIfAny : RuleAutomaton → Option ℕ → Type 0
-IsLedIfAny a state = (s : ℕ) → state ≡ Some s → IsLed a s
+use Rattle.clean_words.specs.Automata.{RuleAutomaton, begin_at}
 
 -- the word of symbols with these numbers
 abbrev pub word_of : List ℕ → List Symbol
@@ -23,15 +12,6 @@ word_of numbers = map (λ n. record { number = n }) numbers
 abbrev pub lead_from : RuleAutomaton → ℕ → List ℕ → Option ℕ
 lead_from a state numbers = lead a.moves (Some state) (word_of numbers)
 
--- the state of the node, of these states of nodes
-abbrev pub state_of : List ℕ → ℕ → ℕ
-state_of states node = slice_index_or states node 0
-
--- the word of these numbers leads from the state back to it
-abbrev pub LeadsBack : RuleAutomaton → ℕ → List ℕ → Type 0
-LeadsBack a state numbers = lead_from a state numbers ≡ Some state
-
--- each word that leads from the state back to it is clean however often it is repeated
-pub record ClosesClean (a : RuleAutomaton) (s : ℕ) : Type 0 where
-  pub state : s < length a.moves
-  pub clean : (w : List Symbol) → lead a.moves (Some s) w ≡ Some s → IsCleanCycle a w
+-- read from the first day on the word of these numbers leads to a state, and read once more back to it
+abbrev pub LeadsRound : RuleAutomaton → List ℕ → Type 0
+LeadsRound a numbers = (s : ℕ) × (lead_from a (begin_at a 0) numbers ≡ Some s) × (lead_from a s numbers ≡ Some s)

@@ -12,7 +12,6 @@ mod draft;
 mod finding;
 mod heavy_word;
 mod laws;
-mod led_states;
 mod mixture;
 mod nodes;
 mod numbers;

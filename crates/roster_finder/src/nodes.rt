@@ -1,12 +1,8 @@
-// Which states of the automaton are nodes: those that some word leads to and that words without beginning and end pass
-// through.
-ghost use Rattle.std.specs.Prelude.{◌≡◌, ℕ, ◌+◌, ◌<◌, ◌≤◌, length, All, IfOk, IfSome, OnOk};
-ghost use Rattle.clean_words.specs.Automata.{RuleAutomaton};
+// Which states of the automaton are nodes: those that words without beginning and end pass through.
+ghost use Rattle.std.specs.Prelude.{◌≡◌, ◌+◌, ◌<◌, ◌≤◌, length, All, IfOk, IfSome, OnOk};
 ghost use Rattle.roster_finder.specs.AutomatonSteps.{IsMoveOf};
-ghost use Rattle.roster_finder.specs.Led.{ClosesClean, IsLed, IsLedIfAny};
 ghost use Rattle.roster_finder.specs.Steps.{IsBelow};
 
-use crate::led_states::led_states;
 use clean_words::{Automaton, Step as Move};
 use std::alloc::{AllocError, Global};
 
@@ -16,47 +12,36 @@ pub(crate) struct Nodes {
     pub count: usize,
     // For each state its number among the nodes, where it is one.
     numbers: Vec<Option<usize>>,
-    /// The state of each node.
-    pub states: Vec<u32>,
     ghost within: { All (IsBelow count) numbers.items },
-    ghost whole: { length states.items ≡ count },
+    ghost few: { count ≤ length numbers.items },
 }
 
 impl Nodes {
     /// Those of an automaton.
     pub fn of(alloc: Global, automaton: &Automaton) -> Result<Nodes, AllocError>
-        ensures numbers { IfOk result (λ n. length n.numbers.items ≡ length automaton.now.moves) }
-        ensures led { IfOk result (λ n. All (IsLed automaton.now) n.states.items) }
-        ensures clean { IfOk result (λ n. All (ClosesClean automaton.now) n.states.items) }
+        ensures { IfOk result (λ n. length n.numbers.items ≡ length automaton.now.moves) }
     {
-        automaton.prove_facts();
-        let led = led_states(alloc, automaton)?;
         let passed = passed_states(alloc, automaton)?;
         let mut nodes = Nodes {
             count: 0,
             numbers: Vec::new(alloc),
-            states: Vec::new(alloc),
         };
-        for place in 0..automaton.states() {
-            nodes.push(node_at(&led, &passed, place))?;
+        for is_node in &passed {
+            nodes.push(*is_node)?;
         }
         Ok(nodes)
     }
 
-    // Numbers a state as the next node; or none, where the next state isn't one.
-    fn push(&mut self, state: Option<u32>) -> Result<(), AllocError>
-        ensures long { OnOk result (length self.new.numbers.items ≡ length self.old.numbers.items + 1) }
-        ensures led { OnOk result ((a : RuleAutomaton) → IsLedIfAny a state
-            → All (IsLed a) self.old.states.items → All (IsLed a) self.new.states.items) }
+    // Numbers the next state, where it is a node.
+    fn push(&mut self, is_node: bool) -> Result<(), AllocError>
+        ensures { OnOk result (length self.new.numbers.items ≡ length self.old.numbers.items + 1) }
     {
-        let Some(state) = state else {
+        if !is_node {
             self.numbers.push(None)?;
             return Ok(());
-        };
-        self.states.push(state)?;
-        let number = self.count;
-        self.count = self.states.len();
-        self.numbers.push(Some(number))?;
+        }
+        self.numbers.push(Some(self.count))?;
+        self.count += 1;
         Ok(())
     }
 
@@ -67,15 +52,6 @@ impl Nodes {
     {
         self.numbers[state]
     }
-}
-
-// The state of a place, where it is to be a node: where some word leads to it and it is passed.
-fn node_at(led: &[Option<u32>], passed: &[bool], place: usize) -> Option<u32>
-    requires led { place < length led.now }
-    requires passed { place < length passed.now }
-    ensures { (a : RuleAutomaton) → All (IsLedIfAny a) led.now → IsLedIfAny a result }
-{
-    if passed[place] { led[place] } else { None }
 }
 
 /// A step of the automaton.

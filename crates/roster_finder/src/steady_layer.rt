@@ -5,7 +5,7 @@ ghost use Rattle.rwsp_terms.specs.Instance.{shift_count};
 ghost use Rattle.rwsp_terms.specs.Rules.{NamesShortRules};
 ghost use Rattle.rwsp_terms.specs.declared.limits.TheConstants.{MOST_SYMBOLS};
 ghost use Rattle.roster_finder.specs.Cycles.{IsCleanCycle};
-ghost use Rattle.roster_finder.specs.Led.{ClosesClean, LeadsBack, lead_from, state_of, word_of};
+ghost use Rattle.roster_finder.specs.Led.{LeadsRound, lead_from, word_of};
 ghost use Rattle.roster_finder.specs.Steps.{IsStepWithin, IsBelow, IsUnder};
 
 use crate::nodes::{Nodes, move_of};
@@ -17,8 +17,8 @@ use rwsp_terms::Symbol;
 use std::alloc::{AllocError, Global};
 
 /// The nodes that clean words without beginning and end pass through, and the steps between them. A node is a state of
-/// the automaton of the short rules that some word leads to; each state tells the last symbol. So a closed walk is a
-/// clean cyclic word (`closed_walks_are_clean`).
+/// the automaton of the short rules; each state tells the last symbol. A word that leads round is a clean cyclic word
+/// (`leads_round`).
 #[derive(Drop)]
 pub struct SteadyLayer {
     /// The number of symbols, the day off among them.
@@ -26,16 +26,12 @@ pub struct SteadyLayer {
     /// The number of nodes.
     pub nodes: usize,
     automaton: Automaton,
-    // The state of each node.
-    states: Vec<u32>,
     steps: Vec<Step>,
     // The last symbol of each node.
     last: Numbers,
     // The number of the step out of each node by each symbol, node by node.
     out: Vec<Option<usize>>,
     ghost few_symbols: { symbols ≤ MOST_SYMBOLS },
-    ghost states_whole: { length states.items ≡ nodes },
-    ghost walks_clean: { All (ClosesClean automaton) states.items },
     ghost steps_within: { All (IsStepWithin nodes symbols) steps.items },
     ghost few_steps: { length steps.items < 2 ^ 32 },
     ghost last_whole: { length last.entries.items ≡ nodes },
@@ -62,7 +58,6 @@ impl SteadyLayer {
             symbols,
             nodes: nodes.count,
             automaton,
-            states: nodes.states,
             steps,
             last,
             out,
@@ -120,14 +115,15 @@ impl SteadyLayer {
         Some(self.step(number).to)
     }
 
-    // The state to which a word leads from the state of a node.
-    fn state_behind(&self, node: usize, word: &[usize]) -> Option<u32>
-        requires node { node < self.now.nodes }
+    // The state to which a word leads from a state.
+    fn state_behind(&self, start: u32, word: &[usize]) -> Option<u32>
+        requires start { start < length self.now.automaton.moves }
         requires word { All (IsUnder self.now.symbols) word.now }
-        ensures { result ≡ lead_from self.now.automaton (state_of self.now.states.items node) word.now }
+        ensures value { result ≡ lead_from self.now.automaton start word.now }
+        ensures inside { IfSome result (λ s. s < length self.now.automaton.moves) }
     {
         self.automaton.prove_facts();
-        let mut state = self.states[node];
+        let mut state = start;
         for number in word {
             let symbol = Symbol {
                 number: *number as u8,
@@ -137,15 +133,18 @@ impl SteadyLayer {
         Some(state)
     }
 
-    /// Whether a word leads from the state of a node back to it. Such a word is clean however often it is repeated.
-    pub fn leads_back(&self, node: usize, word: &[usize]) -> bool
-        requires node { node < self.now.nodes }
-        requires word { All (IsUnder self.now.symbols) word.now }
-        ensures back { IsTrue result ↔
-            LeadsBack self.now.automaton (state_of self.now.states.items node) word.now }
-        ensures clean { IsTrue result → IsCleanCycle self.now.automaton (word_of word.now) }
+    /// Whether a word, read from the first day on, leads to a state, and read once more back to it. Such a word is clean
+    /// however often it is repeated.
+    pub fn leads_round(&self, word: &[usize]) -> bool
+        requires { All (IsUnder self.now.symbols) word.now }
+        ensures round { IsTrue result ↔ LeadsRound self.now.automaton word.now }
+        ensures clean { IsTrue result → IsCleanCycle self.now.automaton 0 (word_of word.now) }
     {
-        self.state_behind(node, word) == Some(self.states[node])
+        self.automaton.prove_facts();
+        let Some(state) = self.state_behind(self.automaton.start(0), word) else {
+            return false;
+        };
+        self.state_behind(state, word) == Some(state)
     }
 }
 

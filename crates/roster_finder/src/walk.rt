@@ -48,15 +48,14 @@ impl Walk {
         })
     }
 
-    /// The word, where it leads from the state of the first node back to it, as it does; so it is clean however often it
-    /// is repeated.
+    /// The word, where it leads round, as it does; so it is clean however often it is repeated.
     pub fn closed_word(&self, layer: &SteadyLayer) -> Option<&[usize]>
         requires { IsWalkOf layer.now self.now }
         ensures word { IfSome result (λ w. w.now ≡ self.now.symbols.entries.items) }
-        ensures clean { IfSome result (λ w. IsCleanCycle layer.now.automaton (word_of w.now)) }
+        ensures clean { IfSome result (λ w. IsCleanCycle layer.now.automaton 0 (word_of w.now)) }
     {
         let word = self.symbols.entries();
-        if layer.leads_back(self.node(0), word) {
+        if layer.leads_round(word) {
             Some(word)
         } else {
             None

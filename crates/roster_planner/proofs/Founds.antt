@@ -28,7 +28,7 @@ abbrev Spent : Type 1
 Spent = Store → ℕ → Symbol → Type 0
 
 other_list : (P : Instance) (goal : ℕ) (R S : List ℕ) → NamesShortRules P R → NamesShortRules P S → HoldsFreeAtTop P goal R → HoldsFreeAtTop P goal S
-other_list P goal R S r s h = λ u long over clean. h u long over (clean_by_other_list P R S u r s clean)
+other_list P goal R S r s h = λ u long over clean. h u long over (clean_by_other_list P R S 0 u r s clean)
 
 free_sharp : (P : Instance) (goal : ℕ) (leaves : Leaves) (spent : Spent) (g : Log) → KeepsLimits P → FailsFreeAtTop P goal → AreCaseReasons P leaves spent → IsSearchLog P Full (Some goal) leaves spent g → IsFreeSharp P goal g
 free_sharp P goal leaves spent g limits fails reasons h =

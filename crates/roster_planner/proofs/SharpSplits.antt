@@ -56,11 +56,11 @@ same_day_spent P D E p x some same day =
     (day.0, day.1, day.2, day.3, same_holds P None false (narrowed D (Split p x) First) (narrowed E (Split p x) First) (Closing (Day day.0 day.1 day.2)) some tt day.3 cut day.4)
 
 -- which list of all short rules is taken makes no difference
-pub clean_by_other_list : (P : Instance) (R S : List ℕ) (u : List Symbol) → NamesShortRules P R → NamesShortRules P S → Clean P S u → Clean P R u
-clean_by_other_list P R S u r s clean = λ before part after is rule named. clean before part after is rule ((s rule).1 ((r rule).0 named))
+pub clean_by_other_list : (P : Instance) (R S : List ℕ) (p : ℕ) (u : List Symbol) → NamesShortRules P R → NamesShortRules P S → Clean P S p u → Clean P R p u
+clean_by_other_list P R S p u r s clean = λ rule named. clean rule ((s rule).1 ((r rule).0 named))
 
 other_list : (P : Instance) (D : Domains) (R S : List ℕ) (p : ℕ) (x : Symbol) → NamesShortRules P R → NamesShortRules P S → NoWordHas P D R p x → NoWordHas P D S p x
-other_list P D R S p x r s h = λ u long over clean at. h u long over (clean_by_other_list P R S u r s clean) at
+other_list P D R S p x r s h = λ u long over clean at. h u long over (clean_by_other_list P R S 0 u r s clean) at
 
 spent_for_store : (P : Instance) (S : Store) (D : Domains) (R : List ℕ) (p : ℕ) (x : Symbol) → 0 < cells P → AreShortRules P R → AreSame P D (has_domain S) → IsSpentAt P D R p x → IsDaySpent P (has_domain S) p x ⊎ IsCycleSpent P (has_domain S) p x
 spent_for_store P S D R p x some short same h =

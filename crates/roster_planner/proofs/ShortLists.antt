@@ -1,11 +1,10 @@
 -- There is a list of all short rules.
-use Rattle.std.proofs.Common.{◌≡◌, ℕ, zero, suc, ◌<◌, ◌≤◌, List, [], ◌∷◌, length, refl, ap, sym, ◌∙◌, subst, arith, Option, Some, None, ◌⊎◌, inl, inr, ⊎_elim}
+use Rattle.std.proofs.Common.{◌≡◌, ℕ, zero, suc, ◌<◌, ◌≤◌, List, [], ◌∷◌, length, refl, sym, ◌∙◌, subst, arith, Option, Some, None, ◌⊎◌, inl, inr, ⊎_elim}
 use Rattle.std.specs.Prelude.{Contains, ◌↔◌}
 use Rattle.std.proofs.lemmas.Bool.{cases_lt}
 use Rattle.rwsp_terms.specs.declared.limits.TheConstants.{GREATEST_SHORT_BOUND}
-use Rattle.rwsp_terms.specs.declared.data.Class.TheVariants.{Shift}
 use Rattle.rwsp_terms.specs.declared.data.Rule.{Rule}
-use Rattle.rwsp_terms.specs.declared.data.Rule.TheVariants.{MaxShift, MinShift, MaxOff, MinOff, MaxWork, MinWork, Pair, Triple, Day}
+use Rattle.rwsp_terms.specs.declared.data.Rule.TheVariants.{Most, Least, Never, Day}
 use Rattle.rwsp_terms.specs.Instance.{Instance, bounds}
 use Rattle.rwsp_terms.specs.Rules.{rules, rule_of, IsShort, NamesShortRules}
 use Rattle.rwsp_terms.proofs.Ascending.{Contains-cons, Contains-first, Contains-later}
@@ -21,14 +20,9 @@ at_most : (n : ℕ) → OrNot (n ≤ GREATEST_SHORT_BOUND)
 at_most n = ⊎_elim (λ (more : GREATEST_SHORT_BOUND < n). inr (λ few. omega (arith, more, few))) (λ (few : n ≤ GREATEST_SHORT_BOUND). inl few) (cases_lt GREATEST_SHORT_BOUND n)
 
 short_or_not : (P : Instance) (r : Rule) → OrNot (IsShort P r)
-short_or_not P (MaxShift x) = at_most (bounds P (Shift x)).greatest
-short_or_not P (MinShift x) = at_most (bounds P (Shift x)).least
-short_or_not P MaxOff = at_most P.off.greatest
-short_or_not P MinOff = at_most P.off.least
-short_or_not P MaxWork = at_most P.work.greatest
-short_or_not P MinWork = at_most P.work.least
-short_or_not P (Pair k) = inl tt
-short_or_not P (Triple k) = inl tt
+short_or_not P (Most c) = at_most (bounds P c).greatest
+short_or_not P (Least c) = at_most (bounds P c).least
+short_or_not P (Never k) = inl tt
 short_or_not P (Day j) = inr (λ h. h)
 
 short_number_by : (P : Instance) (k : ℕ) (o : Option Rule) → rule_of P k ≡ o → OrNot (IsShortNumber P k)

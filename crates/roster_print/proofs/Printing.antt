@@ -1,6 +1,6 @@
 -- What printing appends, step by step.
 use Rattle.std.proofs.Common.{◌≡◌, ℕ, suc, ◌+◌, ◌-◌, ◌*◌, ◌<◌, ◌≤◌, List, [], ◌∷◌, ◌++◌, length, get_or, take, drop, ap, sym, ◌∙◌, arith, append_assoc, false}
-use Rattle.std.specs.Prelude.{map, All, slice_range, ◌==◌, slice_get}
+use Rattle.std.specs.Prelude.{map, All, slice_range, ◌==◌, Some, None}
 use Rattle.std.specs.List.{flat_map, range_with_len, join_with_byte}
 use Rattle.std.proofs.lemmas.List.{take_more, flat_map_more, take_all}
 use Rattle.std.proofs.lemmas.List.Elements.{All-take, All-drop}
@@ -10,8 +10,8 @@ use Rattle.rwsp_terms.specs.Instance.{Instance, name_of, IsSymbol, off_symbol}
 use Rattle.rwsp_terms.specs.declared.data.Symbol.{Symbol}
 use Rattle.rwsp_terms.proofs.Counting.{range_more}
 use Rattle.roster_print.specs.RosterText.{week_at, week_text}
-use Rattle.roster_print.specs.RuleText.{pair_list, triple_list}
-use Rattle.std.proofs.lemmas.Option.{slice_get-get_or}
+use Rattle.rwsp_terms.specs.declared.data.Sequence.{Sequence}
+use Rattle.rwsp_terms.specs.Window.{symbols_of, third_of}
 
 -- one symbol more of those that were appended after blanks: a blank, and then the name
 pub name_more : (P : Instance) (symbols : List Symbol) (i : ℕ) (old out blank name new : List ℕ) → i < length symbols → out ≡ old ++ flat_map (λ x. 32 ∷ name_of P x) (take i symbols) → blank ≡ out ++ 32 ∷ [] → name ≡ name_of P (get_or symbols i off_symbol) → new ≡ blank ++ name → new ≡ old ++ flat_map (λ x. 32 ∷ name_of P x) (take (i + 1) symbols)
@@ -61,20 +61,9 @@ print_more P s k days out new e inv step =
     let cut : slice_range s (k * days) (k * days + days) ≡ week_at P s k = ap (λ n. take n (drop (k * days) s)) long ∙ ap (λ n. take P.days (drop (k * n) s)) e in
     step ∙ ap (λ w. out ++ week_text P w) cut ∙ week_more (λ i. week_text P (week_at P s i)) k out inv
 
--- the symbols of a sequence that was read at its place
+-- the symbols of a sequence, as they are listed
+pub two_of : (P : Instance) (q : Sequence) (old new : List ℕ) → q.third ≡ None → new ≡ old ++ flat_map (λ x. 32 ∷ name_of P x) (q.first ∷ q.second ∷ []) → new ≡ old ++ flat_map (λ x. 32 ∷ name_of P x) (symbols_of q)
+two_of P q old new none e = e ∙ ap (λ t. old ++ flat_map (λ x. 32 ∷ name_of P x) (q.first ∷ q.second ∷ third_of t)) (sym none)
 
-abbrev pub as_pair : Symbol × Symbol → List Symbol
-as_pair x = x.0 ∷ x.1 ∷ []
-
-pub pair_at : (pairs read : List (Symbol × Symbol)) (k : ℕ) → read ≡ pairs → k < length pairs → as_pair (get_or read k (off_symbol, off_symbol)) ≡ pair_list (slice_get pairs k)
-pair_at pairs read k e h =
-    ap (λ xs. as_pair (get_or xs k (off_symbol, off_symbol))) e
-    ∙ ap pair_list (sym (slice_get-get_or pairs k (off_symbol, off_symbol) h))
-
-abbrev pub as_triple : Symbol × Symbol × Symbol → List Symbol
-as_triple x = x.0 ∷ x.1 ∷ x.2 ∷ []
-
-pub triple_at : (triples read : List (Symbol × Symbol × Symbol)) (k : ℕ) → read ≡ triples → k < length triples → as_triple (get_or read k (off_symbol, off_symbol, off_symbol)) ≡ triple_list (slice_get triples k)
-triple_at triples read k e h =
-    ap (λ xs. as_triple (get_or xs k (off_symbol, off_symbol, off_symbol))) e
-    ∙ ap triple_list (sym (slice_get-get_or triples k (off_symbol, off_symbol, off_symbol) h))
+pub three_of : (P : Instance) (q : Sequence) (z : Symbol) (old new : List ℕ) → q.third ≡ Some z → new ≡ old ++ flat_map (λ x. 32 ∷ name_of P x) (q.first ∷ q.second ∷ z ∷ []) → new ≡ old ++ flat_map (λ x. 32 ∷ name_of P x) (symbols_of q)
+three_of P q z old new some e = e ∙ ap (λ t. old ++ flat_map (λ x. 32 ∷ name_of P x) (q.first ∷ q.second ∷ third_of t)) (sym some)

@@ -2,33 +2,33 @@
 use Rattle.std.specs.Prelude.{ℕ, List, [], ◌∷◌, ◌++◌, slice_get, Option, Some, None, codes}
 use Rattle.std.specs.List.{flat_map}
 use Rattle.std.specs.Fmt.{decimal}
-use Rattle.rwsp_terms.specs.Instance.{Instance, name_of}
-use Rattle.rwsp_terms.specs.declared.data.Symbol.{Symbol}
+use Rattle.rwsp_terms.specs.Instance.{Instance, name_of, sequences}
+use Rattle.rwsp_terms.specs.Window.{symbols_of}
+use Rattle.rwsp_terms.specs.declared.data.Class.{Class}
+use Rattle.rwsp_terms.specs.declared.data.Class.TheVariants.{Shift, Off, Work}
+use Rattle.rwsp_terms.specs.declared.data.Sequence.{Sequence}
 use Rattle.rwsp_terms.specs.declared.data.Rule.{Rule}
-use Rattle.rwsp_terms.specs.declared.data.Rule.TheVariants.{MaxShift, MinShift, MaxOff, MinOff, MaxWork, MinWork, Pair, Triple, Day}
+use Rattle.rwsp_terms.specs.declared.data.Rule.TheVariants.{Most, Least, Never, Day}
 
--- the symbols of the forbidden pair at a place, where there is one
-abbrev pub pair_list : Option (Symbol × Symbol) → List Symbol
-pair_list None = []
-pair_list (Some x) = x.0 ∷ x.1 ∷ []
+-- the blocks of a class
+abbrev pub class_text : Instance → Class → List ℕ
+class_text P (Shift x) = codes "shift " ++ name_of P x
+class_text P Off = codes "off"
+class_text P Work = codes "work"
 
--- the symbols of the forbidden triple at a place, where there is one
-abbrev pub triple_list : Option (Symbol × Symbol × Symbol) → List Symbol
-triple_list None = []
-triple_list (Some x) = x.0 ∷ x.1 ∷ x.2 ∷ []
+-- the day of the week of a forbidden sequence, where it has one
+abbrev pub on_day_text : Option ℕ → List ℕ
+on_day_text None = []
+on_day_text (Some day) = codes " on " ++ decimal day
 
--- `not`, and the name of each symbol after a blank
-abbrev pub not_text : Instance → List Symbol → List ℕ
-not_text P word = codes "not" ++ flat_map (λ x. 32 ∷ name_of P x) word
+-- `not`, the name of each symbol of a sequence after a blank, and its day
+abbrev pub sequence_text : Instance → Option Sequence → List ℕ
+sequence_text P None = []
+sequence_text P (Some q) = codes "not" ++ flat_map (λ x. 32 ∷ name_of P x) (symbols_of q) ++ on_day_text q.day
 
 -- what is printed of a rule; the days count from 1
 abbrev pub rule_text : Instance → Rule → List ℕ
-rule_text P (MaxShift x) = codes "max shift " ++ name_of P x
-rule_text P (MinShift x) = codes "min shift " ++ name_of P x
-rule_text P MaxOff = codes "max off"
-rule_text P MinOff = codes "min off"
-rule_text P MaxWork = codes "max work"
-rule_text P MinWork = codes "min work"
-rule_text P (Pair k) = not_text P (pair_list (slice_get P.pairs k))
-rule_text P (Triple k) = not_text P (triple_list (slice_get P.triples k))
+rule_text P (Most c) = codes "max " ++ class_text P c
+rule_text P (Least c) = codes "min " ++ class_text P c
+rule_text P (Never k) = sequence_text P (slice_get (sequences P) k)
 rule_text P (Day j) = codes "day " ++ decimal j

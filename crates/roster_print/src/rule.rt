@@ -1,13 +1,15 @@
 // The printed text of a rule.
-ghost use Rattle.std.specs.Prelude.{◌≡◌, ◌<◌, ◌++◌, All, length, slice_get, IfOk, OnOk, OnErr};
+ghost use Rattle.std.specs.Prelude.{◌≡◌, ◌<◌, ◌∷◌, ◌++◌, All, length, slice_get, IfOk, OnOk, OnErr};
 ghost use Rattle.std.specs.Fmt.{decimal};
-ghost use Rattle.rwsp_terms.specs.Instance.{IsSymbol};
+ghost use Rattle.std.specs.List.{flat_map};
+ghost use Rattle.rwsp_terms.specs.Instance.{name_of, sequences, IsClass, IsSymbol};
 ghost use Rattle.rwsp_terms.specs.Roster.{IsRule};
-ghost use Rattle.roster_print.specs.RuleText.{rule_text, not_text, pair_list, triple_list};
+ghost use Rattle.rwsp_terms.specs.Window.{symbols_of};
+ghost use Rattle.roster_print.specs.RuleText.{rule_text, class_text, on_day_text, sequence_text};
 
 use crate::names::put_after_blanks;
 use rwsp_model::Problem;
-use rwsp_terms::{Rule, Symbol};
+use rwsp_terms::{Class, Rule, Sequence};
 use rwsp_text::put_number;
 use std::alloc::{AllocError, Global};
 
@@ -19,46 +21,64 @@ fn with_number(alloc: Global, word: &str, number: u32) -> Result<Vec<u8>, AllocE
     Ok(text)
 }
 
-fn with_name(alloc: Global, word: &str, name: &[u8]) -> Result<Vec<u8>, AllocError>
-    ensures { IfOk result (λ text. text.items ≡ word.now ++ name.now) }
-{
-    let mut text = Vec::from_slice(alloc, word.as_bytes())?;
-    text.extend_from_slice(name)?;
-    Ok(text)
-}
-
-// The text of a forbidden sequence.
-fn not_sequence(
+// A word, and behind it the blocks of a class.
+fn with_class(
     alloc: Global,
     problem: &Problem,
-    sequence: &[Symbol],
+    word: &str,
+    class: Class,
 ) -> Result<Vec<u8>, AllocError>
-    requires { All (IsSymbol problem.now) sequence.now }
-    ensures { IfOk result (λ text. text.items ≡ not_text problem.now sequence.now) }
+    requires { IsClass problem.now class }
+    ensures { IfOk result (λ text. text.items ≡ word.now ++ class_text problem.now class) }
 {
-    let mut text = Vec::from_slice(alloc, b"not")?;
-    put_after_blanks(&mut text, problem, sequence)?;
+    let mut text = Vec::from_slice(alloc, word.as_bytes())?;
+    match class {
+        Class::Shift(shift) => {
+            text.extend_from_slice(b"shift ")?;
+            text.extend_from_slice(problem.name(shift))?;
+        }
+        Class::Off => text.extend_from_slice(b"off")?,
+        Class::Work => text.extend_from_slice(b"work")?,
+    }
     Ok(text)
 }
 
-fn pair_text(alloc: Global, problem: &Problem, place: u32) -> Result<Vec<u8>, AllocError>
-    requires { place < length problem.now.pairs }
-    ensures { IfOk result (λ text. text.items
-        ≡ not_text problem.now (pair_list (slice_get problem.now.pairs place))) }
+// Appends the day of the week of a forbidden sequence, where it has one.
+fn put_day(text: &mut Vec<u8>, day: Option<u32>) -> Result<(), AllocError>
+    ensures { OnOk result (text.new.items ≡ text.old.items ++ on_day_text day) }
 {
-    problem.prove_limits();
-    let (x, y) = problem.pairs()[place as usize];
-    not_sequence(alloc, problem, &[x, y])
+    if let Some(day) = day {
+        text.extend_from_slice(b" on ")?;
+        put_number(text, u64::from(day))?;
+    }
+    Ok(())
 }
 
-fn triple_text(alloc: Global, problem: &Problem, place: u32) -> Result<Vec<u8>, AllocError>
-    requires { place < length problem.now.triples }
-    ensures { IfOk result (λ text. text.items
-        ≡ not_text problem.now (triple_list (slice_get problem.now.triples place))) }
+// Appends the symbols of a forbidden sequence, each after a blank.
+fn put_symbols(text: &mut Vec<u8>, problem: &Problem, sequence: Sequence) -> Result<(), AllocError>
+    requires { All (IsSymbol problem.now) (symbols_of sequence) }
+    ensures { OnOk result (text.new.items
+        ≡ text.old.items ++ flat_map (λ x. 32 ∷ name_of problem.now x) (symbols_of sequence)) }
 {
-    problem.prove_limits();
-    let (x, y, z) = problem.triples()[place as usize];
-    not_sequence(alloc, problem, &[x, y, z])
+    match sequence.third {
+        Some(third) => {
+            put_after_blanks(text, problem, &[sequence.first, sequence.second, third])
+        }
+        None => put_after_blanks(text, problem, &[sequence.first, sequence.second]),
+    }
+}
+
+// The text of the forbidden sequence of a place.
+fn sequence_text(alloc: Global, problem: &Problem, place: u32) -> Result<Vec<u8>, AllocError>
+    requires { place < length (sequences problem.now) }
+    ensures { IfOk result (λ text. text.items
+        ≡ sequence_text problem.now (slice_get (sequences problem.now) place)) }
+{
+    let sequence = problem.sequence(place);
+    let mut text = Vec::from_slice(alloc, b"not")?;
+    put_symbols(&mut text, problem, sequence)?;
+    put_day(&mut text, sequence.day)?;
+    Ok(text)
 }
 
 fn text_of(alloc: Global, problem: &Problem, rule: Rule) -> Result<Vec<u8>, AllocError>
@@ -66,14 +86,9 @@ fn text_of(alloc: Global, problem: &Problem, rule: Rule) -> Result<Vec<u8>, Allo
     ensures { IfOk result (λ text. text.items ≡ rule_text problem.now rule) }
 {
     match rule {
-        Rule::MaxShift(shift) => with_name(alloc, "max shift ", problem.name(shift)),
-        Rule::MinShift(shift) => with_name(alloc, "min shift ", problem.name(shift)),
-        Rule::MaxOff => Vec::from_slice(alloc, b"max off"),
-        Rule::MinOff => Vec::from_slice(alloc, b"min off"),
-        Rule::MaxWork => Vec::from_slice(alloc, b"max work"),
-        Rule::MinWork => Vec::from_slice(alloc, b"min work"),
-        Rule::Pair(place) => pair_text(alloc, problem, place),
-        Rule::Triple(place) => triple_text(alloc, problem, place),
+        Rule::Most(class) => with_class(alloc, problem, "max ", class),
+        Rule::Least(class) => with_class(alloc, problem, "min ", class),
+        Rule::Never(place) => sequence_text(alloc, problem, place),
         Rule::Day(day) => with_number(alloc, "day ", day),
     }
 }

@@ -8,12 +8,13 @@ use Rattle.std.proofs.lemmas.List.Sums.{list_all-from_AllPass}
 use Rattle.std.proofs.lemmas.Option.{slice_get_cases}
 use Rattle.rwsp_terms.specs.declared.limits.TheConstants.{GREATEST_BOUND, LONGEST_WORD}
 use Rattle.rwsp_terms.specs.declared.data.Class.{Class}
+use Rattle.rwsp_terms.specs.declared.data.Class.TheVariants.{Shift, Off, Work}
 use Rattle.rwsp_terms.specs.declared.data.ShiftRow.{ShiftRow}
 use Rattle.rwsp_terms.specs.declared.data.Symbol.{Symbol}
 use Rattle.rwsp_terms.specs.declared.data.Rule.{Rule}
-use Rattle.rwsp_terms.specs.declared.data.Rule.TheVariants.{MaxShift, MinShift, MaxOff, MinOff, MaxWork, MinWork, Pair, Triple, Day}
-use Rattle.rwsp_terms.specs.Instance.{Instance, cells, shift_count, least, greatest, bounds_of, symbol_numbered, IsDay, off_symbol}
-use Rattle.rwsp_terms.specs.Window.{cell, window, TooLong, TooShort, Bad}
+use Rattle.rwsp_terms.specs.declared.data.Rule.TheVariants.{Most, Least, Never, Day}
+use Rattle.rwsp_terms.specs.Instance.{Instance, cells, shift_count, least, greatest, bounds, bounds_of, symbol_numbered, IsDay, off_symbol}
+use Rattle.rwsp_terms.specs.Window.{cell, window, third_of, TooLong, TooShort, Bad}
 use Rattle.rwsp_terms.specs.Roster.{weeks_with, MeetsDay, HasNoWindow, MeetsRule, IsRule, IsRoster, MeetsAll}
 use Rattle.rwsp_terms.specs.Rules.{rules, rule_of}
 use Rattle.rwsp_terms.proofs.Windows.{length-window}
@@ -82,16 +83,20 @@ short_length c fewest u le h =
     let e : length u ≡ length h.block + 2 = omega (arith, whole) in
     (omega arith, omega arith)
 
-bad_length : (P : Instance) (r : Rule) (u : List Symbol) → KeepsLimits P → Bad P r u → IsShortLength (length u)
-bad_length P (MaxShift x) u k h = long_length _ _ u (small_row P.shifts (x.number - 1) k.blocks).1 h
-bad_length P (MinShift x) u k h = short_length _ _ u (small_row P.shifts (x.number - 1) k.blocks).0 h
-bad_length P MaxOff u k h = long_length _ _ u k.off.1 h
-bad_length P MinOff u k h = short_length _ _ u k.off.0 h
-bad_length P MaxWork u k h = long_length _ _ u k.work.1 h
-bad_length P MinWork u k h = short_length _ _ u k.work.0 h
-bad_length P (Pair i) u k h = let e : length u ≡ 2 = ap length h.2 in (omega arith, omega arith)
-bad_length P (Triple i) u k h = let e : length u ≡ 3 = ap length h.2 in (omega arith, omega arith)
-bad_length P (Day j) u k h = absurd h
+small_bounds : (P : Instance) (c : Class) → KeepsLimits P → AreSmall (bounds P c)
+small_bounds P (Shift x) k = small_row P.shifts (x.number - 1) k.blocks
+small_bounds P Off k = k.off
+small_bounds P Work k = k.work
+
+third_few : (third : Option Symbol) → length (third_of third) ≤ 1
+third_few None = omega arith
+third_few (Some x) = omega arith
+
+bad_length : (P : Instance) (r : Rule) (p : ℕ) (u : List Symbol) → KeepsLimits P → Bad P r p u → IsShortLength (length u)
+bad_length P (Most c) p u k h = long_length c (bounds P c).greatest u (small_bounds P c k).1 h
+bad_length P (Least c) p u k h = short_length c (bounds P c).least u (small_bounds P c k).0 h
+bad_length P (Never i) p u k h = let e = ap length h.2.0 in let few = third_few h.0.third in (omega (arith, e), omega (arith, e, few))
+bad_length P (Day j) p u k h = absurd h
 
 abbrev pub NoWindowHolds : Instance → Store → Type 0
 NoWindowHolds P S = (number p len : ℕ) → WindowFits P number p len → IsBlocked P (has_domain S) number p len → ⊥
@@ -104,11 +109,11 @@ no_bad_window P S s r a none is p len lt bad =
     let number : ℕ = place_of P r + 1 in
     let at : rule_of P number ≡ Some r = number_at_place P r number is refl in
     let within : number ≤ length (rules P) = number_within P r is in
-    let short = bad_length P r (window s p len) a.limits bad in
+    let short = bad_length P r p (window s p len) a.limits bad in
     let long : length (window s p len) ≡ len = length-window s p len in
     let inside : p < cells P = omega (arith, lt, a.is_roster.long) in
     none number p len (omega arith, within, inside, (omega (arith, short.0, long), omega (arith, short.1, long)))
-    (r, at, λ u e over. subst (Bad P r) (sym (word_is P S s a p u over ∙ ap (window s p) e)) bad)
+    (r, at, λ u e over. subst (Bad P r p) (sym (word_is P S s a p u over ∙ ap (window s p) e)) bad)
 
 all_alone : (P : Instance) (S : Store) (s : List Symbol) (q x : ℕ) → IsAlone P S s → q < cells P → (get_or s q off_symbol).number ≡ x → is_only P (has_domain S) q x ≡ true
 all_alone P S s q x a lt e =
@@ -144,14 +149,9 @@ meets_day P S s j a none day x small =
     not_above g c f le h = by_lt_z g (pos f) (λ less. absurd (h less)) (λ more. omega (arith, ints))
 
 meets_by : (P : Instance) (r : Rule) (s : List Symbol) → HasNoWindow (Bad P r) s → ((j : ℕ) → r ≡ Day j → MeetsDay P j s) → MeetsRule P r s
-meets_by P (MaxShift x) s h day = h
-meets_by P (MinShift x) s h day = h
-meets_by P MaxOff s h day = h
-meets_by P MinOff s h day = h
-meets_by P MaxWork s h day = h
-meets_by P MinWork s h day = h
-meets_by P (Pair k) s h day = h
-meets_by P (Triple k) s h day = h
+meets_by P (Most c) s h day = h
+meets_by P (Least c) s h day = h
+meets_by P (Never k) s h day = h
 meets_by P (Day j) s h day = day j refl
 
 -- a week that may be free is free

@@ -103,10 +103,10 @@ lists_short P named line h = h
 
 -- a line that holds without a window rule holds with it
 holds_with : (P : Instance) (n : ℕ) (goal : Option ℕ) (D : Domains) (line : Line) → IsWindowRule P n → Holds P goal D (strip_line P n line) → Holds P goal D line
-holds_with P n goal D (Closing (Words p R (Dead len))) window h = λ u long over clean. h u long over (clean-fewer P R (without_rule n R) u (λ k c. (was_listed n R k c).0) clean)
+holds_with P n goal D (Closing (Words p R (Dead len))) window h = λ u long over clean. h u long over (clean-fewer P R (without_rule n R) p u (λ k c. (was_listed n R k c).0) clean)
 holds_with P n goal D (Closing (Words p R (Light turns reward y))) window h = λ u long over clean.
     let light : IsTooLight P goal D p turns reward (without_rule n R) y = subst (λ z. IsTooLight P goal D p turns reward (without_rule n R) z) (no_day (rule_of P n) y window) h in
-    light u long over (clean-fewer P R (without_rule n R) u (λ k c. (was_listed n R k c).0) clean)
+    light u long over (clean-fewer P R (without_rule n R) p u (λ k c. (was_listed n R k c).0) clean)
 holds_with P n goal D line window h = h
 
 passes_with : (P : Instance) (n : ℕ) (g : Log) → IsLaidOut P g → IsWindowRule P n → Passes P (strip P n g) → Passes P g

@@ -1,212 +1,224 @@
 -- The list of rules by places.
 use Rattle.std.proofs.Common.{◌≡◌, ℕ, zero, suc, ◌+◌, ◌-◌, ◌*◌, ◌/◌, ◌%◌, ◌<◌, ◌≤◌, List, [], ◌∷◌, ◌++◌, length, get_or, refl, ap, sym, ◌∙◌, subst, arith, Some, ◌⊎◌, inl, inr, ⊎_elim, length-append}
-use Rattle.std.specs.Prelude.{slice_get, map, Contains, ◌↔◌}
+use Rattle.std.specs.Prelude.{slice_get, map, All, Contains, ◌↔◌}
 use Rattle.std.specs.List.{range_with_len, flat_map}
-use Rattle.std.proofs.lemmas.List.{get_or_append_left, get_or-append-add}
+use Rattle.std.proofs.lemmas.List.{get_or_append_left, get_or-append-add, length-map}
 use Rattle.std.proofs.lemmas.List.FromFn.{length-map-range_with_len, get_or-map-range_with_len}
+use Rattle.std.proofs.lemmas.List.Elements.{All-append, All-map, All-from_recursion}
 use Rattle.std.proofs.lemmas.Option.{slice_get-get_or, slice_get_within, get_or_from_slice_get, same_Some}
 use Rattle.std.proofs.lemmas.Bool.{cases_lt}
-use Rattle.rwsp_terms.specs.Instance.{Instance, shift_count}
+use Rattle.rwsp_terms.specs.Instance.{Instance, shift_count, sequences, of_pair, of_triple, symbol_numbered, IsClass, IsSymbol}
 use Rattle.rwsp_terms.specs.Roster.{IsRule}
-use Rattle.rwsp_terms.specs.Rules.{rules, rule_of, shift_rules}
+use Rattle.rwsp_terms.specs.Window.{symbols_of}
+use Rattle.rwsp_terms.specs.Rules.{rules, rule_of, classes, block_rules}
+use Rattle.rwsp_terms.specs.declared.data.Class.{Class}
+use Rattle.rwsp_terms.specs.declared.data.Class.TheVariants.{Shift, Off, Work}
+use Rattle.rwsp_terms.specs.declared.data.Sequence.{Sequence}
+use Rattle.rwsp_terms.specs.declared.data.Symbol.{Symbol}
 use Rattle.rwsp_terms.specs.declared.data.Rule.{Rule}
-use Rattle.rwsp_terms.specs.declared.data.Rule.TheVariants.{MaxShift, MinShift, MaxOff, MinOff, MaxWork, MinWork, Pair, Triple, Day}
-use Rattle.rwsp_model.specs.RuleNumbers.{place_of}
+use Rattle.rwsp_terms.specs.declared.data.Rule.TheVariants.{Most, Least, Never, Day}
+use Rattle.rwsp_model.specs.RuleNumbers.{class_place, place_of}
+use Rattle.rwsp_model.specs.Validity.{KeepsLimits}
 
-length-shifts : (a n : ℕ) → length (flat_map shift_rules (range_with_len a n)) ≡ 2 * n
-length-shifts a zero = refl
-length-shifts a (suc n) = let rest = length-shifts (a + 1) n in omega (arith, rest)
+-- sequences
 
-pub rules_are_many : (P : Instance) → length (rules P) ≡ 2 * shift_count P + 4 + length P.pairs + length P.triples + P.days
-rules_are_many P =
-    let s = length-shifts 1 (shift_count P) in
-    let p = length-map-range_with_len Pair 0 (length P.pairs) in
-    let t = length-map-range_with_len Triple 0 (length P.triples) in
-    let d = length-map-range_with_len Day 1 P.days in
-    simp length-append (omega (arith, s, p, t, d))
+pub sequences_are_many : (P : Instance) → length (sequences P) ≡ length P.pairs + length P.triples
+sequences_are_many P =
+    let a = length-append (map of_pair P.pairs) (map of_triple P.triples) in
+    let p = length-map P.pairs of_pair in
+    let t = length-map P.triples of_triple in
+    omega (arith, a, p, t)
 
--- places of shifts' rules
-max_at : (a n i : ℕ) (d : Rule) → i < n → get_or (flat_map shift_rules (range_with_len a n)) (2 * i) d ≡ MaxShift (record { number = a + i })
-max_at a zero i d h = absurd (omega (arith, h))
-max_at a (suc n) zero d h = ap (λ k. MaxShift (record { number = k })) (omega arith)
-max_at a (suc n) (suc i) d h =
-    let twice : 2 * suc i ≡ suc (suc (2 * i)) = omega arith in
-    let next : a + 1 + i ≡ a + suc i = omega arith in
-    ap (λ k. get_or (flat_map shift_rules (range_with_len a (suc n))) k d) twice
-    ∙ max_at (a + 1) n i d (omega (arith, h)) ∙ ap (λ k. MaxShift (record { number = k })) next
+slice_get-map : {X : Type 0} (f : X → Sequence) (xs : List X) (k : ℕ) (x : X) → slice_get xs k ≡ Some x → slice_get (map f xs) k ≡ Some (f x)
+slice_get-map f [] k x e = absurd (cc)
+slice_get-map {X} f (y ∷ xs) zero x e = let same : y ≡ x = same_Some y x e in ap (λ (z : X). Some (f z)) same
+slice_get-map f (y ∷ xs) (suc k) x e = slice_get-map f xs k x e
 
-min_at : (a n i : ℕ) (d : Rule) → i < n → get_or (flat_map shift_rules (range_with_len a n)) (2 * i + 1) d ≡ MinShift (record { number = a + i })
-min_at a zero i d h = absurd (omega (arith, h))
-min_at a (suc n) zero d h = ap (λ k. MinShift (record { number = k })) (omega arith)
-min_at a (suc n) (suc i) d h =
-    let twice : 2 * suc i + 1 ≡ suc (suc (2 * i + 1)) = omega arith in
-    let next : a + 1 + i ≡ a + suc i = omega arith in
-    ap (λ k. get_or (flat_map shift_rules (range_with_len a (suc n))) k d) twice
-    ∙ min_at (a + 1) n i d (omega (arith, h)) ∙ ap (λ k. MinShift (record { number = k })) next
+slice_get-front : (xs ys : List Sequence) (k : ℕ) (q : Sequence) → slice_get xs k ≡ Some q → slice_get (xs ++ ys) k ≡ Some q
+slice_get-front [] ys k q e = absurd (cc)
+slice_get-front (x ∷ xs) ys zero q e = e
+slice_get-front (x ∷ xs) ys (suc k) q e = slice_get-front xs ys k q e
 
--- an element of the first of five lists, and of each other
-in_first : (s b q t e : List Rule) (n : ℕ) (d : Rule) → n < length s → get_or (s ++ b ++ q ++ t ++ e) n d ≡ get_or s n d
-in_first s b q t e n d h =
-    let l1 = length-append (s ++ b ++ q) t in
-    let l2 = length-append (s ++ b) q in
-    let l3 = length-append s b in
-    get_or_append_left (s ++ b ++ q ++ t) e d n (omega (arith, h, l1, l2, l3))
-    ∙ get_or_append_left (s ++ b ++ q) t d n (omega (arith, h, l2, l3))
-    ∙ get_or_append_left (s ++ b) q d n (omega (arith, h, l3))
-    ∙ get_or_append_left s b d n h
+slice_get-behind : (xs ys : List Sequence) (k : ℕ) (q : Sequence) → length xs ≤ k → slice_get ys (k - length xs) ≡ Some q → slice_get (xs ++ ys) k ≡ Some q
+slice_get-behind [] ys k q le e = let none : k - 0 ≡ k = omega arith in ap (slice_get ys) (sym none) ∙ e
+slice_get-behind (x ∷ xs) ys zero q le e = absurd (omega (arith, le))
+slice_get-behind (x ∷ xs) ys (suc k) q le e = slice_get-behind xs ys k q (omega (arith, le)) (let less : k - length xs ≡ suc k - suc (length xs) = omega arith in ap (slice_get ys) less ∙ e)
 
-in_second : (s b q t e : List Rule) (m n : ℕ) (d : Rule) → m ≡ length s → n < length b → get_or (s ++ b ++ q ++ t ++ e) (m + n) d ≡ get_or b n d
-in_second s b q t e m n d k h =
-    let l1 = length-append (s ++ b ++ q) t in
-    let l2 = length-append (s ++ b) q in
-    let l3 = length-append s b in
-    get_or_append_left (s ++ b ++ q ++ t) e d (m + n) (omega (arith, h, k, l1, l2, l3))
-    ∙ get_or_append_left (s ++ b ++ q) t d (m + n) (omega (arith, h, k, l2, l3))
-    ∙ get_or_append_left (s ++ b) q d (m + n) (omega (arith, h, k, l3))
-    ∙ ap (λ i. get_or (s ++ b) (i + n) d) k
-    ∙ get_or-append-add s b n d
+-- the pairs are the first sequences, the triples the others
+pub pair_is_sequence : (P : Instance) (k : ℕ) (x : Symbol × Symbol) → slice_get P.pairs k ≡ Some x → slice_get (sequences P) k ≡ Some (of_pair x)
+pair_is_sequence P k x e = slice_get-front (map of_pair P.pairs) (map of_triple P.triples) k (of_pair x) (slice_get-map of_pair P.pairs k x e)
 
-in_third : (s b q t e : List Rule) (m n : ℕ) (d : Rule) → m ≡ length s + length b → n < length q → get_or (s ++ b ++ q ++ t ++ e) (m + n) d ≡ get_or q n d
-in_third s b q t e m n d k h =
-    let l1 = length-append (s ++ b ++ q) t in
-    let l2 = length-append (s ++ b) q in
-    let l3 = length-append s b in
-    get_or_append_left (s ++ b ++ q ++ t) e d (m + n) (omega (arith, h, k, l1, l2, l3))
-    ∙ get_or_append_left (s ++ b ++ q) t d (m + n) (omega (arith, h, k, l2, l3))
-    ∙ ap (λ i. get_or (s ++ b ++ q) (i + n) d) (k ∙ sym l3)
-    ∙ get_or-append-add (s ++ b) q n d
+pub triple_is_sequence : (P : Instance) (k : ℕ) (x : Symbol × Symbol × Symbol) → length P.pairs ≤ k → slice_get P.triples (k - length P.pairs) ≡ Some x → slice_get (sequences P) k ≡ Some (of_triple x)
+triple_is_sequence P k x le e =
+    let long = length-map P.pairs of_pair in
+    let same : k - length P.pairs ≡ k - length (map of_pair P.pairs) = omega (arith, long) in
+    slice_get-behind (map of_pair P.pairs) (map of_triple P.triples) k (of_triple x) (omega (arith, long, le))
+    (ap (slice_get (map of_triple P.triples)) (sym same) ∙ slice_get-map of_triple P.triples (k - length P.pairs) x e)
 
-in_fourth : (s b q t e : List Rule) (m n : ℕ) (d : Rule) → m ≡ length s + length b + length q → n < length t → get_or (s ++ b ++ q ++ t ++ e) (m + n) d ≡ get_or t n d
-in_fourth s b q t e m n d k h =
-    let l1 = length-append (s ++ b ++ q) t in
-    let l2 = length-append (s ++ b) q in
-    let l3 = length-append s b in
-    let long : m ≡ length (s ++ b ++ q) = omega (arith, k, l2, l3) in
-    get_or_append_left (s ++ b ++ q ++ t) e d (m + n) (omega (arith, h, k, l1, l2, l3))
-    ∙ ap (λ i. get_or (s ++ b ++ q ++ t) (i + n) d) long
-    ∙ get_or-append-add (s ++ b ++ q) t n d
+-- the symbols of each are the instance's
+abbrev AreKnown : Instance → Sequence → Type 0
+AreKnown P q = All (IsSymbol P) (symbols_of q)
 
-in_fifth : (s b q t e : List Rule) (m n : ℕ) (d : Rule) → m ≡ length s + length b + length q + length t → get_or (s ++ b ++ q ++ t ++ e) (m + n) d ≡ get_or e n d
-in_fifth s b q t e m n d k =
-    let l1 = length-append (s ++ b ++ q) t in
-    let l2 = length-append (s ++ b) q in
-    let l3 = length-append s b in
-    let long : m ≡ length (s ++ b ++ q ++ t) = omega (arith, k, l1, l2, l3) in
-    ap (λ i. get_or (s ++ b ++ q ++ t ++ e) (i + n) d) long ∙ get_or-append-add (s ++ b ++ q ++ t) e n d
+sequences_known : (P : Instance) → KeepsLimits P → All (AreKnown P) (sequences P)
+sequences_known P limits =
+    All-append (AreKnown P) (map of_pair P.pairs) (map of_triple P.triples)
+    (All-map (AreKnown P) of_pair P.pairs (λ k d lt. let h = limits.known_pairs k d lt in All-from_recursion (IsSymbol P) (symbols_of (of_pair (get_or P.pairs k d))) (h.0, (h.1, tt))))
+    (All-map (AreKnown P) of_triple P.triples (λ k d lt. let h = limits.known_triples k d lt in All-from_recursion (IsSymbol P) (symbols_of (of_triple (get_or P.triples k d))) (h.0, (h.1, (h.2, tt)))))
 
-abbrev shift_list : Instance → List Rule
-shift_list P = flat_map shift_rules (range_with_len 1 (shift_count P))
+pub sequence_known : (P : Instance) (k : ℕ) (q : Sequence) → KeepsLimits P → slice_get (sequences P) k ≡ Some q → All (IsSymbol P) (symbols_of q)
+sequence_known P k q limits is =
+    subst (AreKnown P) (get_or_from_slice_get (sequences P) k q q is) (sequences_known P limits k q (slice_get_within (sequences P) k q is))
 
-abbrev off_and_work_list : List Rule
-off_and_work_list = MaxOff ∷ MinOff ∷ MaxWork ∷ MinWork ∷ []
+-- the rules on the blocks of classes
 
-abbrev pair_list : Instance → List Rule
-pair_list P = map Pair (range_with_len 0 (length P.pairs))
+length-blocks : (cs : List Class) → length (flat_map block_rules cs) ≡ 2 * length cs
+length-blocks [] = refl
+length-blocks (c ∷ cs) = let rest = length-blocks cs in omega (arith, rest)
 
-abbrev triple_list : Instance → List Rule
-triple_list P = map Triple (range_with_len 0 (length P.triples))
+length-classes : (P : Instance) → length (classes P) ≡ shift_count P + 2
+length-classes P =
+    let s = length-map-range_with_len (λ (x : ℕ). Shift (symbol_numbered x)) 1 (shift_count P) in
+    let a = length-append (map (λ (x : ℕ). Shift (symbol_numbered x)) (range_with_len 1 (shift_count P))) (Off ∷ Work ∷ []) in
+    omega (arith, s, a)
+
+abbrev block_list : Instance → List Rule
+block_list P = flat_map block_rules (classes P)
+
+length-block_list : (P : Instance) → length (block_list P) ≡ 2 * (shift_count P + 2)
+length-block_list P = let b = length-blocks (classes P) in let c = length-classes P in omega (arith, b, c)
+
+abbrev sequence_list : Instance → List Rule
+sequence_list P = map Never (range_with_len 0 (length (sequences P)))
 
 abbrev day_list : Instance → List Rule
 day_list P = map Day (range_with_len 1 P.days)
 
+pub rules_are_many : (P : Instance) → length (rules P) ≡ 2 * (shift_count P + 2) + length (sequences P) + P.days
+rules_are_many P =
+    let b = length-block_list P in
+    let q = length-map-range_with_len Never 0 (length (sequences P)) in
+    let d = length-map-range_with_len Day 1 P.days in
+    let two = length-append (block_list P) (sequence_list P) in
+    let three = length-append (block_list P ++ sequence_list P) (day_list P) in
+    omega (arith, b, q, d, two, three)
+
+most_at : (cs : List Class) (i : ℕ) (d : Rule) (e : Class) → i < length cs → get_or (flat_map block_rules cs) (2 * i) d ≡ Most (get_or cs i e)
+most_at [] i d e h = absurd (omega (arith, h))
+most_at (c ∷ cs) zero d e h = refl
+most_at (c ∷ cs) (suc i) d e h =
+    let twice : 2 * suc i ≡ suc (suc (2 * i)) = omega arith in
+    ap (λ k. get_or (flat_map block_rules (c ∷ cs)) k d) twice ∙ most_at cs i d e (omega (arith, h))
+
+least_at : (cs : List Class) (i : ℕ) (d : Rule) (e : Class) → i < length cs → get_or (flat_map block_rules cs) (2 * i + 1) d ≡ Least (get_or cs i e)
+least_at [] i d e h = absurd (omega (arith, h))
+least_at (c ∷ cs) zero d e h = refl
+least_at (c ∷ cs) (suc i) d e h =
+    let twice : 2 * suc i + 1 ≡ suc (suc (2 * i + 1)) = omega arith in
+    ap (λ k. get_or (flat_map block_rules (c ∷ cs)) k d) twice ∙ least_at cs i d e (omega (arith, h))
+
+-- a class is at its place
+class_below : (P : Instance) (c : Class) → IsClass P c → class_place P c < shift_count P + 2
+class_below P (Shift x) h = omega (arith, h.0, h.1)
+class_below P Off h = omega arith
+class_below P Work h = omega arith
+
+abbrev shifts_of : Instance → List Class
+shifts_of P = map (λ (x : ℕ). Shift (symbol_numbered x)) (range_with_len 1 (shift_count P))
+
+length-shifts : (P : Instance) → length (shifts_of P) ≡ shift_count P
+length-shifts P = length-map-range_with_len (λ (x : ℕ). Shift (symbol_numbered x)) 1 (shift_count P)
+
+behind_shifts : (P : Instance) (k i : ℕ) → k ≡ shift_count P + i → get_or (classes P) k Off ≡ get_or (Off ∷ Work ∷ []) i Off
+behind_shifts P k i e =
+    let there : k ≡ length (shifts_of P) + i = omega (arith, e, length-shifts P) in
+    ap (λ n. get_or (classes P) n Off) there ∙ get_or-append-add (shifts_of P) (Off ∷ Work ∷ []) i Off
+
+class_standing : (P : Instance) (c : Class) → IsClass P c → get_or (classes P) (class_place P c) Off ≡ c
+class_standing P (Shift x) h =
+    let lt : x.number - 1 < shift_count P = omega (arith, h.0, h.1) in
+    let same : 1 + (x.number - 1) ≡ x.number = omega (arith, h.0) in
+    get_or_append_left (shifts_of P) (Off ∷ Work ∷ []) Off (x.number - 1) (omega (arith, lt, length-shifts P))
+    ∙ get_or-map-range_with_len (λ (n : ℕ). Shift (symbol_numbered n)) 1 (shift_count P) (x.number - 1) x.number Off lt same
+class_standing P Off h = behind_shifts P (shift_count P) 0 (omega arith)
+class_standing P Work h = behind_shifts P (shift_count P + 1) 1 refl
+
+-- an element of each of three lists
+in_first : (b q e : List Rule) (n : ℕ) (d : Rule) → n < length b → get_or (b ++ q ++ e) n d ≡ get_or b n d
+in_first b q e n d h =
+    let l = length-append b q in
+    get_or_append_left (b ++ q) e d n (omega (arith, h, l)) ∙ get_or_append_left b q d n h
+
+in_second : (b q e : List Rule) (m n : ℕ) (d : Rule) → m ≡ length b → n < length q → get_or (b ++ q ++ e) (m + n) d ≡ get_or q n d
+in_second b q e m n d k h =
+    let l = length-append b q in
+    get_or_append_left (b ++ q) e d (m + n) (omega (arith, h, k, l))
+    ∙ ap (λ i. get_or (b ++ q) (i + n) d) k ∙ get_or-append-add b q n d
+
+in_third : (b q e : List Rule) (m n : ℕ) (d : Rule) → m ≡ length b + length q → get_or (b ++ q ++ e) (m + n) d ≡ get_or e n d
+in_third b q e m n d k =
+    let l = length-append b q in
+    let long : m ≡ length (b ++ q) = omega (arith, k, l) in
+    ap (λ i. get_or (b ++ q ++ e) (i + n) d) long ∙ get_or-append-add (b ++ q) e n d
+
+abbrev some_rule : Rule
+some_rule = Day 0
+
 -- a rule is at its place
-standing : (P : Instance) (r : Rule) → IsRule P r → get_or (rules P) (place_of P r) MaxOff ≡ r
-standing P (MaxShift x) h =
-    let s = length-shifts 1 (shift_count P) in
-    let e : 1 + (x.number - 1) ≡ x.number = omega (arith, h.0) in
-    in_first (shift_list P) off_and_work_list (pair_list P) (triple_list P) (day_list P) (2 * (x.number - 1)) MaxOff (omega (arith, h.0, h.1, s))
-    ∙ max_at 1 (shift_count P) (x.number - 1) MaxOff (omega (arith, h.0, h.1))
-    ∙ ap (λ k. MaxShift (record { number = k })) e
-standing P (MinShift x) h =
-    let s = length-shifts 1 (shift_count P) in
-    let e : 1 + (x.number - 1) ≡ x.number = omega (arith, h.0) in
-    in_first (shift_list P) off_and_work_list (pair_list P) (triple_list P) (day_list P) (2 * (x.number - 1) + 1) MaxOff (omega (arith, h.0, h.1, s))
-    ∙ min_at 1 (shift_count P) (x.number - 1) MaxOff (omega (arith, h.0, h.1))
-    ∙ ap (λ k. MinShift (record { number = k })) e
-standing P MaxOff h =
-    let s = length-shifts 1 (shift_count P) in
-    let e : 2 * shift_count P ≡ 2 * shift_count P + 0 = omega arith in
-    ap (λ n. get_or (rules P) n MaxOff) e
-    ∙ in_second (shift_list P) off_and_work_list (pair_list P) (triple_list P) (day_list P) (2 * shift_count P) 0 MaxOff (sym s) (omega arith)
-standing P MinOff h = in_second (shift_list P) off_and_work_list (pair_list P) (triple_list P) (day_list P) (2 * shift_count P) 1 MaxOff (sym (length-shifts 1 (shift_count P))) (omega arith)
-standing P MaxWork h = in_second (shift_list P) off_and_work_list (pair_list P) (triple_list P) (day_list P) (2 * shift_count P) 2 MaxOff (sym (length-shifts 1 (shift_count P))) (omega arith)
-standing P MinWork h = in_second (shift_list P) off_and_work_list (pair_list P) (triple_list P) (day_list P) (2 * shift_count P) 3 MaxOff (sym (length-shifts 1 (shift_count P))) (omega arith)
-standing P (Pair k) h =
-    let s = length-shifts 1 (shift_count P) in
-    let p = length-map-range_with_len Pair 0 (length P.pairs) in
-    in_third (shift_list P) off_and_work_list (pair_list P) (triple_list P) (day_list P) (2 * shift_count P + 4) k MaxOff (omega (arith, s)) (omega (arith, h, p))
-    ∙ get_or-map-range_with_len Pair 0 (length P.pairs) k k MaxOff h (omega arith)
-standing P (Triple k) h =
-    let s = length-shifts 1 (shift_count P) in
-    let p = length-map-range_with_len Pair 0 (length P.pairs) in
-    let t = length-map-range_with_len Triple 0 (length P.triples) in
-    in_fourth (shift_list P) off_and_work_list (pair_list P) (triple_list P) (day_list P) (2 * shift_count P + 4 + length P.pairs) k MaxOff (omega (arith, s, p)) (omega (arith, h, t))
-    ∙ get_or-map-range_with_len Triple 0 (length P.triples) k k MaxOff h (omega arith)
+standing : (P : Instance) (r : Rule) → IsRule P r → get_or (rules P) (place_of P r) some_rule ≡ r
+standing P (Most c) h =
+    let below = class_below P c h in
+    in_first (block_list P) (sequence_list P) (day_list P) (2 * class_place P c) some_rule (omega (arith, below, length-block_list P))
+    ∙ most_at (classes P) (class_place P c) some_rule Off (omega (arith, below, length-classes P)) ∙ ap Most (class_standing P c h)
+standing P (Least c) h =
+    let below = class_below P c h in
+    in_first (block_list P) (sequence_list P) (day_list P) (2 * class_place P c + 1) some_rule (omega (arith, below, length-block_list P))
+    ∙ least_at (classes P) (class_place P c) some_rule Off (omega (arith, below, length-classes P)) ∙ ap Least (class_standing P c h)
+standing P (Never k) h =
+    let q = length-map-range_with_len Never 0 (length (sequences P)) in
+    in_second (block_list P) (sequence_list P) (day_list P) (2 * (shift_count P + 2)) k some_rule (sym (length-block_list P)) (omega (arith, h, q))
+    ∙ get_or-map-range_with_len Never 0 (length (sequences P)) k k some_rule h (omega arith)
 standing P (Day j) h =
-    let s = length-shifts 1 (shift_count P) in
-    let p = length-map-range_with_len Pair 0 (length P.pairs) in
-    let t = length-map-range_with_len Triple 0 (length P.triples) in
-    in_fifth (shift_list P) off_and_work_list (pair_list P) (triple_list P) (day_list P) (2 * shift_count P + 4 + length P.pairs + length P.triples) (j - 1) MaxOff (omega (arith, s, p, t))
-    ∙ get_or-map-range_with_len Day 1 P.days (j - 1) j MaxOff (omega (arith, h.0, h.1)) (omega (arith, h.0))
+    let q = length-map-range_with_len Never 0 (length (sequences P)) in
+    in_third (block_list P) (sequence_list P) (day_list P) (2 * (shift_count P + 2) + length (sequences P)) (j - 1) some_rule (omega (arith, length-block_list P, q))
+    ∙ get_or-map-range_with_len Day 1 P.days (j - 1) j some_rule (omega (arith, h.0, h.1)) (omega (arith, h.0))
 
 -- the list has room for it
 place_below : (P : Instance) (r : Rule) → IsRule P r → place_of P r < length (rules P)
-place_below P (MaxShift x) h = omega (arith, rules_are_many P, h.0, h.1)
-place_below P (MinShift x) h = omega (arith, rules_are_many P, h.0, h.1)
-place_below P MaxOff h = omega (arith, rules_are_many P)
-place_below P MinOff h = omega (arith, rules_are_many P)
-place_below P MaxWork h = omega (arith, rules_are_many P)
-place_below P MinWork h = omega (arith, rules_are_many P)
-place_below P (Pair k) h = omega (arith, rules_are_many P, h)
-place_below P (Triple k) h = omega (arith, rules_are_many P, h)
+place_below P (Most c) h = omega (arith, rules_are_many P, class_below P c h)
+place_below P (Least c) h = omega (arith, rules_are_many P, class_below P c h)
+place_below P (Never k) h = omega (arith, rules_are_many P, h)
 place_below P (Day j) h = omega (arith, rules_are_many P, h.0, h.1)
 
 pub rule_at_place : (P : Instance) (r : Rule) → IsRule P r → slice_get (rules P) (place_of P r) ≡ Some r
-rule_at_place P r h = slice_get-get_or (rules P) (place_of P r) MaxOff (place_below P r h) ∙ ap Some (standing P r h)
+rule_at_place P r h = slice_get-get_or (rules P) (place_of P r) some_rule (place_below P r h) ∙ ap Some (standing P r h)
+
+-- each place has a class, and each has a rule
+class_there : (P : Instance) (n : ℕ) → n < shift_count P + 2 → (c : Class) × IsClass P c × (class_place P c ≡ n)
+class_there P n h =
+    ⊎_elim
+    (λ (low : n < shift_count P). (Shift (symbol_numbered (n + 1)), (omega arith, omega arith), omega arith))
+    (λ (from : shift_count P ≤ n).
+    ⊎_elim (λ (off : n < shift_count P + 1). (Off, tt, omega arith)) (λ (work : shift_count P + 1 ≤ n). (Work, tt, omega arith)) (cases_lt n (shift_count P + 1)))
+    (cases_lt n (shift_count P))
 
 halves : (n : ℕ) → (n ≡ 2 * (n / 2)) ⊎ (n ≡ 2 * (n / 2) + 1)
 halves n = ⊎_elim (λ (e : n % 2 < 1). inl (omega arith)) (λ (o : 1 ≤ n % 2). inr (omega arith)) (cases_lt (n % 2) 1)
 
-off_or_work : (P : Instance) (n : ℕ) → 2 * shift_count P ≤ n → n < 2 * shift_count P + 4 → (r : Rule) × IsRule P r × (place_of P r ≡ n)
-off_or_work P n from below =
-    ⊎_elim (λ (a : n < 2 * shift_count P + 1). (MaxOff, tt, omega arith))
-    (λ (a : 2 * shift_count P + 1 ≤ n).
-    ⊎_elim (λ (b : n < 2 * shift_count P + 2). (MinOff, tt, omega arith))
-    (λ (b : 2 * shift_count P + 2 ≤ n).
-    ⊎_elim (λ (c : n < 2 * shift_count P + 3). (MaxWork, tt, omega arith))
-    (λ (c : 2 * shift_count P + 3 ≤ n). (MinWork, tt, omega arith))
-    (cases_lt n (2 * shift_count P + 3)))
-    (cases_lt n (2 * shift_count P + 2)))
-    (cases_lt n (2 * shift_count P + 1))
-
--- each place has a rule
 rule_there : (P : Instance) (n : ℕ) → n < length (rules P) → (r : Rule) × IsRule P r × (place_of P r ≡ n)
 rule_there P n h =
     let many = rules_are_many P in
-    let k = shift_count P in
-    let p = length P.pairs in
-    let t = length P.triples in
+    let blocks = 2 * (shift_count P + 2) in
+    let count = length (sequences P) in
     ⊎_elim
-    (λ (low : n < 2 * k).
-    let q = n / 2 in
+    (λ (low : n < blocks).
+    let q = class_there P (n / 2) (omega arith) in
+    ⊎_elim (λ (even : n ≡ 2 * (n / 2)). (Most q.0, q.1, omega (arith, q.2))) (λ (odd : n ≡ 2 * (n / 2) + 1). (Least q.0, q.1, omega (arith, q.2))) (halves n))
+    (λ (from : blocks ≤ n).
     ⊎_elim
-    (λ (even : n ≡ 2 * q). (MaxShift (record { number = q + 1 }), (omega arith, omega arith), omega arith))
-    (λ (odd : n ≡ 2 * q + 1). (MinShift (record { number = q + 1 }), (omega arith, omega arith), omega arith))
-    (halves n))
-    (λ (from : 2 * k ≤ n).
-    ⊎_elim
-    (λ (l : n < 2 * k + 4). off_or_work P n from l)
-    (λ (l : 2 * k + 4 ≤ n).
-    ⊎_elim
-    (λ (m : n < 2 * k + 4 + p). (Pair (n - (2 * k + 4)), omega arith, omega arith))
-    (λ (m : 2 * k + 4 + p ≤ n).
-    ⊎_elim
-    (λ (o : n < 2 * k + 4 + p + t). (Triple (n - (2 * k + 4 + p)), omega arith, omega arith))
-    (λ (o : 2 * k + 4 + p + t ≤ n). (Day (n - (2 * k + 4 + p + t) + 1), (omega arith, omega arith), omega arith))
-    (cases_lt n (2 * k + 4 + p + t)))
-    (cases_lt n (2 * k + 4 + p)))
-    (cases_lt n (2 * k + 4)))
-    (cases_lt n (2 * k))
+    (λ (m : n < blocks + count). (Never (n - blocks), omega arith, omega arith))
+    (λ (m : blocks + count ≤ n). (Day (n - (blocks + count) + 1), (omega arith, omega arith), omega arith))
+    (cases_lt n (blocks + count)))
+    (cases_lt n blocks)
 
 -- the rule at a place is a rule, and its place is this one
 pub rule_found : (P : Instance) (n : ℕ) (r : Rule) → slice_get (rules P) n ≡ Some r → IsRule P r × (place_of P r ≡ n)

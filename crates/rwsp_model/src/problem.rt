@@ -2,7 +2,8 @@ ghost use Rattle.std.specs.Prelude.{◌≡◌, ◌+◌, ◌-◌, ◌*◌, ◌<�
 ghost use Rattle.std.specs.Option.{option_map};
 ghost use Rattle.std.specs.Str.{bytes_eq};
 ghost use Rattle.rwsp_terms.specs.declared.limits.TheConstants.{MOST_WEEKS, MOST_CELLS, MOST_SEQUENCES};
-ghost use Rattle.rwsp_terms.specs.Instance.{bounds, shift_count, cells, symbol_of, name_of, name_among, least, greatest, shift_demand, IsClass, IsSymbol, IsShift, IsDay};
+ghost use Rattle.rwsp_terms.specs.Instance.{bounds, shift_count, cells, sequences, symbol_of, name_of, name_among, least, greatest, shift_demand, IsClass, IsSymbol, IsShift, IsDay};
+ghost use Rattle.rwsp_terms.specs.Window.{symbols_of};
 ghost use Rattle.rwsp_model.specs.Parts.{instance_of};
 ghost use Rattle.rwsp_model.specs.Validity.{refusal_of, IsValid, KeepsLimits};
 ghost use Rattle.rwsp_model.specs.Sequences.{IsPairOf, IsTripleOf};
@@ -11,7 +12,7 @@ use crate::{PartsRefusal, demand, validity};
 use rwsp_terms::limits::{
     GREATEST_BOUND, MOST_CELLS, MOST_DAYS, MOST_SEQUENCES, MOST_SHIFTS, MOST_WEEKS,
 };
-use rwsp_terms::{Bounds, Class, DemandRow, ShiftRow, Symbol};
+use rwsp_terms::{Bounds, Class, DemandRow, Sequence, ShiftRow, Symbol};
 use std::alloc::AllocError;
 use std::marker::Model;
 
@@ -197,6 +198,32 @@ impl Problem {
         &self.parts.triples
     }
 
+    /// The number of forbidden sequences: of the pairs and the triples.
+    #[tactic(auto, using(crate::proofs::Numbering::sequences_are_many))]
+    pub fn sequence_count(&self) -> u32
+        ensures value { result ≡ length (sequences self.now) }
+        ensures few { result ≤ 2 * MOST_SEQUENCES }
+    {
+        self.pairs().len() as u32 + self.triples().len() as u32
+    }
+
+    /// The forbidden sequence of a place, counted from 0. The pairs come first.
+    #[tactic(auto, using(crate::proofs::Numbering::sequences_are_many, crate::proofs::Numbering::pair_is_sequence, crate::proofs::Numbering::triple_is_sequence))]
+    pub fn sequence(&self, place: u32) -> Sequence
+        requires { place < length (sequences self.now) }
+        ensures value { slice_get (sequences self.now) place ≡ Some result }
+        ensures symbols { All (IsSymbol self.now) (symbols_of result) }
+    {
+        self.prove_limits();
+        let place = place as usize;
+        let pairs = self.pairs();
+        if place < pairs.len() {
+            Sequence::of_pair(element(pairs, place))
+        } else {
+            Sequence::of_triple(element(self.triples(), place - pairs.len()))
+        }
+    }
+
     /// The least and the greatest length of the blocks of a class, in days.
     pub fn bounds(&self, class: Class) -> Bounds
         requires { IsClass self.now class }
@@ -283,6 +310,14 @@ impl Problem {
     {
         demand::greatest_of(&self.parts, x, day)
     }
+}
+
+// The element at a place.
+fn element<T: Copy>(items: &[T], place: usize) -> T
+    requires { place < length items.now }
+    ensures { slice_get items.now place ≡ Some result }
+{
+    items[place]
 }
 
 // The row of a shift.

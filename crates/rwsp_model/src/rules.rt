@@ -1,10 +1,10 @@
 // The rules of a problem and their numbers.
 ghost use Rattle.std.specs.Prelude.{◌≡◌, ◌↔◌, ◌⊎◌, ℕ, ◌+◌, ◌*◌, ◌<◌, ◌≤◌, length, Some, IsTrue, IfOk, OnOk, All, Contains};
 ghost use Rattle.std.specs.List.Sorted.{IsStrictlyIncreasing};
-ghost use Rattle.rwsp_terms.specs.Instance.{Instance, shift_count};
+ghost use Rattle.rwsp_terms.specs.Instance.{shift_count, IsClass};
 ghost use Rattle.rwsp_terms.specs.Roster.{IsRule};
 ghost use Rattle.rwsp_terms.specs.Rules.{rules, rule_of, IsShort, NamesShortRules};
-ghost use Rattle.rwsp_model.specs.RuleNumbers.{place_of, IsShortNumber};
+ghost use Rattle.rwsp_model.specs.RuleNumbers.{class_place, place_of, IsShortNumber};
 
 use crate::Problem;
 use rwsp_terms::limits::{GREATEST_SHORT_BOUND, MOST_RULES, MOST_SHIFTS};
@@ -18,54 +18,40 @@ pub fn rule_count(problem: &Problem) -> u32
     ensures few { result ≤ MOST_RULES }
 {
     problem.prove_limits();
-    let shifts = u32::from(problem.shifts());
-    let sequences = problem.pairs().len() as u32 + problem.triples().len() as u32;
-    2 * shifts + 4 + sequences + problem.days()
+    let blocks = 2 * (u32::from(problem.shifts()) + 2);
+    blocks + problem.sequence_count() + problem.days()
 }
 
-// The rule of a place among the first ones, which are those of the shifts.
-fn shift_rule(place: u32) -> Rule
-    requires { place < 2 * MOST_SHIFTS }
-    ensures { (P : Instance) → place < 2 * shift_count P → IsRule P result × (place_of P result ≡ place) }
-{
-    let shift = Symbol {
-        number: (place / 2) as u8 + 1,
-    };
-    if place % 2 == 0 {
-        Rule::MaxShift(shift)
-    } else {
-        Rule::MinShift(shift)
-    }
-}
-
-// The rule of a place among the four of days off and days of work.
-fn off_or_work_rule(place: u32) -> Rule
-    requires { place < 4 }
-    ensures { (P : Instance) → IsRule P result × (place_of P result ≡ 2 * shift_count P + place) }
-{
-    match place {
-        0 => Rule::MaxOff,
-        1 => Rule::MinOff,
-        2 => Rule::MaxWork,
-        _ => Rule::MinWork,
-    }
-}
-
-// The rule of a place behind those.
-fn sequence_or_day_rule(problem: &Problem, place: u32) -> Rule
-    requires { place < length problem.now.pairs + length problem.now.triples + problem.now.days }
-    ensures rule { IsRule problem.now result }
-    ensures place { place_of problem.now result ≡ 2 * shift_count problem.now + 4 + place }
+// The class of a place among those whose blocks have rules.
+fn class_standing(problem: &Problem, place: u32) -> Class
+    requires { place < shift_count problem.now + 2 }
+    ensures class { IsClass problem.now result }
+    ensures place { class_place problem.now result ≡ place }
 {
     problem.prove_limits();
-    let pairs = problem.pairs().len() as u32;
-    let triples = problem.triples().len() as u32;
-    if place < pairs {
-        Rule::Pair(place)
-    } else if place - pairs < triples {
-        Rule::Triple(place - pairs)
+    let shifts = u32::from(problem.shifts());
+    if place < shifts {
+        Class::Shift(Symbol {
+            number: place as u8 + 1,
+        })
+    } else if place == shifts {
+        Class::Off
     } else {
-        Rule::Day(place - pairs - triples + 1)
+        Class::Work
+    }
+}
+
+// The rule of a place among the first ones, which are those on blocks.
+fn block_rule(problem: &Problem, place: u32) -> Rule
+    requires { place < 2 * (shift_count problem.now + 2) }
+    ensures rule { IsRule problem.now result }
+    ensures place { place_of problem.now result ≡ place }
+{
+    let class = class_standing(problem, place / 2);
+    if place % 2 == 0 {
+        Rule::Most(class)
+    } else {
+        Rule::Least(class)
     }
 }
 
@@ -76,13 +62,14 @@ fn rule_standing(problem: &Problem, place: u32) -> Rule
     ensures rule { IsRule problem.now result }
     ensures place { place_of problem.now result ≡ place }
 {
-    let shifts = u32::from(problem.shifts());
-    if place < 2 * shifts {
-        shift_rule(place)
-    } else if place < 2 * shifts + 4 {
-        off_or_work_rule(place - 2 * shifts)
+    let blocks = 2 * (u32::from(problem.shifts()) + 2);
+    let sequences = problem.sequence_count();
+    if place < blocks {
+        block_rule(problem, place)
+    } else if place - blocks < sequences {
+        Rule::Never(place - blocks)
     } else {
-        sequence_or_day_rule(problem, place - 2 * shifts - 4)
+        Rule::Day(place - blocks - sequences + 1)
     }
 }
 
@@ -95,6 +82,20 @@ pub fn rule_at(problem: &Problem, number: u32) -> Rule
     rule_standing(problem, number - 1)
 }
 
+// The place of a class among those whose blocks have rules.
+fn class_place(problem: &Problem, class: Class) -> u32
+    requires { IsClass problem.now class }
+    ensures value { result ≡ class_place problem.now class }
+    ensures few { result < MOST_SHIFTS + 2 }
+{
+    problem.prove_limits();
+    match class {
+        Class::Shift(shift) => u32::from(shift.number) - 1,
+        Class::Off => u32::from(problem.shifts()),
+        Class::Work => u32::from(problem.shifts()) + 1,
+    }
+}
+
 // The place of a rule in the list, counted from 0.
 fn place_of(problem: &Problem, rule: Rule) -> u32
     requires { IsRule problem.now rule }
@@ -102,20 +103,12 @@ fn place_of(problem: &Problem, rule: Rule) -> u32
     ensures few { result < MOST_RULES }
 {
     problem.prove_limits();
-    let first_off = 2 * u32::from(problem.shifts());
-    let first_pair = first_off + 4;
-    let first_triple = first_pair + problem.pairs().len() as u32;
-    let first_day = first_triple + problem.triples().len() as u32;
+    let blocks = 2 * (u32::from(problem.shifts()) + 2);
     match rule {
-        Rule::MaxShift(shift) => 2 * (u32::from(shift.number) - 1),
-        Rule::MinShift(shift) => 2 * (u32::from(shift.number) - 1) + 1,
-        Rule::MaxOff => first_off,
-        Rule::MinOff => first_off + 1,
-        Rule::MaxWork => first_off + 2,
-        Rule::MinWork => first_off + 3,
-        Rule::Pair(pair) => first_pair + pair,
-        Rule::Triple(triple) => first_triple + triple,
-        Rule::Day(day) => first_day + (day - 1),
+        Rule::Most(class) => 2 * class_place(problem, class),
+        Rule::Least(class) => 2 * class_place(problem, class) + 1,
+        Rule::Never(place) => blocks + place,
+        Rule::Day(day) => blocks + problem.sequence_count() + (day - 1),
     }
 }
 
@@ -136,14 +129,9 @@ pub fn is_short(problem: &Problem, rule: Rule) -> bool
     ensures { IsTrue result ↔ IsShort problem.now rule }
 {
     match rule {
-        Rule::MaxShift(shift) => problem.bounds(Class::Shift(shift)).greatest
-            <= GREATEST_SHORT_BOUND,
-        Rule::MinShift(shift) => problem.bounds(Class::Shift(shift)).least <= GREATEST_SHORT_BOUND,
-        Rule::MaxOff => problem.bounds(Class::Off).greatest <= GREATEST_SHORT_BOUND,
-        Rule::MinOff => problem.bounds(Class::Off).least <= GREATEST_SHORT_BOUND,
-        Rule::MaxWork => problem.bounds(Class::Work).greatest <= GREATEST_SHORT_BOUND,
-        Rule::MinWork => problem.bounds(Class::Work).least <= GREATEST_SHORT_BOUND,
-        Rule::Pair(_) | Rule::Triple(_) => true,
+        Rule::Most(class) => problem.bounds(class).greatest <= GREATEST_SHORT_BOUND,
+        Rule::Least(class) => problem.bounds(class).least <= GREATEST_SHORT_BOUND,
+        Rule::Never(_) => true,
         Rule::Day(_) => false,
     }
 }

@@ -1,11 +1,12 @@
 -- A problem instance, and the numbers that its parts give.
-use Rattle.std.specs.Prelude.{ℕ, zero, suc, ◌+◌, ◌-◌, ◌*◌, ◌<◌, ◌≤◌, List, length, slice_get, slice_index_or, ℤ, pos, ◌-ℤ◌, Some, None, Option, cond, [], ◌∷◌, position}
+use Rattle.std.specs.Prelude.{ℕ, zero, suc, ◌+◌, ◌-◌, ◌*◌, ◌<◌, ◌≤◌, List, length, slice_get, slice_index_or, ℤ, pos, ◌-ℤ◌, Some, None, Option, cond, [], ◌∷◌, ◌++◌, map, position}
 use Rattle.std.specs.Option.{option_map}
 use Rattle.std.specs.Str.{bytes_eq}
 use Rattle.std.specs.List.{sum_by}
 use Rattle.rwsp_terms.specs.declared.data.ShiftRow.{ShiftRow}
 use Rattle.rwsp_terms.specs.declared.data.Bounds.{Bounds}
 use Rattle.rwsp_terms.specs.declared.data.Symbol.{Symbol}
+use Rattle.rwsp_terms.specs.declared.data.Sequence.{Sequence}
 use Rattle.rwsp_terms.specs.declared.data.Class.{Class}
 use Rattle.rwsp_terms.specs.declared.data.Class.TheVariants.{Shift, Off, Work}
 
@@ -67,6 +68,17 @@ abbrev pub bounds : Instance → Class → Bounds
 bounds P (Shift x) = bounds_of (slice_get P.shifts (x.number - 1))
 bounds P Off = P.off
 bounds P Work = P.work
+
+-- a pair and a triple as sequences, forbidden on every day
+abbrev pub of_pair : Symbol × Symbol → Sequence
+of_pair x = record { first = x.0; second = x.1; third = None; day = None }
+
+abbrev pub of_triple : Symbol × Symbol × Symbol → Sequence
+of_triple x = record { first = x.0; second = x.1; third = Some x.2; day = None }
+
+-- the forbidden sequences, the pairs first
+abbrev pub sequences : Instance → List Sequence
+sequences P = map of_pair P.pairs ++ map of_triple P.triples
 
 -- a symbol of the instance
 abbrev pub IsSymbol : Instance → Symbol → Type 0

@@ -1,11 +1,11 @@
 -- When a roster meets the rules.
 use Rattle.std.specs.Prelude.{◌≡◌, ℕ, ◌+◌, ◌-◌, ◌*◌, ◌<◌, ◌≤◌, List, length, slice_index_or, All, count_by, ◌==◌, pos, ◌≤ℤ◌}
 use Rattle.std.specs.List.{range_with_len}
-use Rattle.rwsp_terms.specs.Instance.{Instance, cells, shift_count, least, greatest, IsSymbol, IsShift, IsDay, off_symbol}
+use Rattle.rwsp_terms.specs.Instance.{Instance, cells, shift_count, least, greatest, sequences, IsSymbol, IsClass, IsDay, off_symbol}
 use Rattle.rwsp_terms.specs.Window.{Bad, window}
 use Rattle.rwsp_terms.specs.declared.data.Symbol.{Symbol}
 use Rattle.rwsp_terms.specs.declared.data.Rule.{Rule}
-use Rattle.rwsp_terms.specs.declared.data.Rule.TheVariants.{MaxShift, MinShift, MaxOff, MinOff, MaxWork, MinWork, Pair, Triple, Day}
+use Rattle.rwsp_terms.specs.declared.data.Rule.TheVariants.{Most, Least, Never, Day}
 
 -- how many weeks hold the symbol on the day
 abbrev pub weeks_with : Instance → List Symbol → ℕ → ℕ → ℕ
@@ -18,9 +18,9 @@ MeetsDay P j s =
     (x : ℕ) → x ≤ shift_count P
     → (least P x j ≤ℤ pos (weeks_with P s x j)) × (pos (weeks_with P s x j) ≤ℤ greatest P x j)
 
--- no window is of the kind
-abbrev pub HasNoWindow : (List Symbol → Type 0) → List Symbol → Type 0
-HasNoWindow IsKind s = (p len : ℕ) → p < length s → IsKind (window s p len) → ⊥
+-- no window is of the kind, which may ask for the position where it begins
+abbrev pub HasNoWindow : (ℕ → List Symbol → Type 0) → List Symbol → Type 0
+HasNoWindow IsKind s = (p len : ℕ) → p < length s → IsKind p (window s p len) → ⊥
 
 abbrev pub MeetsRule : Instance → Rule → List Symbol → Type 0
 MeetsRule P (Day j) s = MeetsDay P j s
@@ -28,14 +28,9 @@ MeetsRule P r s = HasNoWindow (Bad P r) s
 
 -- the rules of an instance
 abbrev pub IsRule : Instance → Rule → Type 0
-IsRule P (MaxShift x) = IsShift P x
-IsRule P (MinShift x) = IsShift P x
-IsRule P MaxOff = Unit {0}
-IsRule P MinOff = Unit {0}
-IsRule P MaxWork = Unit {0}
-IsRule P MinWork = Unit {0}
-IsRule P (Pair k) = k < length P.pairs
-IsRule P (Triple k) = k < length P.triples
+IsRule P (Most c) = IsClass P c
+IsRule P (Least c) = IsClass P c
+IsRule P (Never k) = k < length (sequences P)
 IsRule P (Day j) = IsDay P j
 
 -- a cell for each day of each week, and in each a symbol

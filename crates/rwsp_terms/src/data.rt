@@ -44,17 +44,54 @@ impl Class {
     }
 }
 
-/// A rule of a problem. Pairs and triples count from 0, days from 1.
+/// Two or three symbols that may not stand in a row.
+#[derive(Clone, Copy)]
+pub struct Sequence {
+    pub first: Symbol,
+    pub second: Symbol,
+    pub third: Option<Symbol>,
+    /// The day of the week of the first symbol, counted from 1; None where they may not stand there on any day.
+    pub day: Option<u32>,
+}
+
+impl Sequence {
+    ghost use Rattle.rwsp_terms.specs.Instance.{of_pair, of_triple};
+
+    /// Two symbols, forbidden on every day.
+    pub fn of_pair(pair: (Symbol, Symbol)) -> Sequence
+        ensures { result ≡ of_pair pair }
+    {
+        Sequence {
+            first: pair.0,
+            second: pair.1,
+            third: None,
+            day: None,
+        }
+    }
+
+    /// Three symbols, forbidden on every day.
+    pub fn of_triple(triple: (Symbol, Symbol, Symbol)) -> Sequence
+        ensures { result ≡ of_triple triple }
+    {
+        Sequence {
+            first: triple.0,
+            second: triple.1,
+            third: Some(triple.2),
+            day: None,
+        }
+    }
+}
+
+/// A rule of a problem, by its kind.
 #[derive(Clone, Copy, PartialEq, Eq)]
 pub enum Rule {
-    MaxShift(Symbol),
-    MinShift(Symbol),
-    MaxOff,
-    MinOff,
-    MaxWork,
-    MinWork,
-    Pair(u32),
-    Triple(u32),
+    /// A block of the class is at most as long as the class's greatest length.
+    Most(Class),
+    /// A block of the class is at least as long as the class's least length.
+    Least(Class),
+    /// The sequence of this place in the list of forbidden ones, counted from 0, stands nowhere.
+    Never(u32),
+    /// The demand of the day, counted from 1.
     Day(u32),
 }
 

@@ -8,7 +8,7 @@ mod rule_list;
 mod weights;
 mod word;
 
-pub use data::{Bounds, Class, DemandRow, Name, Rule, ShiftRow, Symbol, Weight};
+pub use data::{Bounds, Class, DemandRow, Name, Rule, Sequence, ShiftRow, Symbol, Weight};
 pub use laws::{rule_lists_are_sets, weights_are_told_by_values, window_is_long};
 pub use rule_list::RuleList;
 pub use weights::Weights;

@@ -52,7 +52,12 @@ fn leads_round(layer: &SteadyLayer, word: &[usize]) -> bool {
     false
 }
 
-// Whether a word leads round exactly where it meets every rule.
+// Whether a word leads round when it is read from the first day on.
+fn is_round(layer: &SteadyLayer, word: &[usize]) -> bool {
+    word.iter().all(|symbol| *symbol < layer.symbols) && layer.leads_round(word)
+}
+
+// Whether a word leads round, by the nodes and read from the first day on, exactly where it meets every rule.
 fn agrees(
     alloc: Global,
     problem: &Problem,
@@ -60,7 +65,7 @@ fn agrees(
     word: &[usize],
 ) -> Result<bool, AllocError> {
     let is_met = met_roster(alloc, problem, 0, word)?.is_some();
-    Ok(is_met == leads_round(layer, word))
+    Ok(is_met == leads_round(layer, word) && is_met == is_round(layer, word))
 }
 
 // How many of all words of six days lead round, if this agrees with the rules for each.

@@ -1,8 +1,8 @@
 // Small problems as the texts of their files, and what tests make of a problem.
-ghost use Rattle.std.specs.Prelude.{◌≡◌, ◌==◌, ◌↔◌, ◌&&◌, ◌||◌, not, ℕ, IfOk, Contains};
+ghost use Rattle.std.specs.Prelude.{◌≡◌, ◌==◌, ◌&&◌, ◌||◌, not, ℕ, IfOk};
 ghost use Rattle.rwsp_terms.specs.Instance.{Instance};
 ghost use Rattle.rwsp_terms.specs.Roster.{IsRoster};
-ghost use Rattle.rwsp_model.specs.RuleNumbers.{IsShortNumber};
+ghost use Rattle.rwsp_terms.specs.Rules.{NamesShortRules};
 ghost use Rattle.refutation_terms.specs.Log.{Fits};
 ghost use Rattle.refutation_terms.specs.LogText.{log_text};
 ghost use Rattle.refutation_terms.specs.declared.lines.LogKind.TheVariants.{WithoutGoal};
@@ -11,12 +11,12 @@ ghost use Rattle.rwsp_file.specs.Spelling.{SpellsProblem};
 ghost use Rattle.roster_print.specs.RosterText.{SpellsRoster};
 ghost use Rattle.domain_store.specs.Store.{BelongsTo, has_domain};
 
-use clean_words::TailRules;
+use clean_words::{Automaton, Told};
 use domain_store::Domains;
 use refutation_log::{Log, LogKind, read_log};
 use roster_print::read_roster;
 use rwsp_file::read_problem;
-use rwsp_model::{Problem, Roster, is_short, rule_at, rule_count, short_rules};
+use rwsp_model::{Problem, Roster, is_short, rule_at, rule_count};
 use rwsp_terms::{RuleList, Symbol};
 use std::alloc::{AllocError, Global};
 use std::test::Fail;
@@ -160,19 +160,17 @@ pub fn log_of_kind(
     }
 }
 
-/// The tails of words by all short rules.
-pub fn all_rules(alloc: Global, problem: &Problem) -> Result<TailRules, AllocError>
-    ensures problem { IfOk result (λ tails. tails.problem ≡ problem.now) }
-    ensures rules { IfOk result (λ tails. (k : ℕ) → Contains tails.rules k ↔ IsShortNumber problem.now k) }
+/// The automaton of all short rules.
+pub fn all_rules(alloc: Global, problem: &Problem) -> Result<Automaton, AllocError>
+    ensures problem { IfOk result (λ automaton. automaton.problem ≡ problem.now) }
+    ensures short { IfOk result (λ automaton. NamesShortRules problem.now automaton.rules) }
 {
-    let short = short_rules(alloc, problem)?;
-    let tails = TailRules::of(alloc, problem, &short)?;
-    Ok(tails)
+    Automaton::of_short_rules(alloc, problem, Told::DayOff)
 }
 
-/// The tails of words by one short rule alone.
-pub fn one_rule(alloc: Global, problem: &Problem, number: u32) -> Result<TailRules, Fail>
-    ensures problem { IfOk result (λ tails. tails.problem ≡ problem.now) }
+/// The automaton of one short rule alone.
+pub fn one_rule(alloc: Global, problem: &Problem, number: u32) -> Result<Automaton, Fail>
+    ensures problem { IfOk result (λ automaton. automaton.problem ≡ problem.now) }
 {
     if number < 1 || number > rule_count(problem) {
         return Err(Fail::from("no rule"));
@@ -182,7 +180,7 @@ pub fn one_rule(alloc: Global, problem: &Problem, number: u32) -> Result<TailRul
     }
     let mut rules = RuleList::new(alloc);
     rules.put(number)?;
-    Ok(TailRules::of(alloc, problem, &rules)?)
+    Ok(Automaton::of(alloc, problem, &rules, Told::DayOff)?)
 }
 
 /// Takes the symbol away from the position, where another is left.

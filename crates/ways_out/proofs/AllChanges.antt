@@ -4,7 +4,7 @@ use Rattle.std.proofs.lemmas.List.{append_assoc}
 use Rattle.std.specs.Prelude.{slice_get, All, Contains}
 use Rattle.std.specs.List.{flat_map, range_with_len, AllByRecursion}
 use Rattle.rwsp_terms.specs.declared.data.Rule.{Rule}
-use Rattle.rwsp_terms.specs.declared.data.Rule.TheVariants.{MaxShift, MinShift, MaxOff, MinOff, MaxWork, MinWork, Pair, Triple, Day}
+use Rattle.rwsp_terms.specs.declared.data.Rule.TheVariants.{Most, Least, Never, Day}
 use Rattle.rwsp_terms.specs.Instance.{Instance, shift_count, symbol_numbered, IsDay, IsShift}
 use Rattle.rwsp_terms.specs.Roster.{IsRule}
 use Rattle.rwsp_terms.specs.Rules.{rules, rule_of}
@@ -14,8 +14,7 @@ use Rattle.std.proofs.lemmas.List.Elements.{Contains-append_left, Contains-appen
 use Rattle.rwsp_model.specs.RuleNumbers.{place_of}
 use Rattle.rwsp_model.proofs.Numbering.{rule_found, rule_at_place}
 use Rattle.ways_out.specs.declared.change.Change.{Change}
-use Rattle.ways_out.specs.declared.change.Change.TheVariants.{LongerBlocks, ShorterBlocks, LowerDemand, HigherDemand, DroppedPair, DroppedTriple}
-use Rattle.rwsp_terms.specs.declared.data.Class.TheVariants.{Shift, Off, Work}
+use Rattle.ways_out.specs.declared.change.Change.TheVariants.{LongerBlocks, ShorterBlocks, LowerDemand, HigherDemand, Dropped}
 use Rattle.ways_out.specs.Loosened.{changed_rule, IsChange}
 use Rattle.ways_out.specs.Laws.{ChangesAreListed}
 use Rattle.ways_out.specs.Changes.{changes, changes_of, demand_changes}
@@ -45,14 +44,9 @@ both_more j n out mid new first second =
     ∙ ap (λ (k : ℕ). out ++ demand_changes j k) next
 
 rule_known : (P : Instance) (r : Rule) → IsRule P r → AllByRecursion (IsChange P) (changes_of P r)
-rule_known P (MaxShift x) rule = (rule, tt)
-rule_known P (MinShift x) rule = (rule, tt)
-rule_known P MaxOff rule = (tt, tt)
-rule_known P MinOff rule = (tt, tt)
-rule_known P MaxWork rule = (tt, tt)
-rule_known P MinWork rule = (tt, tt)
-rule_known P (Pair k) rule = (omega (arith, rule), tt)
-rule_known P (Triple k) rule = (omega (arith, rule), tt)
+rule_known P (Most c) rule = (rule, tt)
+rule_known P (Least c) rule = (rule, tt)
+rule_known P (Never k) rule = (rule, tt)
 rule_known P (Day j) rule = day_known P j 1 (shift_count P) rule (omega arith) (omega arith)
 
 all_known : (P : Instance) (rs : List Rule) → AllByRecursion (IsRule P) rs → AllByRecursion (IsChange P) (flat_map (changes_of P) rs)
@@ -84,12 +78,8 @@ day_listed j a (suc n) (suc i) x less is =
 
 -- a change is among those of its rule
 of_rule : (P : Instance) (change : Change) → IsChange P change → IsRule P (changed_rule change) × Contains (changes_of P (changed_rule change)) change
-of_rule P (LongerBlocks (Shift x)) known = (known, (0, omega arith, refl))
-of_rule P (LongerBlocks Off) known = (tt, (0, omega arith, refl))
-of_rule P (LongerBlocks Work) known = (tt, (0, omega arith, refl))
-of_rule P (ShorterBlocks (Shift x)) known = (known, (0, omega arith, refl))
-of_rule P (ShorterBlocks Off) known = (tt, (0, omega arith, refl))
-of_rule P (ShorterBlocks Work) known = (tt, (0, omega arith, refl))
+of_rule P (LongerBlocks c) known = (known, (0, omega arith, refl))
+of_rule P (ShorterBlocks c) known = (known, (0, omega arith, refl))
 of_rule P (LowerDemand j x) known =
     let low = known.1.0 in
     let high = known.1.1 in
@@ -98,8 +88,7 @@ of_rule P (HigherDemand j x) known =
     let low = known.1.0 in
     let high = known.1.1 in
     (known.0, (day_listed j 1 (shift_count P) (x.number - 1) x.number (omega (arith, low, high)) (omega (arith, low))).1)
-of_rule P (DroppedPair k) known = (omega (arith, known), (0, omega arith, refl))
-of_rule P (DroppedTriple k) known = (omega (arith, known), (0, omega arith, refl))
+of_rule P (Dropped k) known = (known, (0, omega arith, refl))
 
 pub changed_is_rule : (P : Instance) (change : Change) → IsChange P change → IsRule P (changed_rule change)
 changed_is_rule P change known = (of_rule P change known).0

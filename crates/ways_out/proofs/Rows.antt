@@ -1,10 +1,9 @@
 -- The rows of an instance, and their numbers.
-use Rattle.std.proofs.Common.{◌≡◌, ℕ, ◌+◌, ◌-◌, ◌<◌, ◌≤◌, List, [], ◌∷◌, ◌++◌, length, get_or, ap, sym, subst, ◌∙◌, arith, Some}
-use Rattle.std.specs.Prelude.{slice_get, take, Option}
-use Rattle.std.proofs.lemmas.List.{take_more}
+use Rattle.std.proofs.Common.{◌≡◌, ℕ, ◌-◌, ◌<◌, ◌≤◌, List, [], length, get_or, ap, arith, Some}
+use Rattle.std.specs.Prelude.{slice_get, Option}
 use Rattle.std.proofs.lemmas.Option.{slice_get-get_or}
 use Rattle.rwsp_terms.specs.declared.data.Bounds.{Bounds}
-use Rattle.rwsp_terms.specs.Instance.{Instance, shift_count, shift_demand, range_in, no_bounds, IsDay}
+use Rattle.rwsp_terms.specs.Instance.{Instance, shift_count, shift_demand, range_in, no_bounds}
 use Rattle.rwsp_model.specs.Validity.{KeepsLimits}
 
 -- the row of a shift

@@ -6,12 +6,12 @@ use Rattle.std.proofs.lemmas.Bool.{cases_Bool, cases_lt, eqb-true, eqb-false}
 use Rattle.rwsp_terms.specs.declared.data.Bounds.{Bounds}
 use Rattle.rwsp_terms.specs.declared.data.Symbol.{Symbol}
 use Rattle.rwsp_terms.specs.declared.data.Rule.{Rule}
-use Rattle.rwsp_terms.specs.declared.data.Rule.TheVariants.{MaxShift, MinShift, MaxOff, MinOff, MaxWork, MinWork, Pair, Triple, Day}
+use Rattle.rwsp_terms.specs.declared.data.Rule.TheVariants.{Most, Least, Never, Day}
 use Rattle.rwsp_terms.specs.Instance.{Instance, shift_count, shift_demand, range_in, no_bounds, least, greatest, IsDay}
-use Rattle.rwsp_terms.specs.Roster.{MeetsAll, MeetsDay, MeetsRule, IsRule, IsRoster, weeks_with}
+use Rattle.rwsp_terms.specs.Roster.{MeetsAll, MeetsDay, MeetsRule, IsRule, weeks_with}
 use Rattle.rwsp_model.specs.Validity.{KeepsLimits}
 use Rattle.ways_out.specs.declared.change.Change.{Change}
-use Rattle.ways_out.specs.declared.change.Change.TheVariants.{LongerBlocks, ShorterBlocks, LowerDemand, HigherDemand, DroppedPair, DroppedTriple}
+use Rattle.ways_out.specs.declared.change.Change.TheVariants.{LongerBlocks, ShorterBlocks, LowerDemand, HigherDemand, Dropped}
 use Rattle.ways_out.specs.Loosened.{edited, raised, lowered, lowest, highest, exact, loosened, most_steps, with_demand, IsChange}
 use Rattle.ways_out.specs.Together.{IsOfDemand}
 use Rattle.ways_out.specs.Helping.{HasNone}
@@ -81,14 +81,9 @@ module _ (P : Instance) (x j : ℕ) (a b : Bounds) (limits : KeepsLimits P) (som
     | inl equal ↦ subst (λ (n : ℕ). MeetsDay (with_demand P x j (λ _. b)) n s) (sym (eqb-true i j equal)) day_met
     | inr unequal ↦ let other = eqb-false i j unequal in kept (Day i) (λ e. let same : i ≡ j = cc in other same) rule
   ]
-  all_met (MaxShift y) rule = kept (MaxShift y) (λ e. absurd (cc)) rule
-  all_met (MinShift y) rule = kept (MinShift y) (λ e. absurd (cc)) rule
-  all_met MaxOff rule = kept MaxOff (λ e. absurd (cc)) rule
-  all_met MinOff rule = kept MinOff (λ e. absurd (cc)) rule
-  all_met MaxWork rule = kept MaxWork (λ e. absurd (cc)) rule
-  all_met MinWork rule = kept MinWork (λ e. absurd (cc)) rule
-  all_met (Pair k) rule = kept (Pair k) (λ e. absurd (cc)) rule
-  all_met (Triple k) rule = kept (Triple k) (λ e. absurd (cc)) rule
+  all_met (Most c) rule = kept (Most c) (λ e. absurd (cc)) rule
+  all_met (Least c) rule = kept (Least c) (λ e. absurd (cc)) rule
+  all_met (Never k) rule = kept (Never k) (λ e. absurd (cc)) rule
 
   -- a roster with one range of the demand is one with another that its number is in
   pub moved : MeetsAll (with_demand P x j (λ _. b)) s
@@ -129,8 +124,7 @@ none_with_none P (HigherDemand j x) limits demand known none =
     none_at_first P x.number j (raised 0) limits known.1.0 known.1.1 known.0 (λ b. bounds_are (raised 0 b) b refl (omega arith)) none
 none_with_none P (LongerBlocks c) limits demand known none = absurd demand
 none_with_none P (ShorterBlocks c) limits demand known none = absurd demand
-none_with_none P (DroppedPair k) limits demand known none = absurd demand
-none_with_none P (DroppedTriple k) limits demand known none = absurd demand
+none_with_none P (Dropped k) limits demand known none = absurd demand
 
 -- no roster with a range of a demand, where there is none with either of two that hold each number of it
 none_joined : (P : Instance) (x j : ℕ) (a b e : Bounds) → KeepsLimits P → 0 < x → x ≤ shift_count P → IsDay P j → ((k : ℕ) → a.least ≤ k → k ≤ a.greatest → IsWithin b k ⊎ IsWithin e k) → HasNone (with_demand P x j (λ _. b)) → HasNone (with_demand P x j (λ _. e)) → HasNone (with_demand P x j (λ _. a))
@@ -170,5 +164,4 @@ none_further P (HigherDemand j x) n limits known few none single =
     (subst HasNone (put (raised n)) none) (subst HasNone (put (λ b. highest (raised (n + 1) b))) single))
 none_further P (LongerBlocks c) n limits known few none single = single
 none_further P (ShorterBlocks c) n limits known few none single = single
-none_further P (DroppedPair k) n limits known few none single = single
-none_further P (DroppedTriple k) n limits known few none single = single
+none_further P (Dropped k) n limits known few none single = single

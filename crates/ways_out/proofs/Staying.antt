@@ -1,30 +1,39 @@
 -- A roster of an instance is one of it loosened.
-use Rattle.std.proofs.Common.{◌≡◌, ℕ, zero, suc, ◌+◌, ◌-◌, ◌<◌, ◌≤◌, List, [], ◌∷◌, get_or, refl, ap, sym, subst, ◌∙◌, arith}
-use Rattle.std.specs.Prelude.{◌≤ℤ◌, ℤ, slice_get, Option, Some, remove}
+use Rattle.std.proofs.Common.{◌≡◌, ℕ, zero, suc, ◌+◌, ◌-◌, ◌<◌, ◌≤◌, List, [], ◌∷◌, ◌++◌, length, map, get_or, Bool, inl, inr, refl, ap, sym, subst, ◌∙◌, arith}
+use Rattle.std.specs.Prelude.{◌≤ℤ◌, ℤ, slice_get, Option, Some, remove, if◌then◌else◌, nat_lt}
 use Rattle.std.proofs.lemmas.Int.{ints}
+use Rattle.std.proofs.lemmas.Bool.{cases_Bool, ltb-true, ltb-false}
+use Rattle.std.proofs.lemmas.List.{length-map}
+use Rattle.std.proofs.lemmas.List.Edits.{remove-append_left, remove-append_right}
 use Rattle.rwsp_terms.specs.declared.data.Bounds.{Bounds}
 use Rattle.rwsp_terms.specs.declared.data.Class.{Class}
 use Rattle.rwsp_terms.specs.declared.data.Class.TheVariants.{Shift, Off, Work}
 use Rattle.rwsp_terms.specs.declared.data.Symbol.{Symbol}
+use Rattle.rwsp_terms.specs.declared.data.Sequence.{Sequence}
 use Rattle.rwsp_terms.specs.declared.data.ShiftRow.{ShiftRow}
 use Rattle.rwsp_terms.specs.declared.data.Rule.{Rule}
-use Rattle.rwsp_terms.specs.declared.data.Rule.TheVariants.{MaxShift, MinShift, Pair, Triple, Day}
-use Rattle.rwsp_terms.specs.Instance.{Instance, shift_count, bounds, bounds_of, least, greatest, shift_demand, range_in, no_bounds, column_least, column_greatest, symbol_numbered, IsClass}
+use Rattle.rwsp_terms.specs.declared.data.Rule.TheVariants.{Most, Least, Never, Day}
+use Rattle.rwsp_terms.specs.Instance.{Instance, shift_count, bounds, bounds_of, sequences, of_pair, of_triple, least, greatest, shift_demand, range_in, no_bounds, column_least, column_greatest, symbol_numbered, IsClass}
 use Rattle.rwsp_terms.specs.Roster.{MeetsAll, IsRoster}
 use Rattle.ways_out.specs.declared.change.Change.{Change}
-use Rattle.ways_out.specs.declared.change.Change.TheVariants.{LongerBlocks, ShorterBlocks, LowerDemand, HigherDemand, DroppedPair, DroppedTriple}
-use Rattle.clean_words.specs.Ends.{max_rule, min_rule}
-use Rattle.ways_out.specs.Loosened.{edited, raised, lowered, lowest, highest, exact, with_bounds, with_demand, loosened, changed_rule, IsChange}
+use Rattle.ways_out.specs.declared.change.Change.TheVariants.{LongerBlocks, ShorterBlocks, LowerDemand, HigherDemand, Dropped}
+use Rattle.ways_out.specs.Loosened.{edited, raised, lowered, lowest, highest, exact, with_bounds, with_demand, without_sequence, loosened, changed_rule, IsChange}
 use Rattle.ways_out.specs.Laws.{RostersStay, RostersStayFurther, OtherRulesStay}
 use Rattle.ways_out.proofs.Edited.{length-edited, edited_same, edited_related, related_get, sum_edited}
-use Rattle.ways_out.proofs.Easier.{IsEasierBut, rule_kept, roster_kept, all_kept, shape_kept}
+use Rattle.ways_out.proofs.Easier.{IsEasierBut, class_kept, rule_kept, all_kept, shape_kept}
 use Rattle.ways_out.proofs.Valid.{rebound}
 
 le_same : (n : ℕ) → n ≤ n
 le_same n = omega arith
 
+le_by : {m n : ℕ} → m ≡ n → m ≤ n
+le_by e = omega (arith, e)
+
 int_same : (z : ℤ) → z ≤ℤ z
 int_same z = omega (arith, ints)
+
+int_le_by : {y z : ℤ} → y ≡ z → y ≤ℤ z
+int_le_by e = omega (arith, ints, e)
 
 -- an instance is as easy as itself
 easier_same : (P : Instance) (Spared : Rule → Type 0) → IsEasierBut P P Spared
@@ -34,8 +43,7 @@ easier_same P Spared = record {
   shifts = refl;
   longer = λ c kept class. le_same (bounds P c).greatest;
   shorter = λ c kept class. le_same (bounds P c).least;
-  pairs = λ k x kept there. (k, there);
-  triples = λ k x kept there. (k, there);
+  forbidden = λ k q kept there. (k, there);
   lower = λ j x kept day. int_same (least P x j);
   higher = λ j x kept day. int_same (greatest P x j);
 }
@@ -52,122 +60,54 @@ same_shift x y low_x low_y same =
     let number : y.number ≡ x.number = omega (arith, low_x, low_y, same) in
     ap symbol_numbered number
 
-greatest_le : (k i : ℕ) (f g : Bounds → Bounds) (rows : List ShiftRow) → (i ≡ k → (b : Bounds) → (f b).greatest ≤ (g b).greatest) → (bounds_of (slice_get (edited k (rebound f) rows) i)).greatest ≤ (bounds_of (slice_get (edited k (rebound g) rows) i)).greatest
-greatest_le k i f g rows h =
-    related_get (λ (a b : Option ShiftRow). (bounds_of a).greatest ≤ (bounds_of b).greatest) (λ a. le_same (bounds_of a).greatest) k i (rebound f) (rebound g) rows (λ e row. h e row.bounds)
-
-least_le : (k i : ℕ) (f g : Bounds → Bounds) (rows : List ShiftRow) → (i ≡ k → (b : Bounds) → (g b).least ≤ (f b).least) → (bounds_of (slice_get (edited k (rebound g) rows) i)).least ≤ (bounds_of (slice_get (edited k (rebound f) rows) i)).least
-least_le k i f g rows h =
-    related_get (λ (a b : Option ShiftRow). (bounds_of a).least ≤ (bounds_of b).least) (λ a. le_same (bounds_of a).least) k i (rebound g) (rebound f) rows (λ e row. h e row.bounds)
-
-longer_by : (P : Instance) (c d : Class) (f g : Bounds → Bounds) (Spared : Rule → Type 0) → IsClass P c → IsClass P d → ((Spared (max_rule c) → ⊥) → (b : Bounds) → (f b).greatest ≤ (g b).greatest) → (Spared (max_rule d) → ⊥) → (bounds (with_bounds P c f) d).greatest ≤ (bounds (with_bounds P c g) d).greatest
-longer_by P (Shift x) (Shift y) f g Spared shift other h kept =
-    greatest_le (x.number - 1) (y.number - 1) f g P.shifts (λ e.
-    h (λ spared. kept (subst (λ (z : Symbol). Spared (MaxShift z)) (sym (same_shift x y shift.0 other.0 e)) spared)))
-longer_by P (Shift x) Off f g Spared shift other h kept = le_same P.off.greatest
-longer_by P (Shift x) Work f g Spared shift other h kept = le_same P.work.greatest
-longer_by P Off (Shift y) f g Spared shift other h kept = le_same (bounds P (Shift y)).greatest
-longer_by P Off Off f g Spared shift other h kept = h kept P.off
-longer_by P Off Work f g Spared shift other h kept = le_same P.work.greatest
-longer_by P Work (Shift y) f g Spared shift other h kept = le_same (bounds P (Shift y)).greatest
-longer_by P Work Off f g Spared shift other h kept = le_same P.off.greatest
-longer_by P Work Work f g Spared shift other h kept = h kept P.work
-
-shorter_by : (P : Instance) (c d : Class) (f g : Bounds → Bounds) (Spared : Rule → Type 0) → IsClass P c → IsClass P d → ((Spared (min_rule c) → ⊥) → (b : Bounds) → (g b).least ≤ (f b).least) → (Spared (min_rule d) → ⊥) → (bounds (with_bounds P c g) d).least ≤ (bounds (with_bounds P c f) d).least
-shorter_by P (Shift x) (Shift y) f g Spared shift other h kept =
-    least_le (x.number - 1) (y.number - 1) f g P.shifts (λ e.
-    h (λ spared. kept (subst (λ (z : Symbol). Spared (MinShift z)) (sym (same_shift x y shift.0 other.0 e)) spared)))
-shorter_by P (Shift x) Off f g Spared shift other h kept = le_same P.off.least
-shorter_by P (Shift x) Work f g Spared shift other h kept = le_same P.work.least
-shorter_by P Off (Shift y) f g Spared shift other h kept = le_same (bounds P (Shift y)).least
-shorter_by P Off Off f g Spared shift other h kept = h kept P.off
-shorter_by P Off Work f g Spared shift other h kept = le_same P.work.least
-shorter_by P Work (Shift y) f g Spared shift other h kept = le_same (bounds P (Shift y)).least
-shorter_by P Work Off f g Spared shift other h kept = le_same P.off.least
-shorter_by P Work Work f g Spared shift other h kept = h kept P.work
+-- what relates both edits of the class's bounds, and all bounds to themselves, relates the bounds of each class
+bounds_related : (R : Bounds → Bounds → Type 0) (same : (b : Bounds) → R b b) (P : Instance) (c d : Class) (f g : Bounds → Bounds) → IsClass P c → IsClass P d → (d ≡ c → (b : Bounds) → R (f b) (g b)) → R (bounds (with_bounds P c f) d) (bounds (with_bounds P c g) d)
+bounds_related R same P (Shift x) (Shift y) f g shift other h =
+    related_get (λ (a b : Option ShiftRow). R (bounds_of a) (bounds_of b)) (λ a. same (bounds_of a)) (x.number - 1) (y.number - 1) (rebound f) (rebound g) P.shifts (λ e row.
+    h (ap Shift (same_shift x y shift.0 other.0 e)) row.bounds)
+bounds_related R same P (Shift x) Off f g shift other h = same P.off
+bounds_related R same P (Shift x) Work f g shift other h = same P.work
+bounds_related R same P Off (Shift y) f g shift other h = same (bounds P (Shift y))
+bounds_related R same P Off Off f g shift other h = h refl P.off
+bounds_related R same P Off Work f g shift other h = same P.work
+bounds_related R same P Work (Shift y) f g shift other h = same (bounds P (Shift y))
+bounds_related R same P Work Off f g shift other h = same P.off
+bounds_related R same P Work Work f g shift other h = h refl P.work
 
 -- what a change of bounds leaves of the rest
 record HasRest (P Q : Instance) : Type 0 where
   days : Q.days ≡ P.days
   weeks : Q.weeks ≡ P.weeks
   shifts : shift_count Q ≡ shift_count P
-  pairs : Q.pairs ≡ P.pairs
-  triples : Q.triples ≡ P.triples
-  lower : (j x : ℕ) → least Q x j ≡ least P x j
-  higher : (j x : ℕ) → greatest Q x j ≡ greatest P x j
+  forbidden : sequences Q ≡ sequences P
+  demand : Q.demand ≡ P.demand
 
-same_least : (P : Instance) (rows : List ShiftRow) (j x : ℕ) → least (record P { shifts = rows }) x j ≡ least P x j
-same_least P rows j zero = refl
-same_least P rows j (suc x) = refl
-
-same_greatest : (P : Instance) (rows : List ShiftRow) (j x : ℕ) → greatest (record P { shifts = rows }) x j ≡ greatest P x j
-same_greatest P rows j zero = refl
-same_greatest P rows j (suc x) = refl
-
-off_least : (P : Instance) (b : Bounds) (j x : ℕ) → least (record P { off = b }) x j ≡ least P x j
-off_least P b j zero = refl
-off_least P b j (suc x) = refl
-
-off_greatest : (P : Instance) (b : Bounds) (j x : ℕ) → greatest (record P { off = b }) x j ≡ greatest P x j
-off_greatest P b j zero = refl
-off_greatest P b j (suc x) = refl
-
-work_least : (P : Instance) (b : Bounds) (j x : ℕ) → least (record P { work = b }) x j ≡ least P x j
-work_least P b j zero = refl
-work_least P b j (suc x) = refl
-
-work_greatest : (P : Instance) (b : Bounds) (j x : ℕ) → greatest (record P { work = b }) x j ≡ greatest P x j
-work_greatest P b j zero = refl
-work_greatest P b j (suc x) = refl
+-- instances with the same weeks and rows of demand ask for the same numbers
+numbers_alike : (P Q : Instance) (j x : ℕ) → P.weeks ≡ Q.weeks → P.demand ≡ Q.demand → (least P x j ≡ least Q x j) × (greatest P x j ≡ greatest Q x j)
+numbers_alike P Q j zero weeks demand = (cc, cc)
+numbers_alike P Q j (suc x) weeks demand = (cc, cc)
 
 rest_by : (P : Instance) (c : Class) (f : Bounds → Bounds) → HasRest P (with_bounds P c f)
-rest_by P (Shift x) f = record {
-  days = refl;
-  weeks = refl;
-  shifts = length-edited (x.number - 1) (rebound f) P.shifts;
-  pairs = refl;
-  triples = refl;
-  lower = same_least P (edited (x.number - 1) (rebound f) P.shifts);
-  higher = same_greatest P (edited (x.number - 1) (rebound f) P.shifts);
-}
-rest_by P Off f = record {
-  days = refl;
-  weeks = refl;
-  shifts = refl;
-  pairs = refl;
-  triples = refl;
-  lower = off_least P (f P.off);
-  higher = off_greatest P (f P.off);
-}
-rest_by P Work f = record {
-  days = refl;
-  weeks = refl;
-  shifts = refl;
-  pairs = refl;
-  triples = refl;
-  lower = work_least P (f P.work);
-  higher = work_greatest P (f P.work);
-}
+rest_by P (Shift x) f = record { days = refl; weeks = refl; shifts = length-edited (x.number - 1) (rebound f) P.shifts; forbidden = refl; demand = refl }
+rest_by P Off f = record { days = refl; weeks = refl; shifts = refl; forbidden = refl; demand = refl }
+rest_by P Work f = record { days = refl; weeks = refl; shifts = refl; forbidden = refl; demand = refl }
 
-class_of : (P Q : Instance) (c : Class) → shift_count Q ≡ shift_count P → IsClass Q c → IsClass P c
-class_of P Q (Shift x) e h = (h.0, subst (λ (n : ℕ). x.number ≤ n) e h.1)
-class_of P Q Off e h = tt
-class_of P Q Work e h = tt
-
-easier_bounds : (P : Instance) (c : Class) (f g : Bounds → Bounds) (Spared : Rule → Type 0) → IsClass P c → EasesBut f g (Spared (max_rule c)) (Spared (min_rule c)) → IsEasierBut (with_bounds P c f) (with_bounds P c g) Spared
+easier_bounds : (P : Instance) (c : Class) (f g : Bounds → Bounds) (Spared : Rule → Type 0) → IsClass P c → EasesBut f g (Spared (Most c)) (Spared (Least c)) → IsEasierBut (with_bounds P c f) (with_bounds P c g) Spared
 easier_bounds P c f g Spared class eases =
     let a = rest_by P c f in
     let b = rest_by P c g in
+    let weeks = b.weeks ∙ sym a.weeks in
+    let demand = b.demand ∙ sym a.demand in
+    let of_p = λ (d : Class) (of_d : IsClass (with_bounds P c f) d). class_kept (with_bounds P c f) P d a.shifts of_d in
     record {
       days = a.days ∙ sym b.days;
-      weeks = a.weeks ∙ sym b.weeks;
+      weeks = sym weeks;
       shifts = a.shifts ∙ sym b.shifts;
-      longer = λ d kept of_d. longer_by P c d f g Spared class (class_of P (with_bounds P c f) d a.shifts of_d) eases.longer kept;
-      shorter = λ d kept of_d. shorter_by P c d f g Spared class (class_of P (with_bounds P c f) d a.shifts of_d) eases.shorter kept;
-      pairs = λ k x kept there. (k, subst (λ (xs : List (Symbol × Symbol)). slice_get xs k ≡ Some x) (b.pairs ∙ sym a.pairs) there);
-      triples = λ k x kept there. (k, subst (λ (xs : List (Symbol × Symbol × Symbol)). slice_get xs k ≡ Some x) (b.triples ∙ sym a.triples) there);
-      lower = λ j x kept day. subst (λ (z : ℤ). least (with_bounds P c g) x j ≤ℤ z) (b.lower j x ∙ sym (a.lower j x)) (int_same (least (with_bounds P c g) x j));
-      higher = λ j x kept day. subst (λ (z : ℤ). greatest (with_bounds P c f) x j ≤ℤ z) (a.higher j x ∙ sym (b.higher j x)) (int_same (greatest (with_bounds P c f) x j));
+      longer = λ d kept of_d. bounds_related (λ v w. v.greatest ≤ w.greatest) (λ v. le_same v.greatest) P c d f g class (of_p d of_d) (λ e. eases.longer (λ spared. kept (subst (λ (z : Class). Spared (Most z)) (sym e) spared)));
+      shorter = λ d kept of_d. bounds_related (λ v w. v.least ≤ w.least) (λ v. le_same v.least) P c d g f class (of_p d of_d) (λ e. eases.shorter (λ spared. kept (subst (λ (z : Class). Spared (Least z)) (sym e) spared)));
+      forbidden = λ k q kept there. (k, subst (λ (qs : List Sequence). slice_get qs k ≡ Some q) (b.forbidden ∙ sym a.forbidden) there);
+      lower = λ j x kept day. int_le_by (numbers_alike (with_bounds P c g) (with_bounds P c f) j x weeks demand).0;
+      higher = λ j x kept day. int_le_by (numbers_alike (with_bounds P c f) (with_bounds P c g) j x (sym weeks) (sym demand)).1;
     }
 
 -- no change of bounds
@@ -207,25 +147,20 @@ higher_by P x j i (suc y) f g h =
     related_get (λ (a b : Option (List Bounds)). (range_in a (i - 1)).greatest ≤ (range_in b (i - 1)).greatest) (λ a. le_same (range_in a (i - 1)).greatest) (x - 1) (suc y - 1) (edited (j - 1) f) (edited (j - 1) g) P.demand (λ e row. greatest_of_rows (i - 1) (j - 1) f g row (λ d b. (h d b).0)) in
     omega (arith, ints, here)
 
-longer_demand : (P : Instance) (x j : ℕ) (f g : Bounds → Bounds) (c : Class) → (bounds (with_demand P x j f) c).greatest ≤ (bounds (with_demand P x j g) c).greatest
-longer_demand P x j f g (Shift y) = le_same (bounds P (Shift y)).greatest
-longer_demand P x j f g Off = le_same P.off.greatest
-longer_demand P x j f g Work = le_same P.work.greatest
-
-shorter_demand : (P : Instance) (x j : ℕ) (f g : Bounds → Bounds) (c : Class) → (bounds (with_demand P x j g) c).least ≤ (bounds (with_demand P x j f) c).least
-shorter_demand P x j f g (Shift y) = le_same (bounds P (Shift y)).least
-shorter_demand P x j f g Off = le_same P.off.least
-shorter_demand P x j f g Work = le_same P.work.least
+-- instances with the same shifts and bounds have the same bounds of each class
+bounds_alike : (P Q : Instance) (c : Class) → P.shifts ≡ Q.shifts → P.off ≡ Q.off → P.work ≡ Q.work → bounds P c ≡ bounds Q c
+bounds_alike P Q (Shift x) shifts off work = ap (λ (rows : List ShiftRow). bounds_of (slice_get rows (x.number - 1))) shifts
+bounds_alike P Q Off shifts off work = off
+bounds_alike P Q Work shifts off work = work
 
 pub easier_demand : (P : Instance) (x j : ℕ) (f g : Bounds → Bounds) (Spared : Rule → Type 0) → 0 < j → ((Spared (Day j) → ⊥) → (b : Bounds) → ((f b).greatest ≤ (g b).greatest) × ((g b).least ≤ (f b).least)) → IsEasierBut (with_demand P x j f) (with_demand P x j g) Spared
 easier_demand P x j f g Spared low eases = record {
   days = refl;
   weeks = refl;
   shifts = refl;
-  longer = λ c kept class. longer_demand P x j f g c;
-  shorter = λ c kept class. shorter_demand P x j f g c;
-  pairs = λ k y kept there. (k, there);
-  triples = λ k y kept there. (k, there);
+  longer = λ c kept class. le_by (ap (λ (v : Bounds). v.greatest) (bounds_alike (with_demand P x j f) (with_demand P x j g) c refl refl refl));
+  shorter = λ c kept class. le_by (ap (λ (v : Bounds). v.least) (bounds_alike (with_demand P x j g) (with_demand P x j f) c refl refl refl));
+  forbidden = λ k q kept there. (k, there);
   lower = λ i y kept day. lower_by P x j i y f g (λ e. eases (λ spared. kept (subst (λ (d : ℕ). Spared (Day d)) (sym (day_same i j day.0 low e)) spared)));
   higher = λ i y kept day. higher_by P x j i y f g (λ e. eases (λ spared. kept (subst (λ (d : ℕ). Spared (Day d)) (sym (day_same i j day.0 low e)) spared)));
 }
@@ -260,48 +195,63 @@ kept_get (y ∷ xs) (suc k) (suc i) x other h =
 abbrev with_lists : Instance → List (Symbol × Symbol) → List (Symbol × Symbol × Symbol) → Instance
 with_lists P pairs triples = record P { pairs = pairs; triples = triples }
 
-lists_bounds : (P : Instance) (a : List (Symbol × Symbol)) (b : List (Symbol × Symbol × Symbol)) (c : Class) → bounds (with_lists P a b) c ≡ bounds P c
-lists_bounds P a b (Shift x) = refl
-lists_bounds P a b Off = refl
-lists_bounds P a b Work = refl
-
-lists_least : (P : Instance) (a : List (Symbol × Symbol)) (b : List (Symbol × Symbol × Symbol)) (j x : ℕ) → least (with_lists P a b) x j ≡ least P x j
-lists_least P a b j zero = refl
-lists_least P a b j (suc x) = refl
-
-lists_greatest : (P : Instance) (a : List (Symbol × Symbol)) (b : List (Symbol × Symbol × Symbol)) (j x : ℕ) → greatest (with_lists P a b) x j ≡ greatest P x j
-lists_greatest P a b j zero = refl
-lists_greatest P a b j (suc x) = refl
-
-le_by : (m n : ℕ) → m ≡ n → m ≤ n
-le_by m n e = omega (arith, e)
-
-int_le_by : (y z : ℤ) → y ≡ z → y ≤ℤ z
-int_le_by y z e = omega (arith, ints, e)
-
--- each pair of `d` that isn't spared is one of `a`, and each triple of `e` one of `b`
-easier_lists : (P : Instance) (a d : List (Symbol × Symbol)) (b e : List (Symbol × Symbol × Symbol)) (Spared : Rule → Type 0) → ((k : ℕ) (x : Symbol × Symbol) → (Spared (Pair k) → ⊥) → slice_get d k ≡ Some x → (i : ℕ) × (slice_get a i ≡ Some x)) → ((k : ℕ) (x : Symbol × Symbol × Symbol) → (Spared (Triple k) → ⊥) → slice_get e k ≡ Some x → (i : ℕ) × (slice_get b i ≡ Some x)) → IsEasierBut (with_lists P a b) (with_lists P d e) Spared
-easier_lists P a d b e Spared pairs triples = record {
+-- each sequence of the second two lists that isn't spared is one of the first two
+easier_lists : (P : Instance) (a d : List (Symbol × Symbol)) (b e : List (Symbol × Symbol × Symbol)) (Spared : Rule → Type 0) → ((k : ℕ) (q : Sequence) → (Spared (Never k) → ⊥) → slice_get (sequences (with_lists P d e)) k ≡ Some q → (i : ℕ) × (slice_get (sequences (with_lists P a b)) i ≡ Some q)) → IsEasierBut (with_lists P a b) (with_lists P d e) Spared
+easier_lists P a d b e Spared forbidden = record {
   days = refl;
   weeks = refl;
   shifts = refl;
-  longer = λ c kept class. le_by (bounds (with_lists P a b) c).greatest (bounds (with_lists P d e) c).greatest (ap (λ (v : Bounds). v.greatest) (lists_bounds P a b c ∙ sym (lists_bounds P d e c)));
-  shorter = λ c kept class. le_by (bounds (with_lists P d e) c).least (bounds (with_lists P a b) c).least (ap (λ (v : Bounds). v.least) (lists_bounds P d e c ∙ sym (lists_bounds P a b c)));
-  pairs = pairs;
-  triples = triples;
-  lower = λ j x kept day. int_le_by (least (with_lists P d e) x j) (least (with_lists P a b) x j) (lists_least P d e j x ∙ sym (lists_least P a b j x));
-  higher = λ j x kept day. int_le_by (greatest (with_lists P a b) x j) (greatest (with_lists P d e) x j) (lists_greatest P a b j x ∙ sym (lists_greatest P d e j x));
+  longer = λ c kept class. le_by (ap (λ (v : Bounds). v.greatest) (bounds_alike (with_lists P a b) (with_lists P d e) c refl refl refl));
+  shorter = λ c kept class. le_by (ap (λ (v : Bounds). v.least) (bounds_alike (with_lists P d e) (with_lists P a b) c refl refl refl));
+  forbidden = forbidden;
+  lower = λ j x kept day. int_le_by (numbers_alike (with_lists P d e) (with_lists P a b) j x refl refl).0;
+  higher = λ j x kept day. int_le_by (numbers_alike (with_lists P a b) (with_lists P d e) j x refl refl).1;
 }
+
+map-removed : {X Y : Type 0} (f : X → Y) (xs : List X) (k : ℕ) → map f (remove xs k) ≡ remove (map f xs) k
+map-removed f [] zero = refl
+map-removed f [] (suc k) = refl
+map-removed f (x ∷ xs) zero = refl
+map-removed f (x ∷ xs) (suc k) = ap (λ ys. f x ∷ ys) (map-removed f xs k)
+
+-- the two lists without a sequence
+record IsWithout (P : Instance) (k : ℕ) : Type 0 where
+  pairs : List (Symbol × Symbol)
+  triples : List (Symbol × Symbol × Symbol)
+  whole : without_sequence P k ≡ with_lists P pairs triples
+  removed : sequences (with_lists P pairs triples) ≡ remove (sequences P) k
+
+without : (P : Instance) (k : ℕ) → IsWithout P k
+without P k =
+    let n = length P.pairs in
+    let pairs = map of_pair P.pairs in
+    let triples = map of_triple P.triples in
+    let long = length-map P.pairs of_pair in
+    let without_one = λ (b : Bool). if b then record P { pairs = remove P.pairs k } else record P { triples = remove P.triples (k - n) } in
+    elim (cases_Bool (nat_lt k n)) [
+      | inl first ↦ record {
+        pairs = remove P.pairs k;
+        triples = P.triples;
+        whole = ap without_one first;
+        removed = ap (λ (qs : List Sequence). qs ++ triples) (map-removed of_pair P.pairs k) ∙ sym (remove-append_left pairs triples k (omega (arith, ltb-true k n first, long)));
+      }
+      | inr past ↦ record {
+        pairs = P.pairs;
+        triples = remove P.triples (k - n);
+        whole = ap without_one past;
+        removed = ap (λ (qs : List Sequence). pairs ++ qs) (map-removed of_triple P.triples (k - n)) ∙ sym (remove-append_right pairs triples n k long (ltb-false k n past));
+      }
+    ]
 
 -- an instance loosened is easier
 
 abbrev NoneSpared : Rule → Type 0
 NoneSpared r = ⊥
 
-from_bounds : (P : Instance) (c : Class) (g : Bounds → Bounds) (Spared : Rule → Type 0) → IsClass P c → EasesBut (λ b. b) g (Spared (max_rule c)) (Spared (min_rule c)) → IsEasierBut P (with_bounds P c g) Spared
+from_bounds : (P : Instance) (c : Class) (g : Bounds → Bounds) (Spared : Rule → Type 0) → IsClass P c → EasesBut (λ b. b) g (Spared (Most c)) (Spared (Least c)) → IsEasierBut P (with_bounds P c g) Spared
 from_bounds P c g Spared class eases = subst (λ (Q : Instance). IsEasierBut Q (with_bounds P c g) Spared) (bounds_same P c) (easier_bounds P c (λ b. b) g Spared class eases)
 
-to_bounds : (P : Instance) (c : Class) (f : Bounds → Bounds) (Spared : Rule → Type 0) → IsClass P c → EasesBut f (λ b. b) (Spared (max_rule c)) (Spared (min_rule c)) → IsEasierBut (with_bounds P c f) P Spared
+to_bounds : (P : Instance) (c : Class) (f : Bounds → Bounds) (Spared : Rule → Type 0) → IsClass P c → EasesBut f (λ b. b) (Spared (Most c)) (Spared (Least c)) → IsEasierBut (with_bounds P c f) P Spared
 to_bounds P c f Spared class eases = subst (λ (Q : Instance). IsEasierBut (with_bounds P c f) Q Spared) (bounds_same P c) (easier_bounds P c f (λ b. b) Spared class eases)
 
 easier : (P : Instance) (change : Change) (n : ℕ) → IsChange P change → IsEasierBut P (loosened P change n) NoneSpared
@@ -313,8 +263,11 @@ easier P (LowerDemand j x) n known =
 easier P (HigherDemand j x) n known =
     subst (λ (Q : Instance). IsEasierBut Q (with_demand P x.number j (raised n)) NoneSpared) (demand_same P x.number j)
     (easier_demand P x.number j (λ b. b) (raised n) NoneSpared known.0.0 (λ kept b. (omega arith, le_same b.least)))
-easier P (DroppedPair k) n known = easier_lists P P.pairs (remove P.pairs k) P.triples P.triples NoneSpared (λ i x kept there. removed_get P.pairs k i x there) (λ i x kept there. (i, there))
-easier P (DroppedTriple k) n known = easier_lists P P.pairs P.pairs P.triples (remove P.triples k) NoneSpared (λ i x kept there. (i, there)) (λ i x kept there. removed_get P.triples k i x there)
+easier P (Dropped k) n known =
+    let left = without P k in
+    subst (λ (Q : Instance). IsEasierBut P Q NoneSpared) (sym left.whole)
+    (easier_lists P P.pairs left.pairs P.triples left.triples NoneSpared (λ i q kept there.
+    removed_get (sequences P) k i q (ap (λ (qs : List Sequence). slice_get qs i) (sym left.removed) ∙ there)))
 
 -- and easier the more it is loosened
 easier_further : (P : Instance) (change : Change) (m n : ℕ) → IsChange P change → m ≤ n → IsEasierBut (loosened P change m) (loosened P change n) NoneSpared
@@ -322,21 +275,24 @@ easier_further P (LongerBlocks c) m n known le = easier_bounds P c (raised m) (r
 easier_further P (ShorterBlocks c) m n known le = easier_bounds P c (lowered m) (lowered n) NoneSpared known (record { longer = λ kept b. le_same b.greatest; shorter = λ kept b. omega (arith, le) })
 easier_further P (LowerDemand j x) m n known le = easier_demand P x.number j (lowered m) (lowered n) NoneSpared known.0.0 (λ kept b. (le_same b.greatest, omega (arith, le)))
 easier_further P (HigherDemand j x) m n known le = easier_demand P x.number j (raised m) (raised n) NoneSpared known.0.0 (λ kept b. (omega (arith, le), le_same b.least))
-easier_further P (DroppedPair k) m n known le = easier_same (loosened P (DroppedPair k) m) NoneSpared
-easier_further P (DroppedTriple k) m n known le = easier_same (loosened P (DroppedTriple k) m) NoneSpared
+easier_further P (Dropped k) m n known le = easier_same (without_sequence P k) NoneSpared
 
 -- but for the changed rule the instance is as easy as it is loosened
 as_easy : (P : Instance) (change : Change) (n : ℕ) → IsChange P change → IsEasierBut (loosened P change n) P (λ r. r ≡ changed_rule change)
-as_easy P (LongerBlocks c) n known = to_bounds P c (raised n) (λ r. r ≡ max_rule c) known (record { longer = λ kept b. absurd (kept refl); shorter = λ kept b. le_same b.least })
-as_easy P (ShorterBlocks c) n known = to_bounds P c (lowered n) (λ r. r ≡ min_rule c) known (record { longer = λ kept b. le_same b.greatest; shorter = λ kept b. absurd (kept refl) })
+as_easy P (LongerBlocks c) n known = to_bounds P c (raised n) (λ r. r ≡ Most c) known (record { longer = λ kept b. absurd (kept refl); shorter = λ kept b. le_same b.least })
+as_easy P (ShorterBlocks c) n known = to_bounds P c (lowered n) (λ r. r ≡ Least c) known (record { longer = λ kept b. le_same b.greatest; shorter = λ kept b. absurd (kept refl) })
 as_easy P (LowerDemand j x) n known =
     subst (λ (Q : Instance). IsEasierBut (with_demand P x.number j (lowered n)) Q (λ r. r ≡ Day j)) (demand_same P x.number j)
     (easier_demand P x.number j (lowered n) (λ b. b) (λ r. r ≡ Day j) known.0.0 (λ kept. absurd (kept refl)))
 as_easy P (HigherDemand j x) n known =
     subst (λ (Q : Instance). IsEasierBut (with_demand P x.number j (raised n)) Q (λ r. r ≡ Day j)) (demand_same P x.number j)
     (easier_demand P x.number j (raised n) (λ b. b) (λ r. r ≡ Day j) known.0.0 (λ kept. absurd (kept refl)))
-as_easy P (DroppedPair k) n known = easier_lists P (remove P.pairs k) P.pairs P.triples P.triples (λ r. r ≡ Pair k) (λ i x kept there. kept_get P.pairs k i x (λ e. kept (ap Pair e)) there) (λ i x kept there. (i, there))
-as_easy P (DroppedTriple k) n known = easier_lists P P.pairs P.pairs (remove P.triples k) P.triples (λ r. r ≡ Triple k) (λ i x kept there. (i, there)) (λ i x kept there. kept_get P.triples k i x (λ e. kept (ap Triple e)) there)
+as_easy P (Dropped k) n known =
+    let left = without P k in
+    subst (λ (Q : Instance). IsEasierBut Q P (λ r. r ≡ Never k)) (sym left.whole)
+    (easier_lists P left.pairs P.pairs left.triples P.triples (λ r. r ≡ Never k) (λ i q kept there.
+    let found = kept_get (sequences P) k i q (λ e. kept (ap Never e)) there in
+    (found.0, ap (λ (qs : List Sequence). slice_get qs found.0) left.removed ∙ found.1)))
 
 pub rosters_stay : RostersStay
 rosters_stay P change n s known meets = all_kept P (loosened P change n) s (easier P change n known) meets
@@ -354,14 +310,13 @@ exact_stays P (HigherDemand j x) n s known meets =
     (easier_demand P x.number j (λ b. highest (raised n b)) (raised n) NoneSpared known.0.0 (λ kept b. (le_same (b.greatest + n), omega arith))) meets
 exact_stays P (LongerBlocks c) n s known meets = meets
 exact_stays P (ShorterBlocks c) n s known meets = meets
-exact_stays P (DroppedPair k) n s known meets = meets
-exact_stays P (DroppedTriple k) n s known meets = meets
+exact_stays P (Dropped k) n s known meets = meets
 
 pub other_rules_stay : OtherRulesStay
 other_rules_stay P change n r s known meets rule other = rule_kept (loosened P change n) P (λ q. q ≡ changed_rule change) (as_easy P change n known) s meets r other rule
 
 pub roster_stays : (P : Instance) (change : Change) (n : ℕ) (s : List Symbol) → IsChange P change → MeetsAll (loosened P change n) s → IsRoster P s
-roster_stays P change n s known meets = roster_kept (loosened P change n) P (λ q. q ≡ changed_rule change) (as_easy P change n known) s meets
+roster_stays P change n s known meets = shape_kept (loosened P change n) P (λ q. q ≡ changed_rule change) s (as_easy P change n known) meets.is_roster
 
 -- and the other way round, what has the shape of one of the instance has that of one of it loosened
 pub roster_loosened : (P : Instance) (change : Change) (n : ℕ) (s : List Symbol) → IsChange P change → IsRoster P s → IsRoster (loosened P change n) s

@@ -1,44 +1,34 @@
 -- A change of a demand leaves each change a change.
-use Rattle.std.proofs.Common.{◌≡◌, ℕ, suc, ◌≤◌, List, length, get_or, refl, sym, subst}
+use Rattle.std.proofs.Common.{◌≡◌, ℕ, ◌<◌, ◌≤◌, List, length, get_or, refl, sym, subst}
 use Rattle.std.specs.Prelude.{All}
 use Rattle.rwsp_terms.specs.declared.data.Bounds.{Bounds}
-use Rattle.rwsp_terms.specs.declared.data.Class.{Class}
-use Rattle.rwsp_terms.specs.declared.data.Class.TheVariants.{Shift, Off, Work}
-use Rattle.rwsp_terms.specs.declared.data.Symbol.{Symbol}
-use Rattle.rwsp_terms.specs.Instance.{Instance, shift_count, IsClass}
+use Rattle.rwsp_terms.specs.declared.data.Sequence.{Sequence}
+use Rattle.rwsp_terms.specs.Instance.{Instance, shift_count, sequences}
 use Rattle.ways_out.specs.declared.change.Change.{Change}
-use Rattle.ways_out.specs.declared.change.Change.TheVariants.{LongerBlocks, ShorterBlocks, LowerDemand, HigherDemand, DroppedPair, DroppedTriple}
+use Rattle.ways_out.specs.declared.change.Change.TheVariants.{LongerBlocks, ShorterBlocks, LowerDemand, HigherDemand, Dropped}
 use Rattle.ways_out.specs.Loosened.{raised, lowered, with_demand, loosened, IsChange}
 use Rattle.ways_out.specs.Together.{IsOfDemand}
-
-class_stays : (P Q : Instance) (c : Class) → shift_count Q ≡ shift_count P → IsClass P c → IsClass Q c
-class_stays P Q (Shift x) e h = (h.0, subst (λ (n : ℕ). x.number ≤ n) (sym e) h.1)
-class_stays P Q Off e h = tt
-class_stays P Q Work e h = tt
+use Rattle.ways_out.proofs.Easier.{class_kept}
 
 -- what instances of one shape have in common
-stays_by : (P Q : Instance) (change : Change) → Q.days ≡ P.days → shift_count Q ≡ shift_count P → Q.pairs ≡ P.pairs → Q.triples ≡ P.triples → IsChange P change → IsChange Q change
-stays_by P Q (LongerBlocks c) days shifts pairs triples h = class_stays P Q c shifts h
-stays_by P Q (ShorterBlocks c) days shifts pairs triples h = class_stays P Q c shifts h
-stays_by P Q (LowerDemand j x) days shifts pairs triples h =
+stays_by : (P Q : Instance) (change : Change) → Q.days ≡ P.days → shift_count Q ≡ shift_count P → sequences Q ≡ sequences P → IsChange P change → IsChange Q change
+stays_by P Q (LongerBlocks c) days shifts forbidden h = class_kept P Q c (sym shifts) h
+stays_by P Q (ShorterBlocks c) days shifts forbidden h = class_kept P Q c (sym shifts) h
+stays_by P Q (LowerDemand j x) days shifts forbidden h =
     ((h.0.0, subst (λ (n : ℕ). j ≤ n) (sym days) h.0.1), (h.1.0, subst (λ (n : ℕ). x.number ≤ n) (sym shifts) h.1.1))
-stays_by P Q (HigherDemand j x) days shifts pairs triples h =
+stays_by P Q (HigherDemand j x) days shifts forbidden h =
     ((h.0.0, subst (λ (n : ℕ). j ≤ n) (sym days) h.0.1), (h.1.0, subst (λ (n : ℕ). x.number ≤ n) (sym shifts) h.1.1))
-stays_by P Q (DroppedPair k) days shifts pairs triples h =
-    subst (λ (xs : List (Symbol × Symbol)). suc k ≤ length xs) (sym pairs) h
-stays_by P Q (DroppedTriple k) days shifts pairs triples h =
-    subst (λ (xs : List (Symbol × Symbol × Symbol)). suc k ≤ length xs) (sym triples) h
+stays_by P Q (Dropped k) days shifts forbidden h = subst (λ (qs : List Sequence). k < length qs) (sym forbidden) h
 
 demand_stays : (P : Instance) (x j : ℕ) (f : Bounds → Bounds) (change : Change) → IsChange P change → IsChange (with_demand P x j f) change
-demand_stays P x j f change h = stays_by P (with_demand P x j f) change refl refl refl refl h
+demand_stays P x j f change h = stays_by P (with_demand P x j f) change refl refl refl h
 
 change_stays : (P : Instance) (loosening change : Change) (n : ℕ) → IsOfDemand loosening → IsChange P change → IsChange (loosened P loosening n) change
 change_stays P (LongerBlocks c) change n demand h = absurd demand
 change_stays P (ShorterBlocks c) change n demand h = absurd demand
 change_stays P (LowerDemand j x) change n demand h = demand_stays P x.number j (lowered n) change h
 change_stays P (HigherDemand j x) change n demand h = demand_stays P x.number j (raised n) change h
-change_stays P (DroppedPair k) change n demand h = absurd demand
-change_stays P (DroppedTriple k) change n demand h = absurd demand
+change_stays P (Dropped k) change n demand h = absurd demand
 
 -- all changes stay changes
 pub all_stay : (P Q : Instance) (changes : List Change) (loosening : Change) (n : ℕ) → Q ≡ loosened P loosening n → IsOfDemand loosening → All (IsChange P) changes → All (IsChange Q) changes

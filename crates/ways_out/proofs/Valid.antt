@@ -1,6 +1,7 @@
 -- Instances with changed numbers are valid.
 use Rattle.std.proofs.Common.{◌≡◌, ℕ, ◌-◌, ◌<◌, ◌≤◌, List, [], length, get_or, refl, ap, sym, subst, ◌∙◌, arith}
-use Rattle.std.specs.Prelude.{◌≢◌, All, AllPairs, slice_get, set}
+use Rattle.std.specs.Prelude.{◌≢◌, All, AllPairs, slice_get, set, remove, nat_lt}
+use Rattle.std.proofs.lemmas.Bool.{cond-false, le-ltb}
 use Rattle.std.proofs.lemmas.Option.{slice_get-get_or}
 use Rattle.rwsp_terms.specs.declared.limits.TheConstants.{GREATEST_BOUND, MOST_SHIFTS}
 use Rattle.rwsp_terms.specs.declared.data.Bounds.{Bounds}
@@ -11,7 +12,7 @@ use Rattle.rwsp_terms.specs.declared.data.Class.TheVariants.{Shift, Off, Work}
 use Rattle.rwsp_terms.specs.Instance.{Instance, shift_count, bounds, bounds_of, shift_demand, no_bounds, IsClass, IsDay}
 use Rattle.rwsp_terms.proofs.SymbolNames.{no_row}
 use Rattle.rwsp_model.specs.Validity.{KeepsLimits, AreSmall, IsSmallRange, IsShiftName}
-use Rattle.ways_out.specs.Loosened.{edited, with_bounds, with_demand}
+use Rattle.ways_out.specs.Loosened.{edited, with_bounds, with_demand, without_sequence}
 use Rattle.ways_out.proofs.Edited.{length-edited, edited_same, edited_alike, edited_related, set_edited, all_edited}
 use Rattle.ways_out.proofs.Rows.{demand_there, row_long}
 
@@ -155,6 +156,15 @@ rows_set P k b row less there =
     ap (λ (rows : List ShiftRow). record P { shifts = rows })
     (set_edited k (record row { bounds = b }) P.shifts
     ∙ edited_alike k (λ _. record row { bounds = b }) (rebound (λ _. b)) P.shifts row less (ap (λ (r : ShiftRow). record r { bounds = b }) there))
+
+-- a triple that is removed behind the pairs
+pub triple_removed : (P : Instance) (k n : ℕ) (a : List (Symbol × Symbol)) (b : List (Symbol × Symbol × Symbol)) → a ≡ P.pairs → b ≡ P.triples → n ≡ length a → n ≤ k → record P { pairs = a; triples = remove b (k - n) } ≡ without_sequence P k
+triple_removed P k n a b pairs triples many behind =
+    let all = many ∙ ap length pairs in
+    ap (λ (xs : List (Symbol × Symbol)). record P { pairs = xs; triples = remove b (k - n) }) pairs
+    ∙ ap (λ (xs : List (Symbol × Symbol × Symbol)). record P { triples = remove xs (k - n) }) triples
+    ∙ ap (λ (m : ℕ). record P { triples = remove P.triples (k - m) }) all
+    ∙ sym (cond-false (nat_lt k (length P.pairs)) (record P { pairs = remove P.pairs k }) (record P { triples = remove P.triples (k - length P.pairs) }) (le-ltb k (length P.pairs) (omega (arith, all, behind))))
 
 -- a demand that is changed by its value
 pub demand_valued : (P : Instance) (x j : ℕ) (f : Bounds → Bounds) (b : Bounds) → KeepsLimits P → 0 < x → x ≤ shift_count P → IsDay P j → b ≡ f (shift_demand P x j) → with_demand P x j (λ _. b) ≡ with_demand P x j f

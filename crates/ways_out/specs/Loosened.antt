@@ -1,15 +1,14 @@
 -- A problem with one thing loosened.
-use Rattle.std.specs.Prelude.{ℕ, zero, suc, ◌+◌, ◌-◌, ◌≤◌, min, max, List, [], ◌∷◌, length, remove}
+use Rattle.std.specs.Prelude.{ℕ, zero, suc, ◌+◌, ◌-◌, ◌<◌, ◌≤◌, if◌then◌else◌, nat_lt, min, max, List, [], ◌∷◌, length, remove}
 use Rattle.rwsp_terms.specs.declared.limits.TheConstants.{GREATEST_SHORT_BOUND}
 use Rattle.rwsp_terms.specs.declared.data.Bounds.{Bounds}
 use Rattle.rwsp_terms.specs.declared.data.Class.{Class}
 use Rattle.rwsp_terms.specs.declared.data.Class.TheVariants.{Shift, Off, Work}
 use Rattle.rwsp_terms.specs.declared.data.Rule.{Rule}
-use Rattle.rwsp_terms.specs.declared.data.Rule.TheVariants.{Pair, Triple, Day}
-use Rattle.rwsp_terms.specs.Instance.{Instance, cells, bounds, shift_demand, IsClass, IsDay, IsShift}
-use Rattle.clean_words.specs.Ends.{max_rule, min_rule}
+use Rattle.rwsp_terms.specs.declared.data.Rule.TheVariants.{Most, Least, Never, Day}
+use Rattle.rwsp_terms.specs.Instance.{Instance, cells, bounds, sequences, shift_demand, IsClass, IsDay, IsShift}
 use Rattle.ways_out.specs.declared.change.Change.{Change}
-use Rattle.ways_out.specs.declared.change.Change.TheVariants.{LongerBlocks, ShorterBlocks, LowerDemand, HigherDemand, DroppedPair, DroppedTriple}
+use Rattle.ways_out.specs.declared.change.Change.TheVariants.{LongerBlocks, ShorterBlocks, LowerDemand, HigherDemand, Dropped}
 
 -- the list with f of the element at place k where that element was
 abbrev pub edited : {X : Type 0} → ℕ → (X → X) → List X → List X
@@ -34,14 +33,19 @@ with_bounds P Work f = record P { work = f P.work }
 abbrev pub with_demand : Instance → (x j : ℕ) → (Bounds → Bounds) → Instance
 with_demand P x j f = record P { demand = edited (x - 1) (edited (j - 1) f) P.demand }
 
+-- the instance without the forbidden sequence at a place; the pairs stand before the triples
+abbrev pub without_sequence : Instance → ℕ → Instance
+without_sequence P k =
+    if nat_lt k (length P.pairs) then record P { pairs = remove P.pairs k }
+    else record P { triples = remove P.triples (k - length P.pairs) }
+
 -- the instance with so many steps of a change, and all else as it was
 abbrev pub loosened : Instance → Change → ℕ → Instance
 loosened P (LongerBlocks c) n = with_bounds P c (raised n)
 loosened P (ShorterBlocks c) n = with_bounds P c (lowered n)
 loosened P (LowerDemand j x) n = with_demand P x.number j (lowered n)
 loosened P (HigherDemand j x) n = with_demand P x.number j (raised n)
-loosened P (DroppedPair k) n = record P { pairs = remove P.pairs k }
-loosened P (DroppedTriple k) n = record P { triples = remove P.triples k }
+loosened P (Dropped k) n = without_sequence P k
 
 -- the least number of a demand alone, and the greatest alone. A demand that has none, since its least number is above
 -- its greatest, stays so
@@ -64,8 +68,7 @@ IsChange P (LongerBlocks c) = IsClass P c
 IsChange P (ShorterBlocks c) = IsClass P c
 IsChange P (LowerDemand j x) = IsDay P j × IsShift P x
 IsChange P (HigherDemand j x) = IsDay P j × IsShift P x
-IsChange P (DroppedPair k) = suc k ≤ length P.pairs
-IsChange P (DroppedTriple k) = suc k ≤ length P.triples
+IsChange P (Dropped k) = k < length (sequences P)
 
 -- how many steps it has: blocks get no longer than the roster or, if that is more, than a short rule allows, and no
 -- shorter than one day; the demand falls to 0 and rises to the number of weeks
@@ -74,8 +77,7 @@ most_steps P (LongerBlocks c) = max (cells P) GREATEST_SHORT_BOUND - (bounds P c
 most_steps P (ShorterBlocks c) = (bounds P c).least - 1
 most_steps P (LowerDemand j x) = (shift_demand P x.number j).least
 most_steps P (HigherDemand j x) = P.weeks - (shift_demand P x.number j).greatest
-most_steps P (DroppedPair k) = 1
-most_steps P (DroppedTriple k) = 1
+most_steps P (Dropped k) = 1
 
 -- a number of steps of the change
 abbrev pub IsStep : Instance → Change → ℕ → Type 0
@@ -83,9 +85,8 @@ IsStep P change n = (1 ≤ n) × (n ≤ most_steps P change)
 
 -- the rule that is loosened by a change
 abbrev pub changed_rule : Change → Rule
-changed_rule (LongerBlocks c) = max_rule c
-changed_rule (ShorterBlocks c) = min_rule c
+changed_rule (LongerBlocks c) = Most c
+changed_rule (ShorterBlocks c) = Least c
 changed_rule (LowerDemand j x) = Day j
 changed_rule (HigherDemand j x) = Day j
-changed_rule (DroppedPair k) = Pair k
-changed_rule (DroppedTriple k) = Triple k
+changed_rule (Dropped k) = Never k

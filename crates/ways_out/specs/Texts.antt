@@ -10,7 +10,7 @@ use Rattle.roster_print.specs.RuleText.{rule_text}
 use Rattle.roster_print.specs.RosterText.{roster_text}
 use Rattle.refutation_terms.specs.LogText.{log_text}
 use Rattle.ways_out.specs.declared.change.Change.{Change}
-use Rattle.ways_out.specs.declared.change.Change.TheVariants.{LongerBlocks, ShorterBlocks, LowerDemand, HigherDemand, DroppedPair, DroppedTriple}
+use Rattle.ways_out.specs.declared.change.Change.TheVariants.{LongerBlocks, ShorterBlocks, LowerDemand, HigherDemand, Dropped}
 use Rattle.ways_out.specs.declared.change.Outcome.{Outcome}
 use Rattle.ways_out.specs.declared.change.Outcome.TheVariants.{Helps, Open}
 use Rattle.ways_out.specs.declared.answer.WaysOut.{WaysOut}
@@ -38,8 +38,7 @@ change_text P (LowerDemand j x) n =
     demand_change (name_of P x) (shift_demand P x.number j) (lowered n (shift_demand P x.number j))
 change_text P (HigherDemand j x) n =
     demand_change (name_of P x) (shift_demand P x.number j) (raised n (shift_demand P x.number j))
-change_text P (DroppedPair k) n = codes ": dropped"
-change_text P (DroppedTriple k) n = codes ": dropped"
+change_text P (Dropped k) n = codes ": dropped"
 
 -- said where fewer steps were left open
 abbrev pub nearer_text : Bool → List ℕ

@@ -12,10 +12,8 @@ pub enum Change {
     LowerDemand { day: u32, shift: Symbol },
     /// The greatest demand of the shift on the day rises by one for each step.
     HigherDemand { day: u32, shift: Symbol },
-    /// The forbidden pair at this place, counted from 0, is dropped. It has one step.
-    DroppedPair(u32),
-    /// The forbidden triple at this place is dropped. It has one step.
-    DroppedTriple(u32),
+    /// The forbidden sequence at this place, counted from 0, is dropped. It has one step.
+    Dropped(u32),
 }
 
 /// What is known of a change where the problem itself has no roster.

@@ -8,7 +8,7 @@ ghost use Rattle.ways_out.specs.Loosened.{changed_rule, IsChange};
 
 use crate::change::Change;
 use rwsp_model::{Problem, rule_at, rule_count};
-use rwsp_terms::{Class, Rule, Symbol};
+use rwsp_terms::{Rule, Symbol};
 use std::alloc::{AllocError, Global};
 
 // Appends the changes of a day, by shift.
@@ -29,14 +29,9 @@ fn put_changes_of(out: &mut Vec<Change>, problem: &Problem, rule: Rule) -> Resul
     ensures { OnOk result (out.new.items ≡ out.old.items ++ changes_of problem.now rule) }
 {
     match rule {
-        Rule::MaxShift(shift) => out.push(Change::LongerBlocks(Class::Shift(shift)))?,
-        Rule::MinShift(shift) => out.push(Change::ShorterBlocks(Class::Shift(shift)))?,
-        Rule::MaxOff => out.push(Change::LongerBlocks(Class::Off))?,
-        Rule::MinOff => out.push(Change::ShorterBlocks(Class::Off))?,
-        Rule::MaxWork => out.push(Change::LongerBlocks(Class::Work))?,
-        Rule::MinWork => out.push(Change::ShorterBlocks(Class::Work))?,
-        Rule::Pair(place) => out.push(Change::DroppedPair(place))?,
-        Rule::Triple(place) => out.push(Change::DroppedTriple(place))?,
+        Rule::Most(class) => out.push(Change::LongerBlocks(class))?,
+        Rule::Least(class) => out.push(Change::ShorterBlocks(class))?,
+        Rule::Never(place) => out.push(Change::Dropped(place))?,
         Rule::Day(day) => put_changes_of_day(out, problem, day)?,
     }
     Ok(())
@@ -60,14 +55,9 @@ pub fn changed_rule(change: Change) -> Rule
     ensures { result ≡ changed_rule change }
 {
     match change {
-        Change::LongerBlocks(Class::Shift(shift)) => Rule::MaxShift(shift),
-        Change::LongerBlocks(Class::Off) => Rule::MaxOff,
-        Change::LongerBlocks(Class::Work) => Rule::MaxWork,
-        Change::ShorterBlocks(Class::Shift(shift)) => Rule::MinShift(shift),
-        Change::ShorterBlocks(Class::Off) => Rule::MinOff,
-        Change::ShorterBlocks(Class::Work) => Rule::MinWork,
+        Change::LongerBlocks(class) => Rule::Most(class),
+        Change::ShorterBlocks(class) => Rule::Least(class),
         Change::LowerDemand { day, .. } | Change::HigherDemand { day, .. } => Rule::Day(day),
-        Change::DroppedPair(place) => Rule::Pair(place),
-        Change::DroppedTriple(place) => Rule::Triple(place),
+        Change::Dropped(place) => Rule::Never(place),
     }
 }

@@ -1,10 +1,10 @@
 // A problem with one thing loosened.
-ghost use Rattle.std.specs.Prelude.{◌≡◌, ◌+◌, ◌-◌, ◌<◌, ◌≤◌, IfOk, [], length, remove, set, slice_index_or};
+ghost use Rattle.std.specs.Prelude.{◌≡◌, ◌+◌, ◌-◌, ◌<◌, ◌≤◌, IfOk, [], length, set, slice_index_or};
 ghost use Rattle.rwsp_terms.specs.declared.limits.TheConstants.{GREATEST_BOUND, MOST_WEEKS};
-ghost use Rattle.rwsp_terms.specs.Instance.{IsShift, IsDay, IsClass};
+ghost use Rattle.rwsp_terms.specs.Instance.{sequences, IsShift, IsDay, IsClass};
 ghost use Rattle.rwsp_model.specs.Parts.{instance_of};
 ghost use Rattle.rwsp_model.specs.Validity.{AreSmall, IsSmallRange};
-ghost use Rattle.ways_out.specs.Loosened.{exact, highest, loosened, lowest, most_steps, with_bounds, with_demand, IsChange, IsStep};
+ghost use Rattle.ways_out.specs.Loosened.{exact, highest, loosened, lowest, most_steps, with_bounds, with_demand, without_sequence, IsChange, IsStep};
 
 use crate::change::Change;
 use rwsp_model::{Parts, Problem};
@@ -29,7 +29,7 @@ pub fn most_steps(problem: &Problem, change: Change) -> u32
         Change::HigherDemand { day, shift } => problem
             .weeks()
             .saturating_sub(problem.demand(shift, day).greatest),
-        Change::DroppedPair(_) | Change::DroppedTriple(_) => 1,
+        Change::Dropped(_) => 1,
     }
 }
 
@@ -97,28 +97,23 @@ fn with_demand(
     Ok(Problem::of_valid(parts))
 }
 
-// The problem without the forbidden pair at a place.
-fn without_pair(alloc: Global, problem: &Problem, place: u32) -> Result<Problem, AllocError>
-    requires { place < length problem.now.pairs }
-    ensures { IfOk result (λ P. P ≡ record problem.now { pairs = remove problem.now.pairs place }) }
+// The problem without the forbidden sequence at a place.
+#[tactic(auto, using(rwsp_model::proofs::Numbering::sequences_are_many))]
+fn without_sequence(alloc: Global, problem: &Problem, place: u32) -> Result<Problem, AllocError>
+    requires { place < length (sequences problem.now) }
+    ensures { IfOk result (λ P. P ≡ without_sequence problem.now place) }
 {
     problem.prove_limits();
+    let place = place as usize;
     let mut pairs = Vec::from_slice(alloc, problem.pairs())?;
-    pairs.remove(place as usize);
-    let triples = Vec::from_slice(alloc, problem.triples())?;
-    problem.with_sequences(pairs, triples)
-}
-
-// The problem without the forbidden triple at a place.
-fn without_triple(alloc: Global, problem: &Problem, place: u32) -> Result<Problem, AllocError>
-    requires { place < length problem.now.triples }
-    ensures { IfOk result (λ P. P ≡ record problem.now { triples = remove problem.now.triples place }) }
-{
-    problem.prove_limits();
-    let pairs = Vec::from_slice(alloc, problem.pairs())?;
     let mut triples = Vec::from_slice(alloc, problem.triples())?;
-    triples.remove(place as usize);
-    problem.with_sequences(pairs, triples)
+    if place < pairs.len() {
+        pairs.remove(place);
+        problem.with_sequences(pairs, triples)
+    } else {
+        triples.remove(place - pairs.len());
+        problem.with_sequences(pairs, triples)
+    }
 }
 
 /// The problem with so many steps of a change, and all else as it is.
@@ -166,8 +161,7 @@ pub fn loosen(
             };
             with_demand(alloc, problem, shift, day, demand)
         }
-        Change::DroppedPair(place) => without_pair(alloc, problem, place),
-        Change::DroppedTriple(place) => without_triple(alloc, problem, place),
+        Change::Dropped(place) => without_sequence(alloc, problem, place),
     }
 }
 
@@ -225,9 +219,8 @@ pub fn at_number(
             };
             with_demand(alloc, problem, shift, day, highest(demand))
         }
-        Change::LongerBlocks(_)
-        | Change::ShorterBlocks(_)
-        | Change::DroppedPair(_)
-        | Change::DroppedTriple(_) => loosen(alloc, problem, change, steps),
+        Change::LongerBlocks(_) | Change::ShorterBlocks(_) | Change::Dropped(_) => {
+            loosen(alloc, problem, change, steps)
+        }
     }
 }

@@ -95,7 +95,7 @@ fn put_change(
             };
             put_demand_change(out, problem.name(shift), from, to)
         }
-        Change::DroppedPair(_) | Change::DroppedTriple(_) => out.extend_from_slice(b": dropped"),
+        Change::Dropped(_) => out.extend_from_slice(b": dropped"),
     }
 }
 

@@ -10,7 +10,7 @@ loop-row-init g c =
     let facts = c.prove_facts.ensures in
     record {
       kept = c.requires.kept;
-      walk = rw c.new.ensures.items (on_start T (record { automaton = facts.automaton; symbols = facts.symbols }) c.requires.some);
+      walk = rw (c.new.ensures.items, c.start.ensures.value) (on_start T (record { automaton = facts.automaton; symbols = facts.symbols }) c.requires.some);
       day = rw c.new.ensures.items (omega arith);
     }
 

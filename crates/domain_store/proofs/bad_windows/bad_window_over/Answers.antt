@@ -12,4 +12,4 @@ pub returns : goal.returns
 returns g c =
     let run = c.days_before-run.ensures in
     bad_near c.args.problem.now c.args.rule (g.V.View.allows c.args.view.now) c.in-Some.pattern c.args.p c.days_before-run.result c.first_window.result
-    c.prove_some.ensures c.in-Some.ensures (omega (arith, c.in-Some.ensures.few)) run.few run.ends c.first_window.ensures
+    c.prove_some.ensures c.in-Some.ensures (omega (arith, c.in-Some.ensures.judged.few)) run.few run.ends c.first_window.ensures

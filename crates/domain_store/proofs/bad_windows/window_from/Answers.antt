@@ -13,7 +13,7 @@ returns-then-run-pattern g c =
     let found : IsRunFrom A m c.args.p run = record { few = d.few; within = d.within; ends = d.ends } in
     let refused : m.fewest ≤ run → KeepsLast A m.last (c.args.p + 1 + run) → ⊥ = λ enough last. omega (arith, enough) in
     let n = c.clean_from.ensures in
-    (n.some, n.few, clean_from_run A m c.args.p run c.clean_from.result c.prove_some.ensures c.requires.pattern.0 found refused n.part n.all)
+    (n.some, n.few, clean_from_run A m c.args.p run c.clean_from.result c.prove_some.ensures c.requires.pattern.one_length found refused n.part n.all)
 
 pub returns-then-not-keeps_last : goal.returns-then-not-keeps_last
 returns-then-not-keeps_last g c =
@@ -24,4 +24,4 @@ returns-then-not-keeps_last g c =
     let found : IsRunFrom A m c.args.p run = record { few = d.few; within = d.within; ends = d.ends } in
     let refused : m.fewest ≤ run → KeepsLast A m.last (c.args.p + 1 + run) → ⊥ = λ enough last. let yes = c.keeps_last.ensures.1 last in cc in
     let n = c.clean_from-then-not-keeps_last.ensures in
-    (n.some, n.few, clean_from_run A m c.args.p run c.clean_from-then-not-keeps_last.result c.prove_some.ensures c.requires.pattern.0 found refused n.part n.all)
+    (n.some, n.few, clean_from_run A m c.args.p run c.clean_from-then-not-keeps_last.result c.prove_some.ensures c.requires.pattern.one_length found refused n.part n.all)

@@ -1,5 +1,5 @@
 -- The automaton is of the problem of the judge.
-use Rattle.std.proofs.Common.{◌∙◌, subst}
+use Rattle.std.proofs.Common.{subst}
 use Rattle.rwsp_terms.specs.Instance.{Instance}
 use Rattle.domain_store.specs.Store.{has_domain}
 use Rattle.refutation_checker.specs.LineTexts.{Judging}
@@ -13,4 +13,4 @@ returns-clause-escape c =
     let found = c.escape_of-found.result in
     let here : IsAnswered c.self.inside.problem.now c.self.inside.terms.goal D line found =
     subst (λ (P : Instance). IsAnswered P c.self.inside.terms.goal D line found) c.in_ok-automaton.ensures.problem c.escape_of-found.ensures in
-    subst (λ (j : Judging). IsAnswered j.problem j.goal D line found) (c.self.view_is ∙ c.in_ok-holds_plainly.ensures.same) here
+    subst (λ (j : Judging). IsAnswered j.problem j.goal D line found) c.self.view_is here

@@ -21,7 +21,7 @@ returns-in-Some-clause-passed c =
     let D = has_domain c.domains-2.result.now in
     let same : AreSame P D E = c.domains-2.ensures.has P o lines state in
     let some : 0 < cells P = subst (λ (j : Judging). 0 < cells j.problem) c.self.view_is (some_cells c.self.inside.problem.now c.prove_limits.ensures) in
-    let weeks : GoalFits P Full c.args.self.now.goal = subst (λ (j : Judging). GoalFits j.problem Full j.goal) c.self.view_is c.self.invariant.1 in
+    let weeks : GoalFits P Full c.args.self.now.goal = subst (λ (j : Judging). GoalFits j.problem Full j.goal) c.self.view_is c.self.invariant.0 in
     same_cause P c.args.self.now.goal c.args.self.now.counts c.args.self.now.named D E c.args.number c.args.line.now c.in-Some.why some weeks c.requires.line same (rw c.in-Some.is at c.in_ok-why.ensures.cause)
 
 pub step-requires-clause-useful : goal.step-requires-clause-useful
@@ -44,7 +44,7 @@ returns-clause-passed c =
     let D = has_domain c.domains-2.result.now in
     let same : AreSame P D E = c.domains-2.ensures.has P o lines state in
     let some : 0 < cells P = subst (λ (j : Judging). 0 < cells j.problem) c.self.view_is (some_cells c.self.inside.problem.now c.prove_limits.ensures) in
-    let weeks : GoalFits P Full c.args.self.now.goal = subst (λ (j : Judging). GoalFits j.problem Full j.goal) c.self.view_is c.self.invariant.1 in (
+    let weeks : GoalFits P Full c.args.self.now.goal = subst (λ (j : Judging). GoalFits j.problem Full j.goal) c.self.view_is c.self.invariant.0 in (
       same_sound P c.args.self.now.goal c.args.self.now.counts c.args.self.now.named D E c.args.line.now some weeks c.requires.line same (rw c.in_default.is at c.in_ok-why.ensures.cause),
       c.in_ok-step.ensures P o lines state,
     )

@@ -8,8 +8,6 @@ invariant_of-result c =
     let nodes = c.in_ok-nodes.nodes in
     record {
       few_symbols = search rules;
-      states_whole = nodes.whole;
-      walks_clean = c.in_ok-nodes.ensures.clean;
       steps_within = subst (λ (below : ℕ). All (IsStepWithin nodes.count below) c.in_ok-steps.steps.items) c.in_ok-last.ensures.below c.in_ok-steps.ensures.within;
       few_steps = omega (arith, c.in_ok-steps.ensures.few, c.prove_facts.ensures.few_steps);
       last_whole = c.in_ok-last.ensures.whole;
