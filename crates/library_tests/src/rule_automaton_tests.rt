@@ -35,10 +35,10 @@ fn automata_are_small(rt: HostRuntime) -> Result<(), Fail> {
 }
 
 // Where a word leads from the start.
-fn lead(automaton: &Automaton, word: &[Symbol]) -> Option<u32> {
+fn lead(automaton: &Automaton, word: &[Symbol]) -> Option<usize> {
     let mut state = 0;
     for x in word {
-        if state as usize >= automaton.states() || u32::from(x.number) >= MOST_SYMBOLS {
+        if state >= automaton.states() || u32::from(x.number) >= MOST_SYMBOLS {
             return None;
         }
         state = automaton.follow(state, *x)?;
@@ -54,8 +54,8 @@ fn automata_read_words(rt: HostRuntime) -> Result<(), Fail> {
     assert_eq!(rt; automaton.rules().len(), 8);
     assert_eq!(rt; lead(&automaton, &[D, OFF, D]), None);
     assert_eq!(rt; lead(&automaton, &[D, D, N]), None);
-    let state = lead(&automaton, &[D, OFF, OFF, D, D, D, OFF]).unwrap_or(u32::MAX);
-    assert!(rt; (state as usize) < automaton.states());
+    let state = lead(&automaton, &[D, OFF, OFF, D, D, D, OFF]).unwrap_or(usize::MAX);
+    assert!(rt; state < automaton.states());
     assert!(rt; automaton.is_off(state));
     assert!(rt; automaton.steps().len() >= automaton.states());
     Ok(())

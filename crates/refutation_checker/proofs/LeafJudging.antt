@@ -1,6 +1,6 @@
 -- Leaves of words, judged apart from their log.
-use Rattle.std.proofs.Common.{◌≡◌, ◌∙◌, ap, ℕ, Option, None, subst, IsTrue, true, false, refl, arith, List, ◌<◌, Bool}
-use Rattle.std.specs.Prelude.{◌↔◌, MatchOption, IfOk, Result}
+use Rattle.std.proofs.Common.{◌≡◌, ◌∙◌, ap, ℕ, Option, None, subst, IsTrue, true, false, refl, arith, List, ◌<◌, Bool, sym}
+use Rattle.std.specs.Prelude.{◌↔◌, MatchOption, IfOk, Result, Ok, Err}
 use Rattle.std.specs.declared.alloc.AllocError.{AllocError}
 use Rattle.rwsp_terms.specs.declared.data.Symbol.{Symbol}
 use Rattle.rwsp_terms.specs.Instance.{Instance, cells}
@@ -9,16 +9,16 @@ use Rattle.refutation_terms.specs.declared.lines.Line.TheVariants.{Split, Closin
 use Rattle.refutation_terms.specs.declared.lines.Leaf.TheVariants.{Words}
 use Rattle.refutation_terms.specs.declared.lines.WordClaim.{WordClaim}
 use Rattle.refutation_terms.specs.declared.lines.WordClaim.TheVariants.{Dead, Light}
+use Rattle.refutation_terms.specs.WordsLeaf.{IsDead, WordsHold}
 use Rattle.refutation_terms.specs.Word.{Domains, AreSame}
-use Rattle.rwsp_terms.specs.Rules.{NamesShortOnly}
 use Rattle.refutation_terms.specs.declared.lines.Opening.TheVariants.{Full}
-use Rattle.refutation_terms.specs.Log.{LineFits, GoalFits, Holds, ListsShortOnly}
+use Rattle.refutation_terms.specs.Log.{LineFits, GoalFits, Holds}
 use Rattle.refutation_terms.specs.Verdict.{Escapes}
 use Rattle.refutation_terms.proofs.Causes.{escaped_not_holding}
 use Rattle.refutation_terms.proofs.SameDomains.{same_holds, turned_round}
 use Rattle.domain_store.specs.Store.{Store, IsStore, BelongsTo, HasDomains, has_domain}
 use Rattle.domain_store.proofs.Idle.{positions_of}
-use Rattle.refutation_checker.specs.LineVerdicts.{HasList, HasNoList, HoldsByWords}
+use Rattle.refutation_checker.specs.LineVerdicts.{HasList, HoldsByWords}
 use Rattle.refutation_checker.specs.LineTexts.{MayStep}
 use Rattle.refutation_checker.proofs.LineJudging.{may_step}
 
@@ -51,15 +51,6 @@ passed_by P goal counts E S line some now tests belongs same fits h = tt
 
 -- the list of a line
 
-pub its_short_rules : (P : Instance) (line : Line) (list : List ℕ) → HasList line list → ListsShortOnly P line → NamesShortOnly P list
-its_short_rules P (Closing (Words p R claim)) list has short = subst (NamesShortOnly P) has short
-its_short_rules P line list has short = absurd has
-
--- nothing is said by words of a line without one
-pub without_list : (P : Instance) (goal : Option ℕ) (D : Domains) (line : Line) → HasNoList line → HoldsByWords P goal D line
-without_list P goal D (Closing (Words p R claim)) none = absurd none
-without_list P goal D line none = tt
-
 -- a search for a word that escapes the line has found one, or the line holds
 abbrev pub IsAnswered : Instance → Option ℕ → Domains → Line → Result (Option (List Symbol)) AllocError → Type 0
 IsAnswered P goal D line answer =
@@ -70,3 +61,8 @@ pub with_list : (line : Line) (list R : List ℕ) (p : ℕ) (claim : WordClaim) 
 with_list line list R p claim is has =
     let same : R ≡ list = subst (λ (l : Line). HasList l list) is has in
     is ∙ ap (λ R. Closing (Words p R claim)) same
+
+-- a dead leaf that was judged in some other way
+pub dead_holds : (P : Instance) (D : Domains) (p len : ℕ) (R : List ℕ) (claim : WordClaim) (answer : Result Bool AllocError) → claim ≡ Dead len → IfOk answer (λ dead. IsTrue dead → IsDead P D p len R) → IfOk answer (λ dead. IsTrue dead → (goal : Option ℕ) → WordsHold P goal D p R claim)
+dead_holds P D p len R claim (Ok told) is dead = λ yes goal. subst (λ (k : WordClaim). WordsHold P goal D p R k) (sym is) (dead yes)
+dead_holds P D p len R claim (Err e) is dead = tt

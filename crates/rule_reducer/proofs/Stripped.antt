@@ -1,7 +1,7 @@
 -- When a log that passes still passes without one rule.
-use Rattle.std.proofs.Common.{◌≡◌, ◌≢◌, ℕ, ◌<◌, ◌≤◌, List, [], ◌∷◌, length, take, get_or, refl, ap, sym, ◌∙◌, subst, inl, inr, ⊎_elim, Some, Option, Bool, IsTrue, true, false, cond, not, ◌==◌}
-use Rattle.std.specs.Prelude.{All, Contains, ◌↔◌, slice_get, MatchBool}
-use Rattle.std.proofs.lemmas.Bool.Decides.{eqb_tells}
+use Rattle.std.proofs.Common.{◌≡◌, ◌≢◌, ℕ, ◌<◌, ◌≤◌, List, [], ◌∷◌, length, take, get_or, refl, ap, sym, ◌∙◌, subst, inl, inr, Some, Option, Bool, true, false, cond, not, ◌==◌}
+use Rattle.std.specs.Prelude.{All, Contains, slice_get, MatchBool}
+use Rattle.std.proofs.lemmas.Bool.{ne_eqb}
 use Rattle.std.proofs.lemmas.List.{take_all, get_or_default}
 use Rattle.std.proofs.lemmas.List.Elements.{All-filter, All-head, All-tail, All-weaker, filter_passes}
 use Rattle.rwsp_terms.specs.declared.data.Weight.{Weight}
@@ -25,20 +25,13 @@ use Rattle.refutation_terms.specs.Strip.{without_rule, without_day, strip_claim,
 use Rattle.refutation_log.proofs.CitedRules.{weight_of_entry, entry_of_weight, read_at}
 use Rattle.rule_reducer.specs.Citing.{is_plain, OneCites, CitesForGood}
 use Rattle.rule_reducer.specs.Without.{HoldsWithout}
-use Rattle.rule_reducer.proofs.Kept.{was_listed, still_listed, kept_first}
+use Rattle.rule_reducer.proofs.Kept.{was_listed, still_listed, kept_first, passed_other}
 use Rattle.rule_reducer.proofs.Strips.{tree_stays, domains_stay, line_after, line_before, fits_still}
 
 -- weights
 
 abbrev off_day : ℕ → Weight → Bool
 off_day j e = not (e.day == j)
-
-is_off : (j d : ℕ) → not (d == j) ≡ true → d ≢ j
-is_off j d e same =
-    ⊎_elim
-    (λ (q : ((d == j) ≡ true) × (d ≡ j)). let no : false ≡ true = ap not (sym q.0) ∙ e in cc)
-    (λ (q : ((d == j) ≡ false) × (d ≢ j)). q.1 same)
-    (eqb_tells d j)
 
 entry_weighs : (y : List Weight) (m : ℕ) (e : Weight) → AreWeights y → m < length y → get_or y m e ≡ e → HasWeight y e.day
 entry_weighs y m e are less is =
@@ -59,7 +52,7 @@ weight_left y j i are has =
     let weighs : HasWeight y e.day =
     subst (λ (w : Weight). HasWeight y w.day) at.1 (All-filter (off_day j) (λ (w : Weight). HasWeight y w.day) y (all_weigh y are) entry.0 e at.0) in
     let off : off_day j e ≡ true = subst (λ (w : Weight). off_day j w ≡ true) at.1 (filter_passes (off_day j) y entry.0 e at.0) in
-    (subst (HasWeight y) entry.4 weighs, subst (λ d. d ≢ j) entry.4 (is_off j e.day off))
+    (subst (HasWeight y) entry.4 weighs, subst (λ d. d ≢ j) entry.4 (passed_other j e.day off))
 
 -- where no weight is on the day, none is lost
 pub none_lost : (y : List Weight) (j : ℕ) → All (λ (e : Weight). e.day ≢ j) y → without_day (Some (TheRules.Day j)) y ≡ y
@@ -67,11 +60,8 @@ none_lost [] j all = refl
 none_lost (e ∷ y) j all =
     let rest = none_lost y j (All-tail (λ (w : Weight). w.day ≢ j) e y all) in
     let off : e.day ≢ j = All-head (λ (w : Weight). w.day ≢ j) e y all in
-    ⊎_elim
-    (λ (q : ((e.day == j) ≡ true) × (e.day ≡ j)). absurd (off q.1))
-    (λ (q : ((e.day == j) ≡ false) × (e.day ≢ j)).
-    ap (λ b. cond (not b) (e ∷ without_day (Some (TheRules.Day j)) y) (without_day (Some (TheRules.Day j)) y)) q.0 ∙ ap (λ w. e ∷ w) rest)
-    (eqb_tells e.day j)
+    ap (λ b. cond (not b) (e ∷ without_day (Some (TheRules.Day j)) y) (without_day (Some (TheRules.Day j)) y)) (ne_eqb e.day j off)
+    ∙ ap (λ w. e ∷ w) rest
 
 pub all_off : (day : ℕ) (items y : List Weight) (i : ℕ) → items ≡ y → length items ≤ i → All (λ (e : Weight). e.day ≢ day) (take i items) → All (λ (e : Weight). e.day ≢ day) y
 all_off day items y i same all off =
@@ -132,9 +122,6 @@ same_stripped P n goal counts line r is fits none = refl
 
 pub day_none_lost : (r : Rule) (y : List Weight) (j : ℕ) → r ≡ TheRules.Day j → All (λ (e : Weight). e.day ≢ j) y → without_day (Some r) y ≡ y
 day_none_lost r y j is none = subst (λ (z : Rule). without_day (Some z) y ≡ y) (sym is) (none_lost y j none)
-
-pub not_held : (b : Bool) (C : Type 0) → (IsTrue b ↔ C) → b ≡ false → C → ⊥
-not_held b C h e c = let yes : b ≡ true = h.1 c in cc
 
 pub same_light : (P : Instance) (n turns reward : ℕ) (y : List Weight) (r : Rule) (claim : WordClaim) → claim ≡ Light turns reward y → rule_of P n ≡ Some r → without_day (Some r) y ≡ y → strip_claim P n claim ≡ claim
 same_light P n turns reward y r claim e is same =
