@@ -1,346 +1,186 @@
--- What the states of the monitors of blocks say of words.
-use Rattle.std.proofs.Common.{◌≡◌, ◌⊎◌, ℕ, zero, suc, ◌+◌, ◌<◌, ◌≤◌, List, [], ◌∷◌, ◌++◌, length, Some, None, Bool, true, false, cond, refl, ap, sym, ◌∙◌, inl, inr, subst, append_assoc, length-append, append-nil, arith}
-use Rattle.std.specs.Prelude.{◌↔◌, All, Option, ◌==◌, ◌&&◌, nat_lt}
+-- What the states of the monitors of blocks say of words: how many days of the class they end with.
+use Rattle.std.proofs.Common.{◌≡◌, ℕ, zero, suc, ◌+◌, ◌<◌, ◌≤◌, List, [], ◌∷◌, ◌++◌, length, Bool, true, false, cond, refl, ap, sym, ◌∙◌, inl, inr, subst, arith}
+use Rattle.std.specs.Prelude.{◌↔◌, ◌&&◌, nat_lt, nat_le}
 use Rattle.std.specs.List.{AllByRecursion}
-use Rattle.std.proofs.lemmas.Bool.{cases_Bool, cases_lt, cases_order, cond-true, cond-false, ltb-true, ltb-false, lt-ltb, le-ltb, eqb-true, eqb-false, and_from, and_parts, and_left, and_right}
-use Rattle.std.proofs.lemmas.Option.{same_Some}
+use Rattle.std.proofs.lemmas.Bool.{cases_Bool, cases_lt, cond-true, cond-false, ltb-true, ltb-false, lt-ltb, le-ltb, leb-true, le-leb, eqb-true, eq-eqb}
 use Rattle.rwsp_terms.specs.declared.data.Symbol.{Symbol}
 use Rattle.rwsp_terms.specs.declared.data.Class.{Class}
 use Rattle.rwsp_terms.specs.declared.data.Class.TheVariants.{Shift, Off, Work}
 use Rattle.rwsp_terms.specs.declared.data.Rule.TheVariants as TheRules
 use Rattle.rwsp_terms.specs.Instance.{Instance, bounds, symbol_numbered}
-use Rattle.rwsp_terms.specs.Window.{InClass, TooLong, TooShort, HasNoBadPart}
+use Rattle.rwsp_terms.specs.Window.{Bad, InClass, TooLong, TooShort, HasNoBadPart}
 use Rattle.rwsp_terms.proofs.Elements.{all_from, all_to}
 use Rattle.clean_words.specs.declared.monitor.Monitor.TheVariants.{Most, Least}
-use Rattle.clean_words.specs.Blocks.{in_class, most_next, longer, least_next}
+use Rattle.clean_words.specs.Blocks.{in_class, longer}
 use Rattle.clean_words.specs.Monitors.{watched_least, Watches}
-use Rattle.clean_words.proofs.WordEnds.{front_same, last_same, ends, longer_end, each_front, each_end, each_push}
-use Rattle.clean_words.proofs.Watching.{EndsBadly, Tracks, watches}
+use Rattle.clean_words.proofs.WordEnds.{Kind, At, Then, Thens, EndsWith, ends_as, ends_at, ends_none, ends_then, thens_to, thens_from, both_hold}
+use Rattle.clean_words.proofs.Watching.{Tracks, watches}
 
 -- the test of a class
-inside_from : (c : Class) (x : Symbol) → in_class c x ≡ true → InClass c x
-inside_from (Shift y) x e = ap symbol_numbered (eqb-true x.number y.number e)
-inside_from Off x e = eqb-true x.number 0 e
-inside_from Work x e = ltb-true 0 x.number e
+class_is : (c : Class) (x : Symbol) → (in_class c x ≡ true) ↔ InClass c x
+class_is (Shift y) x = (λ e. ap symbol_numbered (eqb-true x.number y.number e), λ e. eq-eqb x.number y.number (ap (λ (z : Symbol). z.number) e))
+class_is Off x = (λ e. eqb-true x.number 0 e, λ e. eq-eqb x.number 0 e)
+class_is Work x = (λ e. ltb-true 0 x.number e, λ h. lt-ltb 0 x.number h)
 
-outside_from : (c : Class) (x : Symbol) → in_class c x ≡ false → InClass c x → ⊥
-outside_from (Shift y) x e same = eqb-false x.number y.number e (ap (λ (z : Symbol). z.number) same)
-outside_from Off x e same = eqb-false x.number 0 e same
-outside_from Work x e some = let none = ltb-false 0 x.number e in omega (arith, none, some)
+abbrev Outside : Class → Symbol → Type 0
+Outside c x = InClass c x → ⊥
 
--- blocks that are too long
+-- words of so many days of the class, and those behind a day outside
+abbrev Days : Class → ℕ → Kind
+Days c = Thens (At (λ q. Unit {0})) (InClass c)
 
--- the last block of the class in a word has so many days
-record HasBlock (c : Class) (greatest s : ℕ) (w : List Symbol) : Type 0 where
-  front : List Symbol
-  block : List Symbol
-  whole : w ≡ front ++ block
-  within : AllByRecursion (InClass c) block
-  long : length block ≡ s
-  few : s ≤ greatest
-  outside : (f : List Symbol) (y : Symbol) → front ≡ f ++ y ∷ [] → InClass c y → ⊥
+abbrev Behind : Class → ℕ → Kind
+Behind c = Thens (Then (At (λ q. Unit {0})) (Outside c)) (InClass c)
 
-block_none : (c : Class) (greatest : ℕ) → HasBlock c greatest 0 []
-block_none c greatest = record {
-  front = [];
-  block = [];
-  whole = refl;
-  within = tt;
-  long = refl;
-  few = omega arith;
-  outside = λ f y e h. omega (arith, ap length e, length-append f (y ∷ []));
-}
+-- blocks that are too long: a state is as many days of the class as the word ends with
 
-block_longer : (c : Class) (greatest s : ℕ) (w : List Symbol) (x : Symbol) → HasBlock c greatest s w → InClass c x → s < greatest → HasBlock c greatest (s + 1) (w ++ x ∷ [])
-block_longer c greatest s w x h inside less = record {
-  front = h.front;
-  block = h.block ++ x ∷ [];
-  whole = ap (λ v. v ++ x ∷ []) h.whole ∙ append_assoc h.front h.block (x ∷ []);
-  within = each_push (InClass c) h.block x h.within inside;
-  long = (let long = h.long in omega (arith, length-append h.block (x ∷ [])));
-  few = omega (arith, less);
-  outside = h.outside;
-}
-
-block_ended : (c : Class) (greatest : ℕ) (w : List Symbol) (x : Symbol) → (InClass c x → ⊥) → HasBlock c greatest 0 (w ++ x ∷ [])
-block_ended c greatest w x outside = record {
-  front = w ++ x ∷ [];
-  block = [];
-  whole = sym (append-nil (w ++ x ∷ []));
-  within = tt;
-  long = refl;
-  few = omega arith;
-  outside = λ f y e h. outside (subst (InClass c) (sym (last_same w f x y e)) h);
-}
-
--- a word with such a block doesn't end in one that is too long
-not_too_long : (c : Class) (greatest s : ℕ) (w before part : List Symbol) → HasBlock c greatest s w → w ≡ before ++ part → TooLong c greatest part → ⊥
-not_too_long c greatest s w before part h e bad =
-    let block_long = h.long in
-    let few = h.few in
-    let part_long = bad.long in
-    let end = longer_end h.front h.block before part (sym h.whole ∙ e) (omega arith) in
-    let each : AllByRecursion (InClass c) part = all_to (InClass c) part bad.within in
-    by_end end.0 end.1 end.2 each (ends end.0)
-  where
-    by_end : (mid : List Symbol) → part ≡ mid ++ h.block → h.front ≡ before ++ mid → AllByRecursion (InClass c) part → (mid ≡ []) ⊎ ((d : List Symbol) × (y : Symbol) × (mid ≡ d ++ y ∷ [])) → ⊥
-    by_end mid is front each (inl none) =
-        let block_long = h.long in
-        let few = h.few in
-        let part_long = bad.long in
-        omega (arith, ap length is, ap length none, length-append mid h.block)
-    by_end mid is front each (inr (d, y, last)) =
-        let at : part ≡ (d ++ y ∷ []) ++ h.block = is ∙ ap (λ m. m ++ h.block) last in
-        let inside : AllByRecursion (InClass c) (y ∷ []) = each_end (InClass c) d (y ∷ []) (each_front (InClass c) (d ++ y ∷ []) h.block (subst (AllByRecursion (InClass c)) at each)) in
-        h.outside (before ++ d) y (front ∙ ap (λ m. before ++ m) last ∙ sym (append_assoc before d (y ∷ []))) inside.0
-
--- a block that is as long as it may be is too long with one day more
-too_long : (P : Instance) (c : Class) (p s : ℕ) (w : List Symbol) (x : Symbol) → HasBlock c (bounds P c).greatest s w → InClass c x → (bounds P c).greatest ≤ s → EndsBadly P (TheRules.Most c) p (w ++ x ∷ [])
-too_long P c p s w x h inside full = (
-  h.front,
-  h.block ++ x ∷ [],
-  ap (λ v. v ++ x ∷ []) h.whole ∙ append_assoc h.front h.block (x ∷ []),
-  record {
-    long = (let long = h.long in let few = h.few in omega (arith, full, length-append h.block (x ∷ [])));
-    within = all_from (InClass c) (h.block ++ x ∷ []) (each_push (InClass c) h.block x h.within inside);
-  },
+too_long : (c : Class) (greatest p : ℕ) (u : List Symbol) → Days c (suc greatest) p u ↔ TooLong c greatest u
+too_long c g p u = (
+  λ h.
+      let k = thens_to (At (λ q. Unit {0})) (InClass c) (suc g) p u h in
+      let same : u ≡ k.1 = k.2 ∙ ap (λ f. f ++ k.1) k.3.0 in
+      record { long = omega (arith, ap length same, k.4); within = all_from (InClass c) u (subst (AllByRecursion (InClass c)) (sym same) k.5) },
+  λ bad. thens_from (At (λ q. Unit {0})) (InClass c) (suc g) p u ([], u, refl, (refl, tt), omega (arith, bad.long), all_to (InClass c) u bad.within),
 )
 
-most_tracks : (P : Instance) (c : Class) → Tracks P (TheRules.Most c) (Most c (bounds P c).greatest) (λ s p w. HasBlock c (bounds P c).greatest s w)
+abbrev HasAtMost : Class → ℕ → ℕ → List Symbol → Type 0
+HasAtMost c s p w = (n : ℕ) → EndsWith (Days c n) p w ↔ (n ≤ s)
+
+most_tracks : (P : Instance) (c : Class) → Tracks P (TheRules.Most c) (Most c (bounds P c).greatest) (λ s p w. HasAtMost c s p w)
 most_tracks P c = record {
-  begins = λ p. block_none c g;
-  goes = λ p s t w x h e. goes s t w x h e p (cases_Bool (in_class c x)) (cases_Bool (nat_lt s g));
-  stops = λ p s w x h e. stops p s w x h e (cases_Bool (in_class c x)) (cases_Bool (nat_lt s g));
+  begins = begins;
+  goes = λ p s w x tells n. goes p s w x tells n (in_class c x) (class_is c x);
+  stops = stops;
 }
   where
-    g : ℕ
-    g = (bounds P c).greatest
+    begins : (p n : ℕ) → EndsWith (Days c n) p [] ↔ (n ≤ 0)
+    begins p zero = (λ h. omega arith, λ h. (ends_at (λ q. Unit {0}) p []).1 tt)
+    begins p (suc n) = (λ h. absurd (ends_none (Days c n) (InClass c) p h), λ h. absurd (omega (arith, h)))
 
-    ok : (s p : ℕ) (w : List Symbol) → HasBlock c g s w → EndsBadly P (TheRules.Most c) p w → ⊥
-    ok s p w h ends = not_too_long c g s w ends.0 ends.1 h ends.2 ends.3
+    goes : (p s : ℕ) (w : List Symbol) (x : Symbol) → HasAtMost c s p w → (n : ℕ) (b : Bool) → (b ≡ true) ↔ InClass c x → EndsWith (Days c n) p (w ++ x ∷ []) ↔ (n ≤ cond b (s + 1) 0)
+    goes p s w x tells zero b is = (λ h. omega arith, λ h. (ends_at (λ q. Unit {0}) p (w ++ x ∷ [])).1 tt)
+    goes p s w x tells (suc n) true is =
+        let step = ends_then (Days c n) (InClass c) p w x in
+        (λ h. let low = (tells n).0 (step.0 h).0 in omega (arith, low), λ h. step.1 ((tells n).1 (omega (arith, h)), is.0 refl))
+    goes p s w x tells (suc n) false is =
+        let step = ends_then (Days c n) (InClass c) p w x in
+        (λ h. let fails : false ≡ true = is.1 (step.0 h).1 in absurd (cc), λ h. absurd (omega (arith, h)))
 
-    within : (s : ℕ) (x : Symbol) → in_class c x ≡ true → most_next c g s x ≡ cond (nat_lt s g) (Some (s + 1)) None
-    within s x holds = cond-true (in_class c x) (cond (nat_lt s g) (Some (s + 1)) None) (Some 0) holds
-
-    goes : (s t : ℕ) (w : List Symbol) (x : Symbol) → HasBlock c g s w → most_next c g s x ≡ Some t → (p : ℕ) → (in_class c x ≡ true) ⊎ (in_class c x ≡ false) → (nat_lt s g ≡ true) ⊎ (nat_lt s g ≡ false) → HasBlock c g t (w ++ x ∷ []) × (EndsBadly P (TheRules.Most c) p (w ++ x ∷ []) → ⊥)
-    goes s t w x h e p (inl holds) (inl less) =
-        let to : s + 1 ≡ t = same_Some (s + 1) t (sym (within s x holds ∙ cond-true (nat_lt s g) (Some (s + 1)) None less) ∙ e) in
-        let more = block_longer c g s w x h (inside_from c x holds) (ltb-true s g less) in
-        subst (λ n. HasBlock c g n (w ++ x ∷ []) × (EndsBadly P (TheRules.Most c) p (w ++ x ∷ []) → ⊥)) to (more, ok (s + 1) p (w ++ x ∷ []) more)
-    goes s t w x h e p (inl holds) (inr full) =
-        let none : most_next c g s x ≡ None = within s x holds ∙ cond-false (nat_lt s g) (Some (s + 1)) None full in
-        absurd (cc)
-    goes s t w x h e p (inr fails) less =
-        let to : 0 ≡ t = same_Some 0 t (sym (cond-false (in_class c x) (cond (nat_lt s g) (Some (s + 1)) None) (Some 0) fails) ∙ e) in
-        let ended = block_ended c g w x (outside_from c x fails) in
-        subst (λ n. HasBlock c g n (w ++ x ∷ []) × (EndsBadly P (TheRules.Most c) p (w ++ x ∷ []) → ⊥)) to (ended, ok 0 p (w ++ x ∷ []) ended)
-
-    stops : (p s : ℕ) (w : List Symbol) (x : Symbol) → HasBlock c g s w → most_next c g s x ≡ None → (in_class c x ≡ true) ⊎ (in_class c x ≡ false) → (nat_lt s g ≡ true) ⊎ (nat_lt s g ≡ false) → EndsBadly P (TheRules.Most c) p (w ++ x ∷ [])
-    stops p s w x h e (inl holds) (inr full) = too_long P c p s w x h (inside_from c x holds) (ltb-false s g full)
-    stops p s w x h e (inl holds) (inl less) =
-        let some : most_next c g s x ≡ Some (s + 1) = within s x holds ∙ cond-true (nat_lt s g) (Some (s + 1)) None less in
-        absurd (cc)
-    stops p s w x h e (inr fails) less =
-        let some : most_next c g s x ≡ Some 0 = cond-false (in_class c x) (cond (nat_lt s g) (Some (s + 1)) None) (Some 0) fails in
-        absurd (cc)
+    stops : (p s : ℕ) (w : List Symbol) (x : Symbol) → HasAtMost c s p w → ((in_class c x && nat_le (bounds P c).greatest s) ≡ true) ↔ EndsWith (Bad P (TheRules.Most c)) p (w ++ x ∷ [])
+    stops p s w x tells =
+        let g = (bounds P c).greatest in
+        let both = both_hold (in_class c x) (nat_le g s) (class_is c x) (λ e. leb-true g s e, λ h. le-leb g s h) in
+        let step = ends_then (Days c g) (InClass c) p w x in
+        let long = ends_as (Days c (suc g)) (λ q u. TooLong c g u) (too_long c g) p (w ++ x ∷ []) in (
+          λ e. let h = both.0 e in long.0 (step.1 ((tells g).1 h.1, h.0)),
+          λ h. let k = step.0 (long.1 h) in both.1 (k.1, (tells g).0 k.0),
+        )
 
 pub most_watches : (P : Instance) (c : Class) (greatest : ℕ) → greatest ≡ (bounds P c).greatest → Watches (HasNoBadPart P (TheRules.Most c)) (Most c greatest)
 most_watches P c greatest is =
     subst (λ n. Watches (HasNoBadPart P (TheRules.Most c)) (Most c n)) (sym is)
-    (watches P (TheRules.Most c) (Most c (bounds P c).greatest) (λ s p w. HasBlock c (bounds P c).greatest s w) (most_tracks P c))
+    (watches P (TheRules.Most c) (Most c (bounds P c).greatest) (λ s p w. HasAtMost c s p w) (most_tracks P c))
 
--- blocks that are too short
+-- blocks that are too short: a state below the least is as many days as the word ends with behind a day outside
 
--- the last block of the class in a word has a day outside before it, and so many days or at least the least
-record IsBehind (c : Class) (least s : ℕ) (w : List Symbol) : Type 0 where
-  front : List Symbol
-  before : Symbol
-  block : List Symbol
-  whole : w ≡ front ++ before ∷ block
-  outside : InClass c before → ⊥
-  within : AllByRecursion (InClass c) block
-  few : s ≤ least
-  low : s < least → length block ≡ s
-  high : least ≤ s → least ≤ length block
-
--- or the word is one block, which may have begun before it
-abbrev IsKnown : Class → ℕ → ℕ → List Symbol → Type 0
-IsKnown c least s w = IsBehind c least s w ⊎ (AllByRecursion (InClass c) w × (s ≡ least))
-
-longer_low : (s least : ℕ) → s < least → longer s least ≡ s + 1
-longer_low s least less = cond-true (nat_lt s least) (s + 1) s (lt-ltb s least less)
-
-longer_high : (s least : ℕ) → least ≤ s → longer s least ≡ s
-longer_high s least more = cond-false (nat_lt s least) (s + 1) s (le-ltb s least more)
-
-behind_longer : (c : Class) (least s : ℕ) (w : List Symbol) (x : Symbol) → IsBehind c least s w → InClass c x → IsBehind c least (longer s least) (w ++ x ∷ [])
-behind_longer c least s w x h inside = by_order (cases_lt s least)
-  where
-    whole : w ++ x ∷ [] ≡ h.front ++ h.before ∷ (h.block ++ x ∷ [])
-    whole = ap (λ v. v ++ x ∷ []) h.whole ∙ append_assoc h.front (h.before ∷ h.block) (x ∷ [])
-
-    with_state : (t : ℕ) → longer s least ≡ t → t ≤ least → (t < least → length h.block + 1 ≡ t) → (least ≤ t → least ≤ length h.block + 1) → IsBehind c least (longer s least) (w ++ x ∷ [])
-    with_state t is few low high = subst (λ n. IsBehind c least n (w ++ x ∷ [])) (sym is) (record {
-      front = h.front;
-      before = h.before;
-      block = h.block ++ x ∷ [];
-      whole = whole;
-      outside = h.outside;
-      within = each_push (InClass c) h.block x h.within inside;
-      few = few;
-      low = λ less. omega (arith, low less, length-append h.block (x ∷ []));
-      high = λ more. omega (arith, high more, length-append h.block (x ∷ []));
-    })
-
-    by_order : (s < least) ⊎ (least ≤ s) → IsBehind c least (longer s least) (w ++ x ∷ [])
-    by_order (inl less) = with_state (s + 1) (longer_low s least less) (omega (arith, less)) (λ more. omega (arith, h.low less)) (λ more. omega (arith, more, h.low less))
-    by_order (inr more) = with_state s (longer_high s least more) h.few (λ less. absurd (omega (arith, less, more))) (λ again. omega (arith, h.high more))
-
-known_longer : (c : Class) (least s : ℕ) (w : List Symbol) (x : Symbol) → IsKnown c least s w → InClass c x → IsKnown c least (longer s least) (w ++ x ∷ [])
-known_longer c least s w x (inl h) inside = inl (behind_longer c least s w x h inside)
-known_longer c least s w x (inr (each, full)) inside = inr (each_push (InClass c) w x each inside, longer_high s least (omega (arith, full)) ∙ full)
-
-behind_ended : (c : Class) (least : ℕ) (w : List Symbol) (x : Symbol) → (InClass c x → ⊥) → IsBehind c least 0 (w ++ x ∷ [])
-behind_ended c least w x outside = record {
-  front = w;
-  before = x;
-  block = [];
-  whole = refl;
-  outside = outside;
-  within = tt;
-  few = omega arith;
-  low = λ less. refl;
-  high = λ none. omega (arith, none);
-}
-
--- two blocks at the end of a word, each behind a day outside, are one
-not_shorter : (c : Class) (front block before blk : List Symbol) (y b : Symbol) → front ++ y ∷ block ≡ before ++ b ∷ blk → (InClass c b → ⊥) → AllByRecursion (InClass c) block → length blk < length block → ⊥
-not_shorter c front block before blk y b e outside each less =
-    let whole : before ++ b ∷ blk ≡ (front ++ y ∷ []) ++ block = sym e ∙ sym (append_assoc front (y ∷ []) block) in
-    let end = longer_end before (b ∷ blk) (front ++ y ∷ []) block whole (omega (arith, less)) in
-    let inside = each_end (InClass c) end.0 (b ∷ blk) (subst (AllByRecursion (InClass c)) end.1 each) in
-    outside inside.0
-
-same_blocks : (c : Class) (front block before blk : List Symbol) (y b : Symbol) → front ++ y ∷ block ≡ before ++ b ∷ blk → (InClass c y → ⊥) → (InClass c b → ⊥) → AllByRecursion (InClass c) block → AllByRecursion (InClass c) blk → length block ≡ length blk
-same_blocks c front block before blk y b e out_y out_b each other =
-    elim (cases_order (length block) (length blk)) [
-      | inl same ↦ same
-      | inr differ ↦ elim differ [
-        | inl less ↦ absurd (not_shorter c before blk front block b y (sym e) out_y other less)
-        | inr more ↦ absurd (not_shorter c front block before blk y b e out_b each more)
-      ]
-    ]
-
--- the block that a symbol outside ends in a word that breaks the rule
-record IsEnded (c : Class) (L : ℕ) (w : List Symbol) (x : Symbol) : Type 0 where
-  front : List Symbol
-  before : Symbol
-  block : List Symbol
-  whole : w ≡ front ++ before ∷ block
-  starts : InClass c before → ⊥
-  within : AllByRecursion (InClass c) block
-  ends : InClass c x → ⊥
-  some : 0 < length block
-  few : length block < L
-
-ended_by : (c : Class) (L : ℕ) (w : List Symbol) (x : Symbol) (front part : List Symbol) → w ++ x ∷ [] ≡ front ++ part → TooShort c L part → IsEnded c L w x
-ended_by c L w x front part e bad =
-    let whole : w ++ x ∷ [] ≡ (front ++ bad.before ∷ bad.block) ++ bad.after ∷ [] =
-    e ∙ ap (λ v. front ++ v) bad.whole ∙ sym (append_assoc front (bad.before ∷ bad.block) (bad.after ∷ [])) in
+short_from : (c : Class) (L n p : ℕ) (u : List Symbol) → 0 < n → n < L → Then (Behind c n) (Outside c) p u → TooShort c L u
+short_from c L n p u some few h =
+    let k = thens_to (Then (At (λ q. Unit {0})) (Outside c)) (InClass c) n p h.0 h.3 in
+    let front = k.3 in
     record {
-      front = front;
-      before = bad.before;
-      block = bad.block;
-      whole = front_same w (front ++ bad.before ∷ bad.block) x bad.after whole;
-      starts = bad.starts;
-      within = all_to (InClass c) bad.block bad.within;
-      ends = λ h. bad.ends (subst (InClass c) (last_same w (front ++ bad.before ∷ bad.block) x bad.after whole) h);
-      some = bad.some;
-      few = bad.few;
+      before = front.1;
+      block = k.1;
+      after = h.1;
+      whole = h.2 ∙ ap (λ v. v ++ h.1 ∷ []) (k.2 ∙ ap (λ f. f ++ k.1) (front.2 ∙ ap (λ v. v ++ front.1 ∷ []) front.3.0));
+      starts = front.4;
+      within = all_from (InClass c) k.1 k.5;
+      ends = h.4;
+      some = omega (arith, some, k.4);
+      few = omega (arith, few, k.4);
     }
+
+short_to : (c : Class) (L p : ℕ) (u : List Symbol) → (bad : TooShort c L u) → Then (Behind c (length bad.block)) (Outside c) p u
+short_to c L p u bad = (
+  bad.before ∷ bad.block,
+  bad.after,
+  bad.whole,
+  thens_from (Then (At (λ q. Unit {0})) (Outside c)) (InClass c) (length bad.block) p (bad.before ∷ bad.block)
+      (bad.before ∷ [], bad.block, refl, ([], bad.before, refl, (refl, tt), bad.starts), refl, all_to (InClass c) bad.block bad.within),
+  bad.ends,
+)
 
 -- lengths that are too short for the one bound are so for the other
 abbrev AreAlike : ℕ → ℕ → Type 0
 AreAlike least L = (n : ℕ) → 0 < n → (n < least) ↔ (n < L)
 
-not_too_short : (c : Class) (least L s : ℕ) (w : List Symbol) (x : Symbol) → AreAlike least L → IsKnown c least s w → (0 < s → least ≤ s) → IsEnded c L w x → ⊥
-not_too_short c least L s w x alike (inl h) long bad =
-    let same : length h.block ≡ length bad.block = same_blocks c h.front h.block bad.front bad.block h.before bad.before (sym h.whole ∙ bad.whole) h.outside bad.starts h.within bad.within in
-    let less : length bad.block < least = (alike (length bad.block) bad.some).1 bad.few in
-    by_order less same (cases_lt s least)
-  where
-    by_order : length bad.block < least → length h.block ≡ length bad.block → (s < least) ⊎ (least ≤ s) → ⊥
-    by_order less same (inl low) = let some = bad.some in let enough = long (omega (arith, same, h.low low)) in omega (arith, low, enough)
-    by_order less same (inr high) = omega (arith, less, same, h.high high)
-not_too_short c least L s w x alike (inr (each, full)) long bad =
-    let inside = each_end (InClass c) bad.front (bad.before ∷ bad.block) (subst (AllByRecursion (InClass c)) bad.whole each) in
-    bad.starts inside.0
+abbrev HasBehind : Class → ℕ → ℕ → ℕ → List Symbol → Type 0
+HasBehind c least s p w = (n : ℕ) → n < least → EndsWith (Behind c n) p w ↔ (s ≡ n)
 
-too_short : (P : Instance) (c : Class) (least p s : ℕ) (w : List Symbol) (x : Symbol) → AreAlike least (bounds P c).least → IsKnown c least s w → (InClass c x → ⊥) → 0 < s → s < least → EndsBadly P (TheRules.Least c) p (w ++ x ∷ [])
-too_short P c least p s w x alike (inr (each, full)) outside some less = absurd (omega (arith, full, less))
-too_short P c least p s w x alike (inl h) outside some less =
-    let long = h.low less in (
-      h.front,
-      h.before ∷ h.block ++ x ∷ [],
-      ap (λ v. v ++ x ∷ []) h.whole ∙ append_assoc h.front (h.before ∷ h.block) (x ∷ []),
-      record {
-        before = h.before;
-        block = h.block;
-        after = x;
-        whole = refl;
-        starts = h.outside;
-        within = all_from (InClass c) h.block h.within;
-        ends = outside;
-        some = omega (arith, some);
-        few = (alike (length h.block) (omega (arith, some))).0 (omega (arith, less));
-      },
-    )
-
-least_tracks : (P : Instance) (c : Class) (least : ℕ) → AreAlike least (bounds P c).least → Tracks P (TheRules.Least c) (Least c least) (λ s p w. IsKnown c least s w)
+least_tracks : (P : Instance) (c : Class) (least : ℕ) → AreAlike least (bounds P c).least → Tracks P (TheRules.Least c) (Least c least) (λ s p w. HasBehind c least s p w)
 least_tracks P c least alike = record {
-  begins = λ p. inr (tt, refl);
-  goes = λ p s t w x h e. goes p s t w x h e (cases_Bool (in_class c x)) (cases_Bool (nat_lt 0 s && nat_lt s least));
-  stops = λ p s w x h e. stops p s w x h e (cases_Bool (in_class c x)) (cases_Bool (nat_lt 0 s && nat_lt s least));
+  begins = begins;
+  goes = λ p s w x tells n less. goes p s w x tells n less (in_class c x) (class_is c x);
+  stops = λ p s w x tells. stops p s w x tells (in_class c x) (class_is c x);
 }
   where
-    L : ℕ
-    L = (bounds P c).least
+    begins : (p n : ℕ) → n < least → EndsWith (Behind c n) p [] ↔ (least ≡ n)
+    begins p zero less = (λ h. absurd (ends_none (At (λ q. Unit {0})) (Outside c) p h), λ e. absurd (omega (arith, e, less)))
+    begins p (suc n) less = (λ h. absurd (ends_none (Behind c n) (InClass c) p h), λ e. absurd (omega (arith, e, less)))
 
-    inside : (s : ℕ) (x : Symbol) → in_class c x ≡ true → least_next c least s x ≡ Some (longer s least)
-    inside s x holds = cond-true (in_class c x) (Some (longer s least)) (cond (nat_lt 0 s && nat_lt s least) None (Some 0)) holds
-
-    outside : (s : ℕ) (x : Symbol) → in_class c x ≡ false → least_next c least s x ≡ cond (nat_lt 0 s && nat_lt s least) None (Some 0)
-    outside s x fails = cond-false (in_class c x) (Some (longer s least)) (cond (nat_lt 0 s && nat_lt s least) None (Some 0)) fails
-
-    long_enough : (s : ℕ) → (nat_lt 0 s && nat_lt s least) ≡ false → 0 < s → least ≤ s
-    long_enough s fails some = elim (cases_lt s least) [
-      | inl less ↦ let holds = and_from (nat_lt 0 s) (nat_lt s least) (lt-ltb 0 s some) (lt-ltb s least less) in absurd (cc)
-      | inr more ↦ more
+    -- one day more, counted up to the least length
+    grows : (s n : ℕ) → suc n < least → (s ≡ n) ↔ (longer s least ≡ suc n)
+    grows s n less = elim (cases_lt s least) [
+      | inl low ↦ let e : longer s least ≡ s + 1 = cond-true (nat_lt s least) (s + 1) s (lt-ltb s least low) in (λ h. omega (arith, e, h), λ h. omega (arith, e, h))
+      | inr high ↦ let e : longer s least ≡ s = cond-false (nat_lt s least) (s + 1) s (le-ltb s least high) in (λ h. absurd (omega (arith, h, high, less)), λ h. absurd (omega (arith, e, h, high, less)))
     ]
 
-    goes : (p s t : ℕ) (w : List Symbol) (x : Symbol) → IsKnown c least s w → least_next c least s x ≡ Some t → (in_class c x ≡ true) ⊎ (in_class c x ≡ false) → ((nat_lt 0 s && nat_lt s least) ≡ true) ⊎ ((nat_lt 0 s && nat_lt s least) ≡ false) → IsKnown c least t (w ++ x ∷ []) × (EndsBadly P (TheRules.Least c) p (w ++ x ∷ []) → ⊥)
-    goes p s t w x h e (inl holds) short =
-        let to : longer s least ≡ t = same_Some (longer s least) t (sym (inside s x holds) ∙ e) in (
-          subst (λ n. IsKnown c least n (w ++ x ∷ [])) to (known_longer c least s w x h (inside_from c x holds)),
-          λ bad. (ended_by c L w x bad.0 bad.1 bad.2 bad.3).ends (inside_from c x holds),
-        )
-    goes p s t w x h e (inr fails) (inl short) =
-        let none : least_next c least s x ≡ None = outside s x fails ∙ cond-true (nat_lt 0 s && nat_lt s least) None (Some 0) short in
-        absurd (cc)
-    goes p s t w x h e (inr fails) (inr enough) =
-        let to : 0 ≡ t = same_Some 0 t (sym (outside s x fails ∙ cond-false (nat_lt 0 s && nat_lt s least) None (Some 0) enough) ∙ e) in (
-          subst (λ n. IsKnown c least n (w ++ x ∷ [])) to (inl (behind_ended c least w x (outside_from c x fails))),
-          λ bad. not_too_short c least L s w x alike h (long_enough s enough) (ended_by c L w x bad.0 bad.1 bad.2 bad.3),
-        )
+    some_more : (s : ℕ) → 0 < least → 0 < longer s least
+    some_more s some = elim (cases_lt s least) [
+      | inl low ↦ let e : longer s least ≡ s + 1 = cond-true (nat_lt s least) (s + 1) s (lt-ltb s least low) in omega (arith, e)
+      | inr high ↦ let e : longer s least ≡ s = cond-false (nat_lt s least) (s + 1) s (le-ltb s least high) in omega (arith, e, high, some)
+    ]
 
-    stops : (p s : ℕ) (w : List Symbol) (x : Symbol) → IsKnown c least s w → least_next c least s x ≡ None → (in_class c x ≡ true) ⊎ (in_class c x ≡ false) → ((nat_lt 0 s && nat_lt s least) ≡ true) ⊎ ((nat_lt 0 s && nat_lt s least) ≡ false) → EndsBadly P (TheRules.Least c) p (w ++ x ∷ [])
-    stops p s w x h e (inl holds) short = let some = inside s x holds in absurd (cc)
-    stops p s w x h e (inr fails) (inr enough) =
-        let some : least_next c least s x ≡ Some 0 = outside s x fails ∙ cond-false (nat_lt 0 s && nat_lt s least) None (Some 0) enough in
-        absurd (cc)
-    stops p s w x h e (inr fails) (inl short) =
-        let both = and_parts (nat_lt 0 s) (nat_lt s least) short in
-        too_short P c least p s w x alike h (outside_from c x fails) (ltb-true 0 s both.0) (ltb-true s least both.1)
+    goes : (p s : ℕ) (w : List Symbol) (x : Symbol) → HasBehind c least s p w → (n : ℕ) → n < least → (b : Bool) → (b ≡ true) ↔ InClass c x → EndsWith (Behind c n) p (w ++ x ∷ []) ↔ (cond b (longer s least) 0 ≡ n)
+    goes p s w x tells zero less b is = by_class b is
+      where
+        by_class : (b : Bool) → (b ≡ true) ↔ InClass c x → EndsWith (Behind c 0) p (w ++ x ∷ []) ↔ (cond b (longer s least) 0 ≡ 0)
+        by_class true is = (λ h. absurd (((ends_then (At (λ q. Unit {0})) (Outside c) p w x).0 h).1 (is.0 refl)), λ e. absurd (omega (arith, e, some_more s (omega (arith, less)))))
+        by_class false is = (
+          λ h. refl,
+          λ e. (ends_then (At (λ q. Unit {0})) (Outside c) p w x).1 ((ends_at (λ q. Unit {0}) p w).1 tt, λ h. let fails : false ≡ true = is.1 h in absurd (cc)),
+        )
+    goes p s w x tells (suc n) less b is = by_class b is
+      where
+        by_class : (b : Bool) → (b ≡ true) ↔ InClass c x → EndsWith (Behind c (suc n)) p (w ++ x ∷ []) ↔ (cond b (longer s least) 0 ≡ suc n)
+        by_class true is =
+            let step = ends_then (Behind c n) (InClass c) p w x in
+            let before = tells n (omega (arith, less)) in
+            (λ h. (grows s n less).0 (before.0 (step.0 h).0), λ e. step.1 (before.1 ((grows s n less).1 e), is.0 refl))
+        by_class false is = (λ h. let fails : false ≡ true = is.1 ((ends_then (Behind c n) (InClass c) p w x).0 h).1 in absurd (cc), λ e. absurd (omega (arith, e)))
+
+    stops : (p s : ℕ) (w : List Symbol) (x : Symbol) → HasBehind c least s p w → (b : Bool) → (b ≡ true) ↔ InClass c x → (cond b false (nat_lt 0 s && nat_lt s least) ≡ true) ↔ EndsWith (Bad P (TheRules.Least c)) p (w ++ x ∷ [])
+    stops p s w x tells true is = (λ e. let fails : false ≡ true = e in absurd (cc), λ h. absurd ((bad_end h).1 (is.0 refl)))
+      where
+        bad_end : (h : EndsWith (Bad P (TheRules.Least c)) p (w ++ x ∷ [])) → EndsWith (Behind c (length h.3.block)) p w × Outside c x
+        bad_end h = (ends_then (Behind c (length h.3.block)) (Outside c) p w x).0 (h.0, h.1, h.2, short_to c (bounds P c).least (p + length h.0) h.1 h.3)
+    stops p s w x tells false is = (
+      λ e.
+          let low = both.0 e in
+          let h = (ends_then (Behind c s) (Outside c) p w x).1 ((tells s low.1).1 refl, outside) in
+          (h.0, h.1, h.2, short_from c (bounds P c).least s (p + length h.0) h.1 low.0 ((alike s low.0).0 low.1) h.3),
+      λ h.
+          let n = length h.3.block in
+          let low = (alike n h.3.some).1 h.3.few in
+          let end = (ends_then (Behind c n) (Outside c) p w x).0 (h.0, h.1, h.2, short_to c (bounds P c).least (p + length h.0) h.1 h.3) in
+          let same : s ≡ n = (tells n low).0 end.0 in
+          both.1 (omega (arith, same, h.3.some), omega (arith, same, low)),
+    )
+      where
+        outside : Outside c x
+        outside h = let fails : false ≡ true = is.1 h in absurd (cc)
+
+        both : ((nat_lt 0 s && nat_lt s least) ≡ true) ↔ ((0 < s) × (s < least))
+        both = both_hold (nat_lt 0 s) (nat_lt s least) (λ e. ltb-true 0 s e, λ h. lt-ltb 0 s h) (λ e. ltb-true s least e, λ h. lt-ltb s least h)
 
 watched_alike : (L : ℕ) → AreAlike (watched_least L) L
 watched_alike L n some = elim (cases_Bool (nat_lt 1 L)) [
@@ -354,5 +194,5 @@ watched_alike L n some = elim (cases_Bool (nat_lt 1 L)) [
 pub least_watches : (P : Instance) (c : Class) (least : ℕ) → least ≡ watched_least (bounds P c).least → Watches (HasNoBadPart P (TheRules.Least c)) (Least c least)
 least_watches P c least is =
     subst (λ n. Watches (HasNoBadPart P (TheRules.Least c)) (Least c n)) (sym is)
-    (watches P (TheRules.Least c) (Least c (watched_least (bounds P c).least)) (λ s p w. IsKnown c (watched_least (bounds P c).least) s w)
+    (watches P (TheRules.Least c) (Least c (watched_least (bounds P c).least)) (λ s p w. HasBehind c (watched_least (bounds P c).least) s p w)
     (least_tracks P c (watched_least (bounds P c).least) (watched_alike (bounds P c).least)))

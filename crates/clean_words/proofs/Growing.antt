@@ -1,14 +1,13 @@
 -- The states of two tables together, as they come to be known.
-use Rattle.std.proofs.Common.{◌≡◌, ◌⊎◌, ℕ, zero, suc, ◌+◌, ◌<◌, ◌≤◌, List, [], ◌∷◌, ◌++◌, length, get_or, set, replicate, Option, Some, None, refl, ap, sym, ◌∙◌, subst, inl, inr, arith, append_assoc, length-append}
+use Rattle.std.proofs.Common.{◌≡◌, ◌⊎◌, ℕ, zero, suc, ◌+◌, ◌<◌, List, [], ◌∷◌, ◌++◌, length, get_or, set, replicate, Option, Some, None, refl, ap, sym, ◌∙◌, subst, inl, inr, arith, append_assoc, length-append}
 use Rattle.std.specs.Prelude.{slice_index}
 use Rattle.std.proofs.Math.Nat.{eq-or-lt_of_le}
 use Rattle.std.proofs.lemmas.Bool.{cases_eq}
 use Rattle.std.proofs.lemmas.List.{append-nil, get_or_append_left, get_or_default, get_or_push, get_or-set_same, get_or-set_other, length_push}
 use Rattle.clean_words.specs.declared.joint.Both.{Both}
 use Rattle.clean_words.specs.declared.table.Table.{Table}
-use Rattle.clean_words.specs.declared.table.TheConstants.{MOST_STATES}
-use Rattle.clean_words.specs.Moves.{Moves, move_at}
-use Rattle.clean_words.specs.Joint.{StandsAt, Extends, Judges, IsRow, AreStates, AreStarts, BeginsAt, no_pair}
+use Rattle.clean_words.specs.Moves.{Moves}
+use Rattle.clean_words.specs.Joint.{StandsAt, Extends, Judges, IsRow, AreStates, AreStarts, BeginsAt}
 
 pub stands_here : {X : Type 0} (xs : List X) (k : ℕ) (d : X) → k < length xs → StandsAt xs k (get_or xs k d)
 stands_here xs k d lt = (lt, get_or_default xs k (get_or xs k d) d lt)
@@ -85,17 +84,15 @@ row_more a b pairs more pair number row to within grows new r = record { known =
         let less : x < number = omega (arith, lt, other) in
         subst (Judges a b more pair x) (sym read) (judges_on a b pairs more pair x (get_or row x None) grows (r.judges x less))
 
-pub states_first : (a b : Table) (symbols : ℕ) (pairs : List Both) (moves : Moves) → length pairs ≤ MOST_STATES → length moves ≡ 0 → AreStates a b symbols pairs moves
-states_first a b symbols pairs moves few none = record {
-  few = few;
+pub states_first : (a b : Table) (symbols : ℕ) (pairs : List Both) (moves : Moves) → length moves ≡ 0 → AreStates a b symbols pairs moves
+states_first a b symbols pairs moves none = record {
   done = omega (arith, none);
   rows = λ k pair lt. absurd (omega (arith, lt, none));
 }
 
 -- the row of one state more
-pub states_more : (a b : Table) (symbols : ℕ) (pairs more : List Both) (moves : Moves) (pair : Both) (row : List (Option ℕ)) → AreStates a b symbols pairs moves → StandsAt pairs (length moves) pair → Extends pairs more → length more ≤ MOST_STATES → IsRow a b more pair symbols row → AreStates a b symbols more (moves ++ row ∷ [])
-states_more a b symbols pairs more moves pair row s here grows few new = record {
-  few = few;
+pub states_more : (a b : Table) (symbols : ℕ) (pairs more : List Both) (moves : Moves) (pair : Both) (row : List (Option ℕ)) → AreStates a b symbols pairs moves → StandsAt pairs (length moves) pair → Extends pairs more → IsRow a b more pair symbols row → AreStates a b symbols more (moves ++ row ∷ [])
+states_more a b symbols pairs more moves pair row s here grows new = record {
   done = (let lt : length moves < length more = longer_than pairs more (length moves) grows here.0 in omega (arith, lt, length_push moves row));
   rows = λ k t lt at. rows k t at (eq-or-lt_of_le {n = k} {m = length moves} (omega (arith, lt, length_push moves row)));
 }

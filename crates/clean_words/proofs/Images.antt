@@ -1,5 +1,5 @@
 -- Tables of classes.
-use Rattle.std.proofs.Common.{◌≡◌, ◌⊎◌, ℕ, zero, suc, ◌+◌, ◌%◌, ◌<◌, ◌≤◌, List, [], ◌∷◌, length, get_or, map, Option, Some, None, Bool, false, true, eqb, Decides, refl, ap, sym, ◌∙◌, inl, inr, arith}
+use Rattle.std.proofs.Common.{◌≡◌, ◌⊎◌, ℕ, zero, suc, ◌+◌, ◌%◌, ◌<◌, ◌≤◌, List, [], ◌∷◌, length, get_or, map, Option, Some, None, Bool, true, eqb, Decides, refl, ap, sym, ◌∙◌, inl, inr, arith}
 use Rattle.std.specs.Prelude.{slice_index}
 use Rattle.std.specs.Option.{option_map, option_eq}
 use Rattle.std.specs.Cmp.Lexicographic.{pointwise}
@@ -59,12 +59,11 @@ start_image classes starts p some =
 pub record IsImage (table small : Table) (classes : List ℕ) : Type 0 where
   starts : small.starts.items ≡ map (slice_index classes) table.starts.items
   long : length small.told.items ≡ length small.moves.items
-  few : length small.moves.items ≤ length table.moves.items
   states : HasStates classes (length table.moves.items) (length small.moves.items)
   kept : AreKept table small classes
 
-pub image_by_parts : (table small : Table) (classes : List ℕ) → small.starts.items ≡ map (slice_index classes) table.starts.items → length small.told.items ≡ length small.moves.items → length small.moves.items ≤ length table.moves.items → HasStates classes (length table.moves.items) (length small.moves.items) → ((k : ℕ) → k < length table.moves.items → IsKept table small classes k) → IsImage table small classes
-image_by_parts table small classes starts long few states kept = record { starts = starts; long = long; few = few; states = states; kept = kept }
+pub image_by_parts : (table small : Table) (classes : List ℕ) → small.starts.items ≡ map (slice_index classes) table.starts.items → length small.told.items ≡ length small.moves.items → HasStates classes (length table.moves.items) (length small.moves.items) → ((k : ℕ) → k < length table.moves.items → IsKept table small classes k) → IsImage table small classes
+image_by_parts table small classes starts long states kept = record { starts = starts; long = long; states = states; kept = kept }
 
 -- it tells of each word what the table tells
 tells_as : (P : Instance) (table small : Table) (classes : List ℕ) → 0 < P.days → IsTable P table → IsImage table small classes → TellsAs table small
@@ -83,7 +82,6 @@ tells_as P table small classes days is image p w =
 image_is_table : (P : Instance) (table small : Table) (classes : List ℕ) → 0 < P.days → IsTable P table → IsImage table small classes → IsTable P small
 image_is_table P table small classes days is image = record {
   days = ap length image.starts ∙ length-map table.starts.items (slice_index classes) ∙ is.days;
-  few = (let few = is.few in let fewer = image.few in omega (arith, few, fewer));
   long = image.long;
   begins = λ p.
       let some : 0 < length table.starts.items = let long = is.days in omega (arith, long, days) in

@@ -1,5 +1,5 @@
 -- The states of two tables together go along the words along which both go.
-use Rattle.std.proofs.Common.{◌≡◌, ◌⊎◌, ℕ, zero, suc, ◌+◌, ◌%◌, ◌<◌, ◌≤◌, List, [], ◌∷◌, length, get_or, map, Option, Some, None, refl, ap, sym, ◌∙◌, subst, inl, inr, arith}
+use Rattle.std.proofs.Common.{◌≡◌, ℕ, ◌+◌, ◌%◌, ◌<◌, ◌≤◌, List, [], ◌∷◌, length, get_or, map, Option, Some, None, refl, ap, sym, ◌∙◌, subst, inl, inr, arith}
 use Rattle.std.specs.Prelude.{slice_index}
 use Rattle.std.specs.Option.{option_map}
 use Rattle.std.proofs.Math.Nat.{mod-eq_of_lt}
@@ -10,12 +10,12 @@ use Rattle.rwsp_terms.specs.declared.data.Symbol.{Symbol}
 use Rattle.rwsp_terms.specs.Instance.{Instance, shift_count}
 use Rattle.clean_words.specs.declared.joint.Both.{Both}
 use Rattle.clean_words.specs.declared.table.Table.{Table}
-use Rattle.clean_words.specs.Moves.{Moves, move_at, after, lead, start_at}
+use Rattle.clean_words.specs.Moves.{Moves, move_at, lead, start_at}
 use Rattle.clean_words.specs.Joint.{StandsAt, Judges, IsRow, AreStates, AreStarts, no_pair}
 use Rattle.clean_words.specs.Tables.{IsTable, GoesWithBoth, told_after}
-use Rattle.clean_words.proofs.Leading.{lead_nowhere, lead_inside, moves_from}
+use Rattle.clean_words.proofs.Leading.{lead_nowhere, moves_from}
 use Rattle.clean_words.proofs.Images.{mapped_from}
-use Rattle.clean_words.proofs.Growing.{stands_here, stands_once}
+use Rattle.clean_words.proofs.Growing.{stands_here}
 
 -- all states have their moves
 pub record AreAll (a b : Table) (symbols : ℕ) (pairs : List Both) (moves : Moves) : Type 0 where
@@ -132,7 +132,6 @@ module _ (P : Instance) (a b t : Table) (symbols : ℕ) (pairs : List Both) (all
   joint_is_table : IsTable P t
   joint_is_table = record {
     days = begins.long ∙ is_a.days;
-    few = (let few = all.states.few in let long = all.long in omega (arith, few, long));
     long = ap length told ∙ length-map pairs (λ (c : Both). slice_index a.told.items c.first) ∙ sym all.long;
     begins = λ p. let at = start_pair p in let long = all.long in omega (arith, at.0, long);
     inside = inside;

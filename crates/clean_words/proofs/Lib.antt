@@ -13,6 +13,7 @@ pub mod BlockWords
 pub mod SequenceWords
 pub mod MonitorTables
 pub mod RuleMonitors
+pub mod CleanByRules
 pub mod Growing
 pub mod Joining
 pub mod Readers

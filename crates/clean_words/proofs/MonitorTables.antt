@@ -1,10 +1,10 @@
 -- The table of a monitor goes along words as the monitor does.
-use Rattle.std.proofs.Common.{◌≡◌, ◌⊎◌, ℕ, zero, suc, ◌+◌, ◌*◌, ◌/◌, ◌%◌, ◌<◌, ◌≤◌, List, [], ◌∷◌, ◌++◌, length, get_or, set, replicate, Option, Some, None, Bool, true, false, cond, refl, ap, sym, ◌∙◌, inl, inr, subst, arith}
-use Rattle.std.specs.Prelude.{slice_index, nat_lt, ◌==◌, ◌&&◌}
+use Rattle.std.proofs.Common.{◌≡◌, ◌⊎◌, ℕ, suc, ◌+◌, ◌*◌, ◌/◌, ◌%◌, ◌<◌, ◌≤◌, List, [], ◌∷◌, ◌++◌, length, get_or, set, replicate, Option, Some, None, Bool, true, false, cond, refl, ap, sym, ◌∙◌, inl, inr, subst, arith}
+use Rattle.std.specs.Prelude.{slice_index, nat_le, nat_lt, ◌==◌, ◌&&◌}
 use Rattle.std.specs.Option.{option_map}
 use Rattle.std.proofs.Math.Nat.{mod-add-mod, eq-or-lt_of_le}
-use Rattle.std.proofs.lemmas.Nat.{mod_below, div-mul-add, mod-mul-add, mul-add-lt, mul-le, div_below}
-use Rattle.std.proofs.lemmas.Bool.{cases_Bool, cases_order, cond-true, cond-false, ltb-true, lt-ltb, le-ltb}
+use Rattle.std.proofs.lemmas.Nat.{mod_below, div-mul-add, mod-mul-add, mul-add-lt}
+use Rattle.std.proofs.lemmas.Bool.{cases_Bool, cases_lt, cases_order, cond-true, cond-false, ltb-true, lt-ltb, le-ltb, le-leb}
 use Rattle.std.proofs.lemmas.List.{get_or_append_left, get_or_push, get_or-set_same, get_or-set_other}
 use Rattle.std.proofs.lemmas.Option.{same_Some}
 use Rattle.rwsp_terms.specs.declared.data.Symbol.{Symbol}
@@ -16,16 +16,14 @@ use Rattle.clean_words.specs.declared.monitor.Monitor.TheVariants.{Last, Most, L
 use Rattle.clean_words.specs.declared.last.Told.{Told}
 use Rattle.clean_words.specs.declared.last.Told.TheVariants.{DayOff, LastSymbol}
 use Rattle.clean_words.specs.declared.table.Table.{Table}
-use Rattle.clean_words.specs.declared.table.TheConstants.{MOST_STATES}
 use Rattle.clean_words.specs.Blocks.{in_class, longer}
-use Rattle.clean_words.specs.Sequences.{is_on_day, has_one, has_two, stops_by, never_next}
+use Rattle.clean_words.specs.Sequences.{is_on_day, has_one, never_to}
 use Rattle.clean_words.specs.Moves.{Moves, move_at, lead, start_at}
 use Rattle.clean_words.specs.Automata.{HasSymbolsOf}
-use Rattle.clean_words.specs.Tables.{IsTable, told_after}
-use Rattle.clean_words.specs.Monitors.{IsSound, HasWeek, Fits, size_of, period_by, period_of, first_of, next_of, told_of, label, run, state_behind, state_on, entry, all_states, IsLaidOut, IsTableOf}
+use Rattle.clean_words.specs.Tables.{IsTable}
+use Rattle.clean_words.specs.Monitors.{IsSound, HasWeek, size_of, period_by, period_of, first_of, stops_of, to_of, next_of, told_of, label, run, state_behind, state_on, entry, all_states, IsLaidOut, IsTableOf}
 use Rattle.clean_words.proofs.Leading.{lead_nowhere, moves_from}
 use Rattle.clean_words.proofs.Images.{mapped_from}
-use Rattle.clean_words.proofs.Watching.{run_nowhere}
 use Rattle.clean_words.proofs.Growing.{no_move}
 
 -- lists, as far as they have come
@@ -89,16 +87,6 @@ period_week P (Most c greatest) week = inl refl
 period_week P (Least c least) week = inl refl
 period_week P (Never q days) week = subst (λ n. (period_by q.day days ≡ 1) ⊎ (period_by q.day days ≡ n)) week (period_by_week q.day days)
 
-pub few_states : (m : Monitor) → IsSound m → all_states m ≤ MOST_STATES
-few_states (Last told) sound = omega arith
-few_states (Most c greatest) sound = omega (arith, sound)
-few_states (Least c least) sound = omega (arith, sound)
-few_states (Never q days) sound = by_day q.day
-  where
-    by_day : (day : Option ℕ) → period_by day days * 4 ≤ MOST_STATES
-    by_day None = omega arith
-    by_day (Some day) = omega (arith, sound.1)
-
 -- the first state is one, and each step leads to one
 
 pub first_inside : (m : Monitor) → first_of m < size_of m
@@ -118,50 +106,46 @@ flag_few : (b : Bool) (n : ℕ) → cond b n 0 ≤ n
 flag_few true n = omega arith
 flag_few false n = omega arith
 
--- an optional number that is one of two is below what both are below
-below_cond : (b : Bool) (o u : Option ℕ) (n t : ℕ) → ((s : ℕ) → o ≡ Some s → s < n) → ((s : ℕ) → u ≡ Some s → s < n) → cond b o u ≡ Some t → t < n
-below_cond true o u n t f g e = f t e
-below_cond false o u n t f g e = g t e
-
 below_some : (k n t : ℕ) → k < n → Some k ≡ Some t → t < n
 below_some k n t less e = let same = same_Some k t e in omega (arith, less, same)
 
-below_none : (n t : ℕ) → None ≡ Some t → t < n
-below_none n t e = absurd (cc)
+to_inside : (m : Monitor) (p s : ℕ) (x : Symbol) → s < size_of m → x.number < MOST_SYMBOLS → stops_of m s x ≡ false → to_of m p s x < size_of m
+to_inside (Last told) p s x inside symbol goes = label_few told x symbol
+to_inside (Most c greatest) p s x inside symbol goes = by_class (in_class c x) (nat_le greatest s) (λ h. le-leb greatest s h) goes
+  where
+    by_class : (b full : Bool) → (greatest ≤ s → full ≡ true) → (b && full) ≡ false → cond b (s + 1) 0 < greatest + 1
+    by_class false full is goes = omega arith
+    by_class true full is goes = elim (cases_lt s greatest) [ inl less ↦ omega (arith, less) | inr more ↦ let holds = is more in absurd (cc) ]
+to_inside (Least c least) p s x inside symbol goes = by_class (in_class c x)
+  where
+    by_class : (b : Bool) → cond b (longer s least) 0 < least + 1
+    by_class false = omega arith
+    by_class true = elim (cases_Bool (nat_lt s least)) [
+      | inl less ↦ let same : longer s least ≡ s + 1 = cond-true (nat_lt s least) (s + 1) s less in omega (arith, same, ltb-true s least less)
+      | inr full ↦ let same : longer s least ≡ s = cond-false (nat_lt s least) (s + 1) s full in omega (arith, same, inside)
+    ]
+to_inside (Never q days) p s x inside symbol goes = omega (arith, flag_few (is_on_day q.day days p && (x.number == q.first.number)) 1, flag_few (has_one s && (x.number == q.second.number)) 2)
 
 next_inside : (m : Monitor) (p s t : ℕ) (x : Symbol) → s < size_of m → x.number < MOST_SYMBOLS → next_of m p s x ≡ Some t → t < size_of m
-next_inside (Last told) p s t x inside symbol e = below_some (label told x) (MOST_SYMBOLS + 1) t (label_few told x symbol) e
-next_inside (Most c greatest) p s t x inside symbol e =
-    below_cond (in_class c x) (cond (nat_lt s greatest) (Some (s + 1)) None) (Some 0) (greatest + 1) t
-    (λ n f. within n f (cases_Bool (nat_lt s greatest))) (λ n f. below_some 0 (greatest + 1) n (omega arith) f) e
+next_inside m p s t x inside symbol e = by_stop (stops_of m s x) (λ goes. to_inside m p s x inside symbol goes) e
   where
-    within : (n : ℕ) → cond (nat_lt s greatest) (Some (s + 1)) None ≡ Some n → (nat_lt s greatest ≡ true) ⊎ (nat_lt s greatest ≡ false) → n < greatest + 1
-    within n f (inl less) = let low = ltb-true s greatest less in below_some (s + 1) (greatest + 1) n (omega (arith, low)) (sym (cond-true (nat_lt s greatest) (Some (s + 1)) None less) ∙ f)
-    within n f (inr full) = below_none (greatest + 1) n (sym (cond-false (nat_lt s greatest) (Some (s + 1)) None full) ∙ f)
-next_inside (Least c least) p s t x inside symbol e =
-    below_cond (in_class c x) (Some (longer s least)) (cond (nat_lt 0 s && nat_lt s least) None (Some 0)) (least + 1) t
-    (λ n f. below_some (longer s least) (least + 1) n (few (cases_Bool (nat_lt s least))) f)
-    (λ n f. below_cond (nat_lt 0 s && nat_lt s least) None (Some 0) (least + 1) n (λ k g. below_none (least + 1) k g) (λ k g. below_some 0 (least + 1) k (omega arith) g) f) e
-  where
-    few : (nat_lt s least ≡ true) ⊎ (nat_lt s least ≡ false) → longer s least < least + 1
-    few (inl less) = let same : longer s least ≡ s + 1 = cond-true (nat_lt s least) (s + 1) s less in let low = ltb-true s least less in omega (arith, same, low)
-    few (inr full) = let same : longer s least ≡ s = cond-false (nat_lt s least) (s + 1) s full in omega (arith, same, inside)
-next_inside (Never q days) p s t x inside symbol e =
-    let one = is_on_day q.day days p && (x.number == q.first.number) in
-    let two = has_one s && (x.number == q.second.number) in
-    below_cond (stops_by q.third q.second (has_one s) (has_two s) x) None (Some (cond one 1 0 + cond two 2 0)) 4 t (λ n f. below_none 4 n f)
-    (λ n f. below_some (cond one 1 0 + cond two 2 0) 4 n (omega (arith, flag_few one 1, flag_few two 2)) f) e
+    by_stop : (b : Bool) → (b ≡ false → to_of m p s x < size_of m) → cond b None (Some (to_of m p s x)) ≡ Some t → t < size_of m
+    by_stop true below e = absurd (cc)
+    by_stop false below e = below_some (to_of m p s x) (size_of m) t (below refl) e
 
 -- the steps are the same again after the period
 day_again : (day : Option ℕ) (days p : ℕ) → is_on_day day days (p % period_by day days) ≡ is_on_day day days p
 day_again None days p = refl
 day_again (Some day) days p = ap (λ n. n + 1 == day) (mod-mod p days)
 
+to_again : (m : Monitor) (p s : ℕ) (x : Symbol) → to_of m (p % period_of m) s x ≡ to_of m p s x
+to_again (Last told) p s x = refl
+to_again (Most c greatest) p s x = refl
+to_again (Least c least) p s x = refl
+to_again (Never q days) p s x = ap (λ here. never_to q here s x) (day_again q.day days p)
+
 next_again : (m : Monitor) (p s : ℕ) (x : Symbol) → next_of m (p % period_of m) s x ≡ next_of m p s x
-next_again (Last told) p s x = refl
-next_again (Most c greatest) p s x = refl
-next_again (Least c least) p s x = refl
-next_again (Never q days) p s x = ap (λ here. never_next q here s x) (day_again q.day days p)
+next_again m p s x = ap (λ t. cond (stops_of m s x) None (Some t)) (to_again m p s x)
 
 -- states on days
 
@@ -201,26 +185,26 @@ module _ (P : Instance) (m : Monitor) (t : Table) (sound : IsSound m) (few : shi
       ∙ cond-true (nat_lt x.number (shift_count P + 1)) (entry m (state_on m p s) x.number) None (lt-ltb x.number (shift_count P + 1) (omega (arith, known)))
       ∙ entry_on m p s x inside
 
-  lead_by : (p s : ℕ) (x : Symbol) (w : List Symbol) → s < size_of m → x.number ≤ shift_count P → ((n : ℕ) → n < size_of m → lead t.moves.items (Some (state_on m (p + 1) n)) w ≡ option_map (state_on m (p + 1 + length w)) (run (next_of m) (p + 1) (Some n) w)) → (o : Option ℕ) → next_of m p s x ≡ o → lead t.moves.items (option_map (state_on m (p + 1)) o) w ≡ option_map (state_on m (p + 1 + length w)) (run (next_of m) (p + 1) o w)
-  lead_by p s x w inside known rest None is = lead_nowhere t.moves.items w ∙ sym (ap (option_map (state_on m (p + 1 + length w))) (run_nowhere (next_of m) (p + 1) w))
-  lead_by p s x w inside known rest (Some n) is = rest n (next_inside m p s n x inside (omega (arith, known, few)) is)
-
-  lead_as : (w : List Symbol) (p s : ℕ) → s < size_of m → HasSymbolsOf P w → lead t.moves.items (Some (state_on m p s)) w ≡ option_map (state_on m (p + length w)) (run (next_of m) p (Some s) w)
+  lead_as : (w : List Symbol) (p s : ℕ) → s < size_of m → HasSymbolsOf P w → lead t.moves.items (Some (state_on m p s)) w ≡ option_map (state_on m (p + length w)) (run m p s w)
   lead_as [] p s inside known = let none : p ≡ p + 0 = omega arith in ap (λ q. Some (state_on m q s)) none
   lead_as (x ∷ w) p s inside known =
-      let later : p + 1 + length w ≡ p + suc (length w) = omega arith in
       ap (λ o. lead t.moves.items o w) (moved p s x inside known.0)
-      ∙ lead_by p s x w inside known.0 (λ n below. lead_as w (p + 1) n below known.1) (next_of m p s x) refl
-      ∙ ap (λ q. option_map (state_on m q) (run (next_of m) (p + 1) (next_of m p s x) w)) later
+      ∙ by_stop (stops_of m s x) (λ goes. lead_as w (p + 1) (to_of m p s x) (to_inside m p s x inside (omega (arith, known.0, few)) goes) known.1)
+    where
+      by_stop : (b : Bool) → (b ≡ false → lead t.moves.items (Some (state_on m (p + 1) (to_of m p s x))) w ≡ option_map (state_on m (p + 1 + length w)) (run m (p + 1) (to_of m p s x) w))
+          → lead t.moves.items (option_map (state_on m (p + 1)) (cond b None (Some (to_of m p s x)))) w ≡ option_map (state_on m (p + suc (length w))) (cond b None (run m (p + 1) (to_of m p s x) w))
+      by_stop true rest = lead_nowhere t.moves.items w
+      by_stop false rest =
+          let later : p + 1 + length w ≡ p + suc (length w) = omega arith in
+          rest refl ∙ ap (λ q. option_map (state_on m q) (run m (p + 1) (to_of m p s x) w)) later
 
-  run_by : (p : ℕ) (w : List Symbol) (n : ℕ) (o : Option ℕ) → ((s : ℕ) → s < size_of m → run (next_of m) p (Some s) w ≡ Some n → n < size_of m) → ((s : ℕ) → o ≡ Some s → s < size_of m) → run (next_of m) p o w ≡ Some n → n < size_of m
-  run_by p w n None rest inside e = let none = run_nowhere (next_of m) p w in absurd (cc)
-  run_by p w n (Some s) rest inside e = rest s (inside s refl) e
-
-  run_inside : (w : List Symbol) (p s n : ℕ) → s < size_of m → HasSymbolsOf P w → run (next_of m) p (Some s) w ≡ Some n → n < size_of m
+  run_inside : (w : List Symbol) (p s n : ℕ) → s < size_of m → HasSymbolsOf P w → run m p s w ≡ Some n → n < size_of m
   run_inside [] p s n inside known e = below_some s (size_of m) n inside e
-  run_inside (x ∷ w) p s n inside known e =
-      run_by (p + 1) w n (next_of m p s x) (λ k below f. run_inside w (p + 1) k n below known.1 f) (λ k f. next_inside m p s k x inside (omega (arith, known.0, few)) f) e
+  run_inside (x ∷ w) p s n inside known e = by_stop (stops_of m s x) (λ goes g. run_inside w (p + 1) (to_of m p s x) n (to_inside m p s x inside (omega (arith, known.0, few)) goes) known.1 g) e
+    where
+      by_stop : (b : Bool) → (b ≡ false → run m (p + 1) (to_of m p s x) w ≡ Some n → n < size_of m) → cond b None (run m (p + 1) (to_of m p s x) w) ≡ Some n → n < size_of m
+      by_stop true rest e = absurd (cc)
+      by_stop false rest e = rest refl e
 
   -- what the states tell
   told_on : (p s : ℕ) → s < size_of m → slice_index t.told.items (state_on m p s) ≡ told_of m s
@@ -246,7 +230,6 @@ module _ (P : Instance) (m : Monitor) (t : Table) (sound : IsSound m) (few : shi
   is_table : HasWeek P m → 0 < P.days → IsTable P t
   is_table week days = record {
     days = laid.days;
-    few = omega (arith, laid.long, few_states m sound);
     long = laid.told ∙ sym laid.long;
     begins = λ p. let less = on_inside m p (first_of m) sound (first_inside m) in omega (arith, begins week days p, less, laid.long);
     inside = inside;

@@ -60,8 +60,6 @@ automaton_there : (P : Instance) (m : ℕ) (R starts : List ℕ) (moves : Moves)
 automaton_there P m R starts moves offs steps a = record {
   days = a.days;
   some = a.some;
-  few = a.few;
-  few_steps = a.few_steps;
   offs = a.offs;
   begins = a.begins;
   first = a.first;

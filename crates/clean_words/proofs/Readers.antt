@@ -1,5 +1,5 @@
 -- Tables that read the words that are clean for lists, and the automaton of one.
-use Rattle.std.proofs.Common.{◌≡◌, ◌⊎◌, ℕ, zero, suc, ◌+◌, ◌*◌, ◌<◌, ◌≤◌, List, [], ◌∷◌, length, get_or, map, drop, Option, Some, None, Bool, false, refl, ap, sym, ◌∙◌, subst, inl, inr, arith}
+use Rattle.std.proofs.Common.{◌≡◌, ℕ, zero, suc, ◌+◌, ◌<◌, ◌≤◌, List, [], ◌∷◌, length, get_or, map, drop, Option, Some, None, Bool, false, refl, ap, sym, ◌∙◌, subst, inl, inr, arith}
 use Rattle.std.specs.Prelude.{◌↔◌, ◌==◌, AllPairs, Contains, IfOk, Result, Ok, Err, slice_get, slice_index}
 use Rattle.std.specs.Option.{option_map}
 use Rattle.std.proofs.lemmas.Bool.{cases_Bool, cond-true, cond-false}
@@ -7,10 +7,8 @@ use Rattle.std.proofs.lemmas.Bool.Decides.{nat_tests}
 use Rattle.std.proofs.lemmas.List.{get_or-map, length-map, drop_more, drop_all}
 use Rattle.std.proofs.lemmas.Option.{same_Some, slice_get_within, get_or_from_slice_get}
 use Rattle.rwsp_terms.specs.declared.data.Symbol.{Symbol}
-use Rattle.rwsp_terms.specs.declared.data.Rule.{Rule}
-use Rattle.rwsp_terms.specs.declared.limits.TheConstants.{MOST_SYMBOLS}
 use Rattle.rwsp_terms.specs.Instance.{Instance, shift_count}
-use Rattle.rwsp_terms.specs.Rules.{Names, rule_of}
+use Rattle.rwsp_terms.specs.Rules.{rule_of}
 use Rattle.refutation_terms.specs.Word.{Clean}
 use Rattle.clean_words.specs.declared.last.Told.{Told}
 use Rattle.clean_words.specs.declared.last.Told.TheVariants.{DayOff, LastSymbol}
@@ -21,7 +19,7 @@ use Rattle.clean_words.specs.declared.table.Table.{Table}
 use Rattle.clean_words.specs.Moves.{Moves, move_at, lead, start_at, off_behind}
 use Rattle.clean_words.specs.Automata.{HasSymbolsOf, StepBefore, IsAutomaton}
 use Rattle.clean_words.specs.Tables.{IsTable, GoesWithBoth, IsReader, told_after}
-use Rattle.clean_words.specs.Monitors.{label, next_of, run, state_behind, told_of, Watches, Spares, IsTableOf}
+use Rattle.clean_words.specs.Monitors.{label, run, state_behind, told_of, Watches, Spares, IsTableOf}
 use Rattle.clean_words.proofs.Leading.{lead_nowhere, lead_inside}
 use Rattle.clean_words.proofs.Images.{mapped_from}
 
@@ -49,7 +47,7 @@ label_off DayOff x = elim (cases_Bool (x.number == 0)) [
 ]
 label_off LastSymbol x = grind (arith, nat_tests)
 
-run_last : (told : Told) (w : List Symbol) (p s : ℕ) → (n : ℕ) × (run (next_of (Last told)) p (Some s) w ≡ Some n) × ((n == 1) ≡ off_behind (s == 1) w)
+run_last : (told : Told) (w : List Symbol) (p s : ℕ) → (n : ℕ) × (run (Last told) p s w ≡ Some n) × ((n == 1) ≡ off_behind (s == 1) w)
 run_last told [] p s = (s, refl, refl)
 run_last told (x ∷ w) p s =
     let more = run_last told w (p + 1) (label told x) in
@@ -123,9 +121,9 @@ pub reader_none : (P : Instance) (R : List ℕ) (n : ℕ) (t : Table) → n ≡ 
 reader_none P R n t all reader = subst (λ (S : List ℕ). IsReader P S t) (sym (drop_all n R (omega (arith, all)))) reader
 
 -- a table and its steps make an automaton
-pub automaton_by : (P P' : Instance) (R R' : List ℕ) (t : Table) (told : List ℕ) (moves : Moves) (offs : List Bool) (steps : List Step) → P' ≡ P → R' ≡ R → IsReader P R t → told ≡ t.told.items → offs ≡ map (λ n. n == 1) told → moves ≡ t.moves.items → length steps ≤ MOST_SYMBOLS * length moves → AllPairs StepBefore steps
+pub automaton_by : (P P' : Instance) (R R' : List ℕ) (t : Table) (told : List ℕ) (moves : Moves) (offs : List Bool) (steps : List Step) → P' ≡ P → R' ≡ R → IsReader P R t → told ≡ t.told.items → offs ≡ map (λ n. n == 1) told → moves ≡ t.moves.items → AllPairs StepBefore steps
     → ((s : ℕ) (x : Symbol) (k : ℕ) → Contains steps (record { from = s; symbol = x; to = k }) ↔ (move_at moves s x.number ≡ Some k)) → IsAutomaton (record { problem = P'; rules = R'; starts = t.starts.items; moves = t.moves.items; offs = offs; steps = steps })
-automaton_by P P' R R' t told moves offs steps problem rules reader told_is offs_are moves_are few ordered stepped =
+automaton_by P P' R R' t told moves offs steps problem rules reader told_is offs_are moves_are ordered stepped =
     subst (λ (Q : Instance). IsAutomaton (record { problem = Q; rules = R'; starts = t.starts.items; moves = t.moves.items; offs = offs; steps = steps })) (sym problem)
     (subst (λ (S : List ℕ). IsAutomaton (record { problem = P; rules = S; starts = t.starts.items; moves = t.moves.items; offs = offs; steps = steps })) (sym rules) whole)
   where
@@ -144,8 +142,6 @@ automaton_by P P' R R' t told moves offs steps problem rules reader told_is offs
     whole = record {
       days = reader.table.days;
       some = (let begins = reader.table.begins 0 in omega (arith, begins));
-      few = (let states = reader.table.few in omega (arith, states));
-      few_steps = (let same = ap length moves_are in let states = reader.table.few in omega (arith, few, states, same));
       offs = ap length (offs_are ∙ ap (map (λ n. n == 1)) told_is) ∙ length-map t.told.items (λ n. n == 1) ∙ reader.table.long;
       begins = reader.table.begins;
       first = reader.first;

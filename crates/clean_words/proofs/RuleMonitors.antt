@@ -1,5 +1,5 @@
 -- Each kind of rule has what watches for it.
-use Rattle.std.proofs.Common.{◌≡◌, ℕ, zero, suc, ◌<◌, ◌≤◌, List, length, Option, Some, None, refl, ap, sym, ◌∙◌, subst, arith}
+use Rattle.std.proofs.Common.{◌≡◌, ℕ, ◌<◌, ◌≤◌, List, length, Option, Some, None, ap, sym, ◌∙◌, subst, arith}
 use Rattle.std.specs.Prelude.{◌↔◌, MatchOption, slice_get}
 use Rattle.std.proofs.lemmas.Option.{same_Some}
 use Rattle.rwsp_terms.specs.declared.data.Symbol.{Symbol}
@@ -8,7 +8,7 @@ use Rattle.rwsp_terms.specs.declared.data.Sequence.{Sequence}
 use Rattle.rwsp_terms.specs.declared.data.Rule.{Rule}
 use Rattle.rwsp_terms.specs.declared.data.Rule.TheVariants as TheRules
 use Rattle.rwsp_terms.specs.declared.limits.TheConstants.{GREATEST_BOUND, MOST_DAYS}
-use Rattle.rwsp_terms.specs.Instance.{Instance, bounds, sequences}
+use Rattle.rwsp_terms.specs.Instance.{Instance, bounds}
 use Rattle.rwsp_terms.specs.Rules.{rules, rule_of}
 use Rattle.rwsp_terms.specs.Window.{HasNoBadPart}
 use Rattle.rwsp_model.proofs.Numbering.{rule_in_range}
@@ -29,7 +29,7 @@ pub of_least : (P : Instance) (r : Rule) (c : Class) (least bound : ℕ) → r �
 of_least P r c least bound same is few watched less =
     ((omega (arith, few, less), tt), subst (λ (q : Rule). Watches (HasNoBadPart P q) (Least c least)) (sym same) (least_watches P c least (watched ∙ ap watched_least is)))
 
-pub of_never : (P : Instance) (r : Rule) (k : ℕ) (q : Sequence) (days : ℕ) → r ≡ TheRules.Never k → slice_get (sequences P) k ≡ Some q → days ≡ P.days → 1 ≤ days → days ≤ MOST_DAYS → IsOf P r (Never q days)
+pub of_never : (P : Instance) (r : Rule) (k : ℕ) (q : Sequence) (days : ℕ) → r ≡ TheRules.Never k → slice_get P.sequences k ≡ Some q → days ≡ P.days → 1 ≤ days → days ≤ MOST_DAYS → IsOf P r (Never q days)
 of_never P r k q days same is week some few =
     (((omega (arith, some), few), week), subst (λ (z : Rule). Watches (HasNoBadPart P z) (Never q days)) (sym same) (never_watches P k q days is week))
 

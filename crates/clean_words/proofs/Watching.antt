@@ -1,5 +1,5 @@
 -- A monitor whose states say what matters of a word goes on exactly along the words without bad parts.
-use Rattle.std.proofs.Common.{◌≡◌, ◌⊎◌, ℕ, zero, suc, ◌+◌, List, [], ◌∷◌, ◌++◌, length, Option, Some, None, refl, ap, sym, ◌∙◌, inl, inr, subst, append_assoc, length-append, append-nil, arith}
+use Rattle.std.proofs.Common.{◌≡◌, ◌⊎◌, ℕ, ◌+◌, List, [], ◌∷◌, ◌++◌, length, Some, None, Bool, true, false, cond, refl, ap, sym, ◌∙◌, inl, inr, subst, append_assoc, length-append, append-nil, arith}
 use Rattle.std.specs.Prelude.{◌↔◌}
 use Rattle.rwsp_terms.specs.declared.data.Symbol.{Symbol}
 use Rattle.rwsp_terms.specs.declared.data.Rule.{Rule}
@@ -9,8 +9,8 @@ use Rattle.rwsp_terms.specs.Window.{Bad, HasNoBadPart}
 use Rattle.refutation_terms.specs.Word.{Clean}
 use Rattle.refutation_terms.proofs.Windows.{no_bad-front}
 use Rattle.clean_words.specs.declared.monitor.Monitor.{Monitor}
-use Rattle.clean_words.specs.Monitors.{first_of, next_of, run, state_behind, Watches}
-use Rattle.clean_words.proofs.WordEnds.{parts_of_longer}
+use Rattle.clean_words.specs.Monitors.{first_of, stops_of, to_of, run, Watches}
+use Rattle.clean_words.proofs.WordEnds.{EndsWith, ends, front_same}
 
 -- the empty word breaks no rule
 
@@ -33,72 +33,46 @@ empty_clean P R p r named = no_bad_empty P r p
 
 -- a word with one symbol more
 
--- the word ends in a part that breaks the rule
-abbrev pub EndsBadly : Instance → Rule → ℕ → List Symbol → Type 0
-EndsBadly P r p w = (before : List Symbol) × (part : List Symbol) × (w ≡ before ++ part) × Bad P r (p + length before) part
-
-no_bad_longer : (P : Instance) (r : Rule) (p : ℕ) (w : List Symbol) (x : Symbol) → HasNoBadPart P r p w → (EndsBadly P r p (w ++ x ∷ []) → ⊥) → HasNoBadPart P r p (w ++ x ∷ [])
-no_bad_longer P r p w x front ends before part after e bad = by_place (parts_of_longer w before part after x (e ∙ append_assoc before part after))
+no_bad_longer : (P : Instance) (r : Rule) (p : ℕ) (w : List Symbol) (x : Symbol) → HasNoBadPart P r p w → (EndsWith (Bad P r) p (w ++ x ∷ []) → ⊥) → HasNoBadPart P r p (w ++ x ∷ [])
+no_bad_longer P r p w x front here before part after e bad = by_end (ends after)
   where
-    by_place : (after ≡ []) ⊎ ((rest : List Symbol) × (w ≡ before ++ (part ++ rest))) → ⊥
-    by_place (inl none) = ends (before, part, e ∙ ap (λ a. before ++ part ++ a) none ∙ append-nil (before ++ part), bad)
-    by_place (inr (rest, within)) = front before part rest (within ∙ sym (append_assoc before part rest)) bad
+    by_end : (after ≡ []) ⊎ ((d : List Symbol) × (y : Symbol) × (after ≡ d ++ y ∷ [])) → ⊥
+    by_end (inl none) = here (before, part, e ∙ ap (λ a. before ++ part ++ a) none ∙ append-nil (before ++ part), bad)
+    by_end (inr (d, y, is)) =
+        let whole : w ++ x ∷ [] ≡ ((before ++ part) ++ d) ++ y ∷ [] = e ∙ ap (λ a. before ++ part ++ a) is ∙ sym (append_assoc (before ++ part) d (y ∷ [])) in
+        front before part d (front_same w ((before ++ part) ++ d) x y whole) bad
 
--- what a state says of a word, on which the steps of the monitor rest
+-- what a state says of a word, by which the monitor stops exactly where the word ends in a bad part
 pub record Tracks (P : Instance) (r : Rule) (m : Monitor) (Tells : ℕ → ℕ → List Symbol → Type 0) : Type 0 where
   pub begins : (p : ℕ) → Tells (first_of m) p []
-  pub goes : (p s t : ℕ) (w : List Symbol) (x : Symbol) → Tells s p w → next_of m (p + length w) s x ≡ Some t
-      → Tells t p (w ++ x ∷ []) × (EndsBadly P r p (w ++ x ∷ []) → ⊥)
-  pub stops : (p s : ℕ) (w : List Symbol) (x : Symbol) → Tells s p w → next_of m (p + length w) s x ≡ None
-      → EndsBadly P r p (w ++ x ∷ [])
+  pub goes : (p s : ℕ) (w : List Symbol) (x : Symbol) → Tells s p w → Tells (to_of m (p + length w) s x) p (w ++ x ∷ [])
+  pub stops : (p s : ℕ) (w : List Symbol) (x : Symbol) → Tells s p w → (stops_of m s x ≡ true) ↔ EndsWith (Bad P r) p (w ++ x ∷ [])
 
-pub run_nowhere : (next : ℕ → ℕ → Symbol → Option ℕ) (p : ℕ) (u : List Symbol) → run next p None u ≡ None
-run_nowhere next p [] = refl
-run_nowhere next p (x ∷ u) = run_nowhere next (p + 1) u
+-- so it watches for its rule
+module _ (P : Instance) (r : Rule) (m : Monitor) (Tells : ℕ → ℕ → List Symbol → Type 0) (tracks : Tracks P r m Tells) where
+  goes_on : (u v : List Symbol) (p s : ℕ) → HasNoBadPart P r p v → Tells s p v → HasNoBadPart P r p (v ++ u) ↔ ((t : ℕ) × (run m (p + length v) s u ≡ Some t))
+  goes_on [] v p s ok tells = (λ h. (s, refl), λ h. subst (HasNoBadPart P r p) (sym (append-nil v)) ok)
+  goes_on (x ∷ u) v p s ok tells = by_stop (λ more. goes_on u (v ++ x ∷ []) p (to_of m (p + length v) s x) more (tracks.goes p s v x tells)) (stops_of m s x) (tracks.stops p s v x tells)
+    where
+      to : ℕ
+      to = to_of m (p + length v) s x
 
--- along a word that is gone along, no part is bad
-reads_by : (P : Instance) (r : Rule) (m : Monitor) (Tells : ℕ → ℕ → List Symbol → Type 0) (u v : List Symbol) (x : Symbol) (p s t : ℕ) (o : Option ℕ) → Tracks P r m Tells → HasNoBadPart P r p v → Tells s p v
-    → ((n : ℕ) → HasNoBadPart P r p (v ++ x ∷ []) → Tells n p (v ++ x ∷ []) → run (next_of m) (p + length (v ++ x ∷ [])) (Some n) u ≡ Some t → HasNoBadPart P r p ((v ++ x ∷ []) ++ u))
-    → next_of m (p + length v) s x ≡ o → run (next_of m) (p + length v + 1) o u ≡ Some t → HasNoBadPart P r p (v ++ x ∷ u)
-reads_by P r m Tells u v x p s t None tracks ok tells rest is e = let none = run_nowhere (next_of m) (p + length v + 1) u in absurd (cc)
-reads_by P r m Tells u v x p s t (Some n) tracks ok tells rest is e =
-    let g = tracks.goes p s n v x tells is in
-    let there : p + length v + 1 ≡ p + length (v ++ x ∷ []) = omega (arith, length-append v (x ∷ [])) in
-    subst (HasNoBadPart P r p) (append_assoc v (x ∷ []) u)
-    (rest n (no_bad_longer P r p v x ok g.1) g.0 (subst (λ q. run (next_of m) q (Some n) u ≡ Some t) there e))
+      whole : (v ++ x ∷ []) ++ u ≡ v ++ x ∷ u
+      whole = append_assoc v (x ∷ []) u
 
-reads_on : (P : Instance) (r : Rule) (m : Monitor) (Tells : ℕ → ℕ → List Symbol → Type 0) → Tracks P r m Tells → (u v : List Symbol) (p s t : ℕ) → HasNoBadPart P r p v → Tells s p v → run (next_of m) (p + length v) (Some s) u ≡ Some t → HasNoBadPart P r p (v ++ u)
-reads_on P r m Tells tracks [] v p s t ok tells e = subst (HasNoBadPart P r p) (sym (append-nil v)) ok
-reads_on P r m Tells tracks (x ∷ u) v p s t ok tells e =
-    reads_by P r m Tells u v x p s t (next_of m (p + length v) s x) tracks ok tells (λ n more told goes. reads_on P r m Tells tracks u (v ++ x ∷ []) p n t more told goes) refl e
+      by_stop : (HasNoBadPart P r p (v ++ x ∷ []) → HasNoBadPart P r p ((v ++ x ∷ []) ++ u) ↔ ((t : ℕ) × (run m (p + length (v ++ x ∷ [])) to u ≡ Some t))) → (b : Bool) → (b ≡ true) ↔ EndsWith (Bad P r) p (v ++ x ∷ []) → HasNoBadPart P r p (v ++ x ∷ u) ↔ ((t : ℕ) × (cond b None (run m (p + length v + 1) to u) ≡ Some t))
+      by_stop rest true bad =
+          let here = bad.0 refl in (
+            λ h. absurd (no_bad-front P r p (v ++ x ∷ []) u (subst (HasNoBadPart P r p) (sym whole) h) here.0 here.1 [] (here.2 ∙ sym (append-nil (here.0 ++ here.1))) here.3),
+            λ t. let none : None ≡ Some t.0 = t.1 in absurd (cc),
+          )
+      by_stop rest false good =
+          let more = no_bad_longer P r p v x ok (λ h. let fails : false ≡ true = good.1 h in absurd (cc)) in
+          let after = rest more in
+          let there : p + length (v ++ x ∷ []) ≡ p + length v + 1 = omega (arith, length-append v (x ∷ [])) in (
+            λ h. let t = after.0 (subst (HasNoBadPart P r p) (sym whole) h) in (t.0, subst (λ q. run m q to u ≡ Some t.0) there t.1),
+            λ t. subst (HasNoBadPart P r p) whole (after.1 (t.0, subst (λ q. run m q to u ≡ Some t.0) (sym there) t.1)),
+          )
 
--- a word without bad parts is gone along
-leads_by : (P : Instance) (r : Rule) (m : Monitor) (Tells : ℕ → ℕ → List Symbol → Type 0) (u v : List Symbol) (x : Symbol) (p s : ℕ) (o : Option ℕ) → Tracks P r m Tells → HasNoBadPart P r p (v ++ x ∷ u) → Tells s p v
-    → ((n : ℕ) → Tells n p (v ++ x ∷ []) → (t : ℕ) × (run (next_of m) (p + length (v ++ x ∷ [])) (Some n) u ≡ Some t))
-    → next_of m (p + length v) s x ≡ o → (t : ℕ) × (run (next_of m) (p + length v + 1) o u ≡ Some t)
-leads_by P r m Tells u v x p s None tracks whole tells rest is =
-    let ends = tracks.stops p s v x tells is in
-    let front : HasNoBadPart P r p (v ++ x ∷ []) = no_bad-front P r p (v ++ x ∷ []) u (subst (HasNoBadPart P r p) (sym (append_assoc v (x ∷ []) u)) whole) in
-    absurd (front ends.0 ends.1 [] (ends.2 ∙ sym (append-nil (ends.0 ++ ends.1))) ends.3)
-leads_by P r m Tells u v x p s (Some n) tracks whole tells rest is =
-    let g = tracks.goes p s n v x tells is in
-    let there : p + length (v ++ x ∷ []) ≡ p + length v + 1 = omega (arith, length-append v (x ∷ [])) in
-    let more = rest n g.0 in
-    (more.0, subst (λ q. run (next_of m) q (Some n) u ≡ Some more.0) there more.1)
-
-leads_on : (P : Instance) (r : Rule) (m : Monitor) (Tells : ℕ → ℕ → List Symbol → Type 0) → Tracks P r m Tells → (u v : List Symbol) (p s : ℕ) → HasNoBadPart P r p (v ++ u) → Tells s p v → (t : ℕ) × (run (next_of m) (p + length v) (Some s) u ≡ Some t)
-leads_on P r m Tells tracks [] v p s whole tells = (s, refl)
-leads_on P r m Tells tracks (x ∷ u) v p s whole tells =
-    leads_by P r m Tells u v x p s (next_of m (p + length v) s x) tracks whole tells
-    (λ n told. leads_on P r m Tells tracks u (v ++ x ∷ []) p n (subst (HasNoBadPart P r p) (sym (append_assoc v (x ∷ []) u)) whole) told) refl
-
--- so a monitor that tracks what matters watches for its rule
-pub watches : (P : Instance) (r : Rule) (m : Monitor) (Tells : ℕ → ℕ → List Symbol → Type 0) → Tracks P r m Tells → Watches (HasNoBadPart P r) m
-watches P r m Tells tracks p w =
-    let none : p + 0 ≡ p = omega arith in (
-      λ h.
-          let t = leads_on P r m Tells tracks w [] p (first_of m) h (tracks.begins p) in
-          (t.0, subst (λ q. run (next_of m) q (Some (first_of m)) w ≡ Some t.0) none t.1),
-      λ t. reads_on P r m Tells tracks w [] p (first_of m) t.0 (no_bad_empty P r p) (tracks.begins p)
-          (subst (λ q. run (next_of m) q (Some (first_of m)) w ≡ Some t.0) (sym none) t.1),
-    )
+  pub watches : Watches (HasNoBadPart P r) m
+  watches p w = subst (λ q. HasNoBadPart P r p w ↔ ((t : ℕ) × (run m q (first_of m) w ≡ Some t))) (omega arith) (goes_on w [] p (first_of m) (no_bad_empty P r p) (tracks.begins p))

@@ -1,5 +1,5 @@
 -- The automaton of a list of rules.
-use Rattle.std.specs.Prelude.{◌≡◌, ◌⊎◌, ◌↔◌, ℕ, ◌<◌, ◌≤◌, ◌^◌, List, [], ◌∷◌, length, Some, Bool, false, slice_index_or, AllPairs, Contains}
+use Rattle.std.specs.Prelude.{◌≡◌, ◌⊎◌, ◌↔◌, ℕ, ◌<◌, ◌≤◌, List, [], ◌∷◌, length, Some, Bool, false, slice_index_or, AllPairs, Contains}
 use Rattle.rwsp_terms.specs.declared.data.Symbol.{Symbol}
 use Rattle.rwsp_terms.specs.Instance.{Instance, shift_count}
 use Rattle.refutation_terms.specs.Word.{Clean}
@@ -35,8 +35,6 @@ begin_at a p = start_at a.starts p
 pub record IsAutomaton (a : RuleAutomaton) : Type 0 where
   pub days : length a.starts ≡ a.problem.days
   pub some : 0 < length a.moves
-  pub few : length a.moves < 2 ^ 32
-  pub few_steps : length a.steps < 2 ^ 32
   pub offs : length a.offs ≡ length a.moves
   -- each state where words begin is one, and from position 0 on that is state 0
   pub begins : (p : ℕ) → begin_at a p < length a.moves

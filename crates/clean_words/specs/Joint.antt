@@ -2,7 +2,6 @@
 use Rattle.std.specs.Prelude.{◌≡◌, ◌⊎◌, ℕ, ◌<◌, ◌≤◌, List, [], ◌++◌, length, Option, Some, None, slice_index, slice_index_or}
 use Rattle.clean_words.specs.declared.joint.Both.{Both}
 use Rattle.clean_words.specs.declared.table.Table.{Table}
-use Rattle.clean_words.specs.declared.table.TheConstants.{MOST_STATES}
 use Rattle.clean_words.specs.Moves.{Moves, move_at}
 
 abbrev pub no_pair : Both
@@ -31,7 +30,6 @@ pub record IsRow (a b : Table) (pairs : List Both) (pair : Both) (symbols : ℕ)
 
 -- the first pairs have their moves
 pub record AreStates (a b : Table) (symbols : ℕ) (pairs : List Both) (moves : Moves) : Type 0 where
-  pub few : length pairs ≤ MOST_STATES
   pub done : length moves ≤ length pairs
   pub rows : (k : ℕ) (pair : Both) → k < length moves → StandsAt pairs k pair
       → IsRow a b pairs pair symbols (slice_index_or moves k [])

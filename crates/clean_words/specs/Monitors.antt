@@ -1,5 +1,5 @@
 -- What watches words for the rules, kind by kind, and what it owes: it goes on exactly along the words that keep a rule.
-use Rattle.std.specs.Prelude.{◌≡◌, ◌↔◌, ℕ, ◌+◌, ◌*◌, ◌/◌, ◌%◌, ◌<◌, ◌≤◌, List, [], ◌∷◌, length, Option, Some, None, Bool, ◌==◌, nat_lt, if◌then◌else◌, slice_index}
+use Rattle.std.specs.Prelude.{◌≡◌, ◌↔◌, ℕ, ◌+◌, ◌*◌, ◌/◌, ◌%◌, ◌<◌, ◌≤◌, List, [], ◌∷◌, length, Option, Some, None, Bool, false, ◌==◌, nat_lt, if◌then◌else◌, slice_index}
 use Rattle.std.specs.Option.{option_map}
 use Rattle.rwsp_terms.specs.declared.limits.TheConstants.{GREATEST_BOUND, MOST_DAYS, MOST_SYMBOLS}
 use Rattle.rwsp_terms.specs.declared.data.Symbol.{Symbol}
@@ -13,8 +13,8 @@ use Rattle.clean_words.specs.declared.last.Told.{Told}
 use Rattle.clean_words.specs.declared.last.Told.TheVariants.{DayOff, LastSymbol}
 use Rattle.clean_words.specs.declared.never.TheConstants.{STATES}
 use Rattle.clean_words.specs.declared.table.Table.{Table}
-use Rattle.clean_words.specs.Blocks.{most_next, least_next}
-use Rattle.clean_words.specs.Sequences.{is_on_day, never_next}
+use Rattle.clean_words.specs.Blocks.{most_stops, most_to, least_stops, least_to}
+use Rattle.clean_words.specs.Sequences.{is_on_day, has_one, has_two, stops_by, never_to}
 use Rattle.clean_words.specs.Moves.{move_at, start_at}
 use Rattle.clean_words.specs.Tables.{IsTable, told_after}
 use Rattle.clean_words.specs.Automata.{HasSymbolsOf}
@@ -49,12 +49,23 @@ abbrev pub first_of : Monitor → ℕ
 first_of (Least c least) = least
 first_of m = 0
 
--- where the symbol leads from the state, on a day counted from 0; none where the monitor stops
+-- whether the symbol stops the monitor in the state
+abbrev pub stops_of : Monitor → ℕ → Symbol → Bool
+stops_of (Last told) s x = false
+stops_of (Most c greatest) s x = most_stops c greatest s x
+stops_of (Least c least) s x = least_stops c least s x
+stops_of (Never q days) s x = stops_by q.third q.second (has_one s) (has_two s) x
+
+-- where the symbol leads from the state if it doesn't, on a day counted from 0
+abbrev pub to_of : Monitor → ℕ → ℕ → Symbol → ℕ
+to_of (Last told) p s x = label told x
+to_of (Most c greatest) p s x = most_to c s x
+to_of (Least c least) p s x = least_to c least s x
+to_of (Never q days) p s x = never_to q (is_on_day q.day days p) s x
+
+-- the same; none where it stops
 abbrev pub next_of : Monitor → ℕ → ℕ → Symbol → Option ℕ
-next_of (Last told) p s x = Some (label told x)
-next_of (Most c greatest) p s x = most_next c greatest s x
-next_of (Least c least) p s x = least_next c least s x
-next_of (Never q days) p s x = never_next q (is_on_day q.day days p) s x
+next_of m p s x = if stops_of m s x then None else Some (to_of m p s x)
 
 -- what a state tells of the last symbol
 abbrev pub told_of : Monitor → ℕ → ℕ
@@ -76,17 +87,13 @@ HasWeek P m = Unit {0}
 abbrev pub Fits : Instance → Monitor → Type 0
 Fits P m = IsSound m × HasWeek P m
 
--- the state behind a word from a position on
-abbrev pub step : (ℕ → ℕ → Symbol → Option ℕ) → ℕ → Option ℕ → Symbol → Option ℕ
-step next p None x = None
-step next p (Some s) x = next p s x
-
-abbrev pub run : (ℕ → ℕ → Symbol → Option ℕ) → ℕ → Option ℕ → List Symbol → Option ℕ
-run next p s [] = s
-run next p s (x ∷ u) = run next (p + 1) (step next p s x) u
+-- the state behind a word from a position on; none where the monitor stops along it
+abbrev pub run : Monitor → ℕ → ℕ → List Symbol → Option ℕ
+run m p s [] = Some s
+run m p s (x ∷ u) = if stops_of m s x then None else run m (p + 1) (to_of m p s x) u
 
 abbrev pub state_behind : Monitor → ℕ → List Symbol → Option ℕ
-state_behind m p w = run (next_of m) p (Some (first_of m)) w
+state_behind m p w = run m p (first_of m) w
 
 -- the monitor goes on exactly along the words of the kind
 abbrev pub Watches : (ℕ → List Symbol → Type 0) → Monitor → Type 0

@@ -22,9 +22,7 @@ stops_by None second one two x = one && (x.number == second.number)
 stops_by (Some third) second one two x = two && (x.number == third.number)
 
 -- where the symbol leads; whether the sequence may begin on its day
-abbrev pub never_next : Sequence → Bool → ℕ → Symbol → Option ℕ
-never_next q here s x =
-    if stops_by q.third q.second (has_one s) (has_two s) x then None
-    else Some
-    ((if here && (x.number == q.first.number) then 1 else 0)
-    + (if has_one s && (x.number == q.second.number) then 2 else 0))
+abbrev pub never_to : Sequence → Bool → ℕ → Symbol → ℕ
+never_to q here s x =
+    (if here && (x.number == q.first.number) then 1 else 0)
+    + (if has_one s && (x.number == q.second.number) then 2 else 0)

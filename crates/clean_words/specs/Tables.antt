@@ -1,19 +1,17 @@
 -- Tables of moves.
-use Rattle.std.specs.Prelude.{◌≡◌, ◌⊎◌, ℕ, ◌%◌, ◌<◌, ◌≤◌, List, [], length, Option, Some, Bool, false, ◌==◌, map, slice_index, slice_index_or, AllPairs, Contains}
+use Rattle.std.specs.Prelude.{◌≡◌, ◌⊎◌, ℕ, ◌<◌, ◌≤◌, List, [], length, Option, Some, false, ◌==◌, map, slice_index, slice_index_or, AllPairs, Contains}
 use Rattle.std.specs.Option.{option_map}
 use Rattle.rwsp_terms.specs.declared.data.Symbol.{Symbol}
 use Rattle.rwsp_terms.specs.Instance.{Instance, shift_count}
 use Rattle.refutation_terms.specs.Word.{Clean}
 use Rattle.clean_words.specs.declared.step.Step.{Step}
 use Rattle.clean_words.specs.declared.table.Table.{Table}
-use Rattle.clean_words.specs.declared.table.TheConstants.{MOST_STATES}
 use Rattle.clean_words.specs.Moves.{Moves, move_at, lead, start_at, off_behind}
 use Rattle.clean_words.specs.Automata.{HasSymbolsOf, StepBefore}
 
 -- a table for the words of an instance
 pub record IsTable (P : Instance) (t : Table) : Type 0 where
   pub days : length t.starts.items ≡ P.days
-  pub few : length t.moves.items ≤ MOST_STATES
   pub long : length t.told.items ≡ length t.moves.items
   pub begins : (p : ℕ) → start_at t.starts.items p < length t.moves.items
   pub inside : (s x to : ℕ) → move_at t.moves.items s x ≡ Some to → (x ≤ shift_count P) × (to < length t.moves.items)

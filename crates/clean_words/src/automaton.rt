@@ -23,7 +23,7 @@ use std::marker::Model;
 pub struct Automaton {
     problem: Problem,
     list: RuleList,
-    starts: Vec<u32>,
+    starts: Vec<usize>,
     moves: Vec<Row>,
     offs: Vec<bool>,
     steps: Vec<Step>,
@@ -161,7 +161,7 @@ impl Automaton {
     }
 
     /// The state where words from the position on begin. On the first day it is state 0.
-    pub fn start(&self, position: u32) -> u32
+    pub fn start(&self, position: u32) -> usize
         ensures value { result ≡ begin_at self.now position }
         ensures inside { result < length self.now.moves }
     {
@@ -170,20 +170,20 @@ impl Automaton {
     }
 
     /// Where the symbol leads from the state; None where no clean word continues with it.
-    pub fn follow(&self, state: u32, x: Symbol) -> Option<u32>
+    pub fn follow(&self, state: usize, x: Symbol) -> Option<usize>
         requires state { state < length self.now.moves }
         requires symbol { x.number < MOST_SYMBOLS }
         ensures { result ≡ move_at self.now.moves state x.number }
     {
-        self.moves[state as usize][x.number as usize]
+        self.moves[state][x.number as usize]
     }
 
     /// Whether the words that lead to the state end with the day off.
-    pub fn is_off(&self, state: u32) -> bool
+    pub fn is_off(&self, state: usize) -> bool
         requires { state < length self.now.moves }
         ensures { result ≡ slice_index_or self.now.offs state false }
     {
-        self.offs[state as usize]
+        self.offs[state]
     }
 
     /// All steps, ascending by the state where they begin and then by the symbol.
@@ -209,7 +209,7 @@ fn small_table(
 }
 
 // For each state whether its words end with the day off, which is told by 1.
-fn offs_of(alloc: Global, told: &[u32]) -> Result<Vec<bool>, AllocError>
+fn offs_of(alloc: Global, told: &[usize]) -> Result<Vec<bool>, AllocError>
     ensures { IfOk result (λ offs. offs.items ≡ map (λ label. label == 1) told.now) }
 {
     let mut offs = Vec::new(alloc);

@@ -14,7 +14,7 @@ use rwsp_terms::Symbol;
 pub struct Choice {
     pub weight: i32,
     pub symbol: Symbol,
-    pub to: u32,
+    pub to: usize,
 }
 
 /// The choice of the greatest gain at a state, and among these that of the lowest symbol; None where no word leads to
@@ -22,7 +22,7 @@ pub struct Choice {
 /// the next day on. Its time grows with the symbols.
 pub fn choose(
     automaton: &Automaton,
-    state: u32,
+    state: usize,
     gains: &[Option<i32>],
     next: &Row,
 ) -> Option<Choice>
@@ -43,7 +43,7 @@ pub fn choose(
 // The choice of the symbol of a number, which gains this much.
 fn choice_by(
     automaton: &Automaton,
-    state: u32,
+    state: usize,
     number: u8,
     gain: Option<i32>,
     next: &Row,

@@ -10,17 +10,17 @@ const MULTIPLIER: u64 = 0x517c_c1b7_2722_0a95;
 // Classes of states, and how many there are.
 #[derive(Drop)]
 struct Classes {
-    of_state: Vec<u32>,
+    of_state: Vec<usize>,
     count: usize,
 }
 
 // A number for a state's class and the classes that its moves lead to. Where these differ the numbers differ too, but
 // for rare ones: then states are joined that differ, which is seen when the table of the classes is compared.
-fn fingerprint(class: u32, row: &Row, classes: &[u32]) -> u64 {
-    let mut print = u64::from(class);
+fn fingerprint(class: usize, row: &Row, classes: &[usize]) -> u64 {
+    let mut print = class as u64;
     for to in row {
         let next = match to {
-            Some(state) => u64::from(class_of(classes, *state)) + 1,
+            Some(state) => (class_of(classes, *state) as u64).wrapping_add(1),
             None => 0,
         };
         print = (print.rotate_left(5) ^ next).wrapping_mul(MULTIPLIER);
@@ -30,11 +30,11 @@ fn fingerprint(class: u32, row: &Row, classes: &[u32]) -> u64 {
 
 // The states of one class that have moves by the same symbols to the same classes stay together. Classes are numbered
 // in the order of their first states. Costs a look-up for each state.
-fn refined(alloc: Global, moves: &[Row], classes: &[u32]) -> Result<Classes, AllocError> {
+fn refined(alloc: Global, moves: &[Row], classes: &[usize]) -> Result<Classes, AllocError> {
     let mut numbers = HashMap::new(alloc);
     let mut of_state = Vec::new(alloc);
     for (row, class) in moves.iter().zip(classes) {
-        let next = u32::try_from(numbers.len()).unwrap_or(u32::MAX);
+        let next = numbers.len();
         let print = fingerprint(*class, row, classes);
         of_state.push(*numbers.entry(print)?.or_insert(next))?;
     }
@@ -47,7 +47,7 @@ fn refined(alloc: Global, moves: &[Row], classes: &[u32]) -> Result<Classes, All
 // The class of each state: states are in one class where they tell the same, and so do those that they lead to by any
 // word (E. Moore, 1956). Classes are refined until their number stays, which takes as many rounds as the longest word
 // that is needed to tell two states apart has symbols.
-pub fn classes_of(alloc: Global, table: &Table) -> Result<Vec<u32>, AllocError> {
+pub fn classes_of(alloc: Global, table: &Table) -> Result<Vec<usize>, AllocError> {
     let mut classes = Classes {
         of_state: Vec::from_slice(alloc, &table.told)?,
         count: 0,

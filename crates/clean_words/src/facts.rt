@@ -17,7 +17,7 @@ impl CleanWords<'_> {
     }
 
     // The state where the words begin.
-    pub fn start(&self) -> u32
+    pub fn start(&self) -> usize
         ensures value { result ≡ begin_at self.now.automaton.now self.now.position }
         ensures inside { result < length self.now.automaton.now.moves }
     {

@@ -1,5 +1,5 @@
 // A table with a state for each class of another's states.
-ghost use Rattle.std.specs.Prelude.{◌≡◌, ℕ, ◌<◌, ◌≤◌, ◌^◌, List, length, map, slice_index, IfOk, IsTrue};
+ghost use Rattle.std.specs.Prelude.{◌≡◌, ℕ, ◌<◌, List, length, map, slice_index, IfOk, IsTrue};
 ghost use Rattle.std.specs.Option.{option_map};
 ghost use Rattle.clean_words.specs.Tables.{IsReader, IsKept, HasStates};
 
@@ -10,17 +10,17 @@ use rwsp_terms::limits::MOST_SYMBOLS;
 use std::alloc::{AllocError, Global};
 
 // The class of a state.
-pub fn class_of(classes: &[u32], state: u32) -> u32
+pub fn class_of(classes: &[usize], state: usize) -> usize
     ensures { result ≡ slice_index classes.now state }
 {
-    match classes.get(state as usize) {
+    match classes.get(state) {
         Some(class) => *class,
         None => 0,
     }
 }
 
 // The class of the state where a move leads.
-fn class_to(classes: &[u32], to: Option<u32>) -> Option<u32>
+fn class_to(classes: &[usize], to: Option<usize>) -> Option<usize>
     ensures { result ≡ option_map (slice_index classes.now) to }
 {
     match to {
@@ -30,7 +30,7 @@ fn class_to(classes: &[u32], to: Option<u32>) -> Option<u32>
 }
 
 // The moves to classes in place of those to states.
-fn image_of(classes: &[u32], row: &Row) -> Row
+fn image_of(classes: &[usize], row: &Row) -> Row
     ensures { result ≡ map (option_map (slice_index classes.now)) row.now }
 {
     let mut image = [None; MOST_SYMBOLS as usize];
@@ -41,7 +41,7 @@ fn image_of(classes: &[u32], row: &Row) -> Row
 }
 
 // The classes of some states.
-fn classes_at(alloc: Global, states: &[u32], classes: &[u32]) -> Result<Vec<u32>, AllocError>
+fn classes_at(alloc: Global, states: &[usize], classes: &[usize]) -> Result<Vec<usize>, AllocError>
     ensures { IfOk result (λ found. found.items ≡ map (slice_index classes.now) states.now) }
 {
     let mut found = Vec::new(alloc);
@@ -52,21 +52,19 @@ fn classes_at(alloc: Global, states: &[u32], classes: &[u32]) -> Result<Vec<u32>
 }
 
 // The table of the classes, each with the moves of its first state. Classes are numbered in the order of these.
-fn quotient(alloc: Global, table: &Table, classes: &[u32]) -> Result<Table, AllocError>
-    requires few { length table.now.moves.items < 2 ^ 32 }
+fn quotient(alloc: Global, table: &Table, classes: &[usize]) -> Result<Table, AllocError>
     requires long { length table.now.told.items ≡ length table.now.moves.items }
     ensures starts { IfOk result (λ t. t.starts.items ≡ map (slice_index classes.now) table.now.starts.items) }
     ensures long { IfOk result (λ t. length t.told.items ≡ length t.moves.items) }
-    ensures few { IfOk result (λ t. length t.moves.items ≤ length table.now.moves.items) }
     ensures states { IfOk result
         (λ t. HasStates classes.now (length table.now.moves.items) (length t.moves.items)) }
 {
     let mut moves = Vec::new(alloc);
     let mut told = Vec::new(alloc);
-    for state in 0..table.moves.len() as u32 {
-        if class_of(classes, state) as usize == moves.len() {
-            moves.push(image_of(classes, &table.moves[state as usize]))?;
-            told.push(table.told[state as usize])?;
+    for state in 0..table.moves.len() {
+        if class_of(classes, state) == moves.len() {
+            moves.push(image_of(classes, &table.moves[state]))?;
+            told.push(table.told[state])?;
         }
     }
     let starts = classes_at(alloc, &table.starts, classes)?;
@@ -79,28 +77,27 @@ fn quotient(alloc: Global, table: &Table, classes: &[u32]) -> Result<Table, Allo
 
 // Whether the class tells what the state tells, and has moves by the same symbols, to the classes of the states where
 // the state's moves lead.
-fn is_kept(table: &Table, small: &Table, classes: &[u32], state: u32) -> bool
+fn is_kept(table: &Table, small: &Table, classes: &[usize], state: usize) -> bool
     requires state { state < length table.now.moves.items }
     requires long { length table.now.told.items ≡ length table.now.moves.items }
     requires small_long { length small.now.told.items ≡ length small.now.moves.items }
     ensures { IsTrue result → IsKept table.now small.now classes.now state }
 {
-    let class = class_of(classes, state) as usize;
-    if class >= small.moves.len() || small.told[class] != table.told[state as usize] {
+    let class = class_of(classes, state);
+    if class >= small.moves.len() || small.told[class] != table.told[state] {
         return false;
     }
-    small.moves[class] == image_of(classes, &table.moves[state as usize])
+    small.moves[class] == image_of(classes, &table.moves[state])
 }
 
 // Whether each class is as its states are.
-fn are_kept(table: &Table, small: &Table, classes: &[u32]) -> bool
-    requires few { length table.now.moves.items < 2 ^ 32 }
+fn are_kept(table: &Table, small: &Table, classes: &[usize]) -> bool
     requires long { length table.now.told.items ≡ length table.now.moves.items }
     requires small_long { length small.now.told.items ≡ length small.now.moves.items }
     ensures { IsTrue result → (k : ℕ) → k < length table.now.moves.items
         → IsKept table.now small.now classes.now k }
 {
-    for state in 0..table.moves.len() as u32 {
+    for state in 0..table.moves.len() {
         if !is_kept(table, small, classes, state) {
             return false;
         }
@@ -114,7 +111,7 @@ pub fn merged(
     problem: &Problem,
     rules: &RuleList,
     table: Table,
-    classes: &[u32],
+    classes: &[usize],
 ) -> Result<Table, AllocError>
     requires { IsReader problem.now rules.now table }
     ensures { IfOk result (IsReader problem.now rules.now) }

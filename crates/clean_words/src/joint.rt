@@ -6,7 +6,7 @@ ghost use Rattle.clean_words.specs.Joint.{StandsAt, Extends, Judges, IsRow, AreS
 ghost use Rattle.clean_words.specs.Moves.{start_at};
 ghost use Rattle.clean_words.specs.Tables.{IsTable, GoesWithBoth};
 
-use crate::table::{MOST_STATES, Row, Table, move_at};
+use crate::table::{Row, Table, move_at};
 use rwsp_model::Problem;
 use rwsp_terms::limits::MOST_SYMBOLS;
 use std::alloc::{AllocError, Global};
@@ -14,8 +14,8 @@ use std::alloc::{AllocError, Global};
 // A state of the first table and one of the second.
 #[derive(Clone, Copy, PartialEq, Eq)]
 pub struct Both {
-    pub first: u32,
-    pub second: u32,
+    pub first: usize,
+    pub second: usize,
 }
 
 // The pairs of states that words were found to lead to, each a state, and the moves of the first of them.
@@ -23,7 +23,7 @@ pub struct Both {
 struct Joint {
     pairs: Vec<Both>,
     // The place of each pair in the list, or that of another: what is noted is looked at again there.
-    places: Vec<u32>,
+    places: Vec<usize>,
     width: usize,
     moves: Vec<Row>,
 }
@@ -45,39 +45,34 @@ impl Joint {
 
     // Where the state of a pair is noted.
     fn place_of(&self, pair: Both) -> usize {
-        (pair.first as usize)
+        pair.first
             .wrapping_mul(self.width)
-            .wrapping_add(pair.second as usize)
+            .wrapping_add(pair.second)
     }
 
     // The state of the pair, if it has one.
-    fn found(&self, pair: Both) -> Option<u32>
+    fn found(&self, pair: Both) -> Option<usize>
         ensures { IfSome result (λ state. StandsAt self.now.pairs.items state pair) }
     {
         let state = *self.places.get(self.place_of(pair))?;
-        if state as usize >= self.pairs.len() {
+        if state >= self.pairs.len() {
             return None;
         }
-        if self.pairs[state as usize] == pair {
+        if self.pairs[state] == pair {
             Some(state)
         } else {
             None
         }
     }
 
-    // A state for a pair that has none. More states than a table may have are taken for want of memory.
-    fn new_state(&mut self, pair: Both) -> Result<u32, AllocError>
+    // A state for a pair that has none.
+    fn new_state(&mut self, pair: Both) -> Result<usize, AllocError>
         ensures grows { OnOk result (Extends self.old.pairs.items self.new.pairs.items) }
-        ensures few { OnOk result (length self.new.pairs.items ≤ MOST_STATES) }
         ensures moves { OnOk result (self.new.moves.items ≡ self.old.moves.items) }
         ensures state { IfOk result (λ state. StandsAt self.new.pairs.items state pair) }
         ensures first { IfOk result (λ state. length self.old.pairs.items ≡ 0 → state ≡ 0) }
     {
-        let count = self.pairs.len();
-        if count >= MOST_STATES {
-            return Err(AllocError);
-        }
-        let state = count as u32;
+        let state = self.pairs.len();
         let place = self.place_of(pair);
         self.pairs.push(pair)?;
         if place < self.places.len() {
@@ -87,10 +82,8 @@ impl Joint {
     }
 
     // The state of the pair, which is made where none is found.
-    fn state_of(&mut self, pair: Both) -> Result<u32, AllocError>
-        requires few { length self.old.pairs.items ≤ MOST_STATES }
+    fn state_of(&mut self, pair: Both) -> Result<usize, AllocError>
         ensures grows { OnOk result (Extends self.old.pairs.items self.new.pairs.items) }
-        ensures few { OnOk result (length self.new.pairs.items ≤ MOST_STATES) }
         ensures moves { OnOk result (self.new.moves.items ≡ self.old.moves.items) }
         ensures state { IfOk result (λ state. StandsAt self.new.pairs.items state pair) }
         ensures first { IfOk result (λ state. length self.old.pairs.items ≡ 0 → state ≡ 0) }
@@ -108,10 +101,8 @@ impl Joint {
         second: &Table,
         pair: Both,
         number: u8,
-    ) -> Result<Option<u32>, AllocError>
-        requires few { length self.old.pairs.items ≤ MOST_STATES }
+    ) -> Result<Option<usize>, AllocError>
         ensures grows { OnOk result (Extends self.old.pairs.items self.new.pairs.items) }
-        ensures few { OnOk result (length self.new.pairs.items ≤ MOST_STATES) }
         ensures moves { OnOk result (self.new.moves.items ≡ self.old.moves.items) }
         ensures judges { IfOk result (Judges first.now second.now self.new.pairs.items pair number) }
     {
@@ -136,10 +127,8 @@ impl Joint {
         pair: Both,
         symbols: u8,
     ) -> Result<Row, AllocError>
-        requires few { length self.old.pairs.items ≤ MOST_STATES }
         requires symbols { symbols ≤ MOST_SYMBOLS }
         ensures grows { OnOk result (Extends self.old.pairs.items self.new.pairs.items) }
-        ensures few { OnOk result (length self.new.pairs.items ≤ MOST_STATES) }
         ensures moves { OnOk result (self.new.moves.items ≡ self.old.moves.items) }
         ensures row { IfOk result (IsRow first.now second.now self.new.pairs.items pair symbols) }
     {
@@ -192,10 +181,9 @@ impl Joint {
         alloc: Global,
         first: &Table,
         second: &Table,
-    ) -> Result<Vec<u32>, AllocError>
+    ) -> Result<Vec<usize>, AllocError>
         requires few { length self.old.pairs.items ≡ 0 }
         requires long { length second.now.starts.items ≡ length first.now.starts.items }
-        ensures few { OnOk result (length self.new.pairs.items ≤ MOST_STATES) }
         ensures moves { OnOk result (self.new.moves.items ≡ self.old.moves.items) }
         ensures starts { IfOk result (λ starts. AreStarts first.now second.now self.new.pairs.items starts.items) }
     {
@@ -212,7 +200,7 @@ impl Joint {
 }
 
 // What each pair tells: what its first state tells.
-fn told_of(alloc: Global, first: &Table, pairs: &[Both]) -> Result<Vec<u32>, AllocError>
+fn told_of(alloc: Global, first: &Table, pairs: &[Both]) -> Result<Vec<usize>, AllocError>
     ensures { IfOk result (λ told. told.items
         ≡ map (λ b. slice_index first.now.told.items b.first) pairs.now) }
 {
@@ -224,10 +212,10 @@ fn told_of(alloc: Global, first: &Table, pairs: &[Both]) -> Result<Vec<u32>, All
 }
 
 // What a state tells.
-fn told_at(told: &[u32], state: u32) -> u32
+fn told_at(told: &[usize], state: usize) -> usize
     ensures { result ≡ slice_index told.now state }
 {
-    match told.get(state as usize) {
+    match told.get(state) {
         Some(label) => *label,
         None => 0,
     }

@@ -11,6 +11,7 @@ mod automaton;
 mod choice;
 mod class;
 mod classes;
+mod clean;
 mod corner;
 mod day_gains;
 mod escapes;
@@ -48,6 +49,7 @@ mod weight_table;
 mod words;
 
 pub use automaton::Automaton;
+pub use clean::is_clean;
 pub use escapes::{Claim, claim_escape};
 pub use first::first_plain;
 pub use gain::Gain;

@@ -4,12 +4,12 @@ ghost use Rattle.rwsp_terms.specs.Roster.{IsRule};
 ghost use Rattle.rwsp_terms.specs.Window.{HasNoBadPart};
 ghost use Rattle.rwsp_terms.specs.declared.data.Symbol.{Symbol};
 ghost use Rattle.rwsp_terms.specs.declared.limits.TheConstants.{GREATEST_BOUND, MOST_DAYS, MOST_SYMBOLS};
-ghost use Rattle.clean_words.specs.Monitors.{IsSound, Fits, size_of, period_by, period_of, first_of, next_of, told_of, watched_least, Spares, Watches};
+ghost use Rattle.clean_words.specs.Monitors.{IsSound, Fits, size_of, period_by, period_of, first_of, stops_of, to_of, next_of, told_of, watched_least, Spares, Watches};
 
 use crate::last::{Told, label};
-use crate::least::least_next;
-use crate::most::most_next;
-use crate::never::{STATES, is_on_day, never_next};
+use crate::least::{least_stops, least_to};
+use crate::most::{most_stops, most_to};
+use crate::never::{STATES, is_on_day, never_stops, never_to};
 use rwsp_model::{Problem, rule_at, rule_count};
 use rwsp_terms::limits::MOST_SYMBOLS;
 use rwsp_terms::{Class, Rule, Sequence, Symbol};
@@ -87,13 +87,38 @@ impl Monitor {
         ensures value { result ≡ next_of self day state x }
         ensures inside { IfSome result (λ to. to < size_of self) }
     {
+        if self.stops(state, x) {
+            None
+        } else {
+            Some(self.to(day, state, x))
+        }
+    }
+
+    // Whether the symbol stops it in the state.
+    fn stops(self, state: u32, x: Symbol) -> bool
+        ensures { result ≡ stops_of self state x }
+    {
         match self {
-            Monitor::Last(told) => Some(label(told, x)),
-            Monitor::Most(class, greatest) => most_next(class, greatest, state, x),
-            Monitor::Least(class, least) => least_next(class, least, state, x),
+            Monitor::Last(_) => false,
+            Monitor::Most(class, greatest) => most_stops(class, greatest, state, x),
+            Monitor::Least(class, least) => least_stops(class, least, state, x),
+            Monitor::Never(sequence, _) => never_stops(sequence, state, x),
+        }
+    }
+
+    // Where the symbol leads from the state, on a day counted from 0, where it doesn't stop it.
+    fn to(self, day: u32, state: u32, x: Symbol) -> u32
+        requires sound { IsSound self }
+        requires state { state < size_of self }
+        ensures value { result ≡ to_of self day state x }
+    {
+        match self {
+            Monitor::Last(told) => label(told, x),
+            Monitor::Most(class, _) => most_to(class, state, x),
+            Monitor::Least(class, least) => least_to(class, least, state, x),
             Monitor::Never(sequence, days) => {
                 let here = is_on_day(sequence.day, days, day);
-                never_next(sequence, here, state, x)
+                never_to(sequence, here, state, x)
             }
         }
     }

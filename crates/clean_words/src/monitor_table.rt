@@ -32,7 +32,7 @@ fn state_on(monitor: Monitor, day: u32, state: u32) -> u32
 }
 
 // For each day of the week the state where words begin.
-fn starts_of(alloc: Global, problem: &Problem, monitor: Monitor) -> Result<Vec<u32>, AllocError>
+fn starts_of(alloc: Global, problem: &Problem, monitor: Monitor) -> Result<Vec<usize>, AllocError>
     requires { IsSound monitor }
     ensures long { IfOk result (λ starts. length starts.items ≡ problem.now.days) }
     ensures each { IfOk result (λ starts. (d : ℕ) → d < problem.now.days
@@ -40,13 +40,13 @@ fn starts_of(alloc: Global, problem: &Problem, monitor: Monitor) -> Result<Vec<u
 {
     let mut starts = Vec::new(alloc);
     for day in 0..problem.days() {
-        starts.push(state_on(monitor, day, monitor.first()))?;
+        starts.push(state_on(monitor, day, monitor.first()) as usize)?;
     }
     Ok(starts)
 }
 
 // Where a state leads by a symbol.
-fn entry(monitor: Monitor, code: u32, x: Symbol) -> Option<u32>
+fn entry(monitor: Monitor, code: u32, x: Symbol) -> Option<usize>
     requires sound { IsSound monitor }
     requires code { code < all_states monitor }
     requires symbol { x.number < MOST_SYMBOLS }
@@ -54,7 +54,7 @@ fn entry(monitor: Monitor, code: u32, x: Symbol) -> Option<u32>
 {
     let day = code / monitor.states();
     let to = monitor.next(day, code % monitor.states(), x)?;
-    Some(state_on(monitor, day + 1, to))
+    Some(state_on(monitor, day + 1, to) as usize)
 }
 
 // The moves of a state.
@@ -86,7 +86,7 @@ fn moves_of(alloc: Global, problem: &Problem, monitor: Monitor) -> Result<Vec<Ro
 }
 
 // What each state tells.
-fn told_by(alloc: Global, monitor: Monitor) -> Result<Vec<u32>, AllocError>
+fn told_by(alloc: Global, monitor: Monitor) -> Result<Vec<usize>, AllocError>
     requires { IsSound monitor }
     ensures long { IfOk result (λ told. length told.items ≡ all_states monitor) }
     ensures each { IfOk result (λ told. (code : ℕ) → code < all_states monitor
@@ -94,7 +94,7 @@ fn told_by(alloc: Global, monitor: Monitor) -> Result<Vec<u32>, AllocError>
 {
     let mut told = Vec::new(alloc);
     for code in 0..all_states(monitor) {
-        told.push(monitor.told(code % monitor.states()))?;
+        told.push(monitor.told(code % monitor.states()) as usize)?;
     }
     Ok(told)
 }

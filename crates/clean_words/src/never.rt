@@ -1,6 +1,6 @@
 // Rules against sequences: what watches words for them.
-ghost use Rattle.std.specs.Prelude.{◌≡◌, ◌<◌, IfSome};
-ghost use Rattle.clean_words.specs.Sequences.{is_on_day, has_one, has_two, stops_by, never_next};
+ghost use Rattle.std.specs.Prelude.{◌≡◌, ◌<◌};
+ghost use Rattle.clean_words.specs.Sequences.{is_on_day, has_one, has_two, stops_by, never_to};
 ghost use Rattle.clean_words.specs.declared.never.TheConstants.{STATES};
 
 use rwsp_terms::{Sequence, Symbol};
@@ -42,24 +42,33 @@ fn stops_by(third: Option<Symbol>, second: Symbol, one: bool, two: bool, x: Symb
     }
 }
 
-// Where the symbol leads. `here` says whether the sequence may begin on its day.
-pub fn never_next(sequence: Sequence, here: bool, state: u32, x: Symbol) -> Option<u32>
-    ensures value { result ≡ never_next sequence here state x }
-    ensures inside { IfSome result (λ to. to < STATES) }
+// Whether the symbol is the last of the sequence.
+pub fn never_stops(sequence: Sequence, state: u32, x: Symbol) -> bool
+    ensures { result ≡ stops_by sequence.third sequence.second (has_one state) (has_two state) x }
 {
-    let one = has_one(state);
-    if stops_by(sequence.third, sequence.second, one, has_two(state), x) {
-        return None;
-    }
+    stops_by(
+        sequence.third,
+        sequence.second,
+        has_one(state),
+        has_two(state),
+        x,
+    )
+}
+
+// Where the symbol leads. `here` says whether the sequence may begin on its day.
+pub fn never_to(sequence: Sequence, here: bool, state: u32, x: Symbol) -> u32
+    ensures value { result ≡ never_to sequence here state x }
+    ensures inside { result < STATES }
+{
     let begins = if here && x.number == sequence.first.number {
         1
     } else {
         0
     };
-    let goes_on = if one && x.number == sequence.second.number {
+    let goes_on = if has_one(state) && x.number == sequence.second.number {
         2
     } else {
         0
     };
-    Some(begins + goes_on)
+    begins + goes_on
 }

@@ -36,11 +36,11 @@ impl Row {
     }
 
     /// The gain from a state on.
-    pub fn at(&self, state: u32) -> Option<i32>
+    pub fn at(&self, state: usize) -> Option<i32>
         ensures { result ≡ gain_at self.now state }
     {
-        if (state as usize) < self.gains.len() {
-            self.gains[state as usize]
+        if state < self.gains.len() {
+            self.gains[state]
         } else {
             None
         }

@@ -25,7 +25,6 @@ pub fn row_before<G: Gain>(
     let gains = DayGains::on(alloc, words, gain, day)?;
     let mut row = Vec::with_capacity(alloc, words.automaton.states())?;
     for state in 0..words.automaton.states() {
-        let state = state as u32;
         let behind = gains.behind(words.automaton.is_off(state));
         let choice = choose(words.automaton, state, behind, next);
         row.push(weight_of(choice))?;

@@ -5,9 +5,9 @@ use rwsp_terms::Symbol;
 #[derive(Clone, Copy, PartialEq, Eq)]
 pub struct Step {
     /// The state where it begins.
-    pub from: u32,
+    pub from: usize,
     /// The symbol.
     pub symbol: Symbol,
     /// The state where it leads.
-    pub to: u32,
+    pub to: usize,
 }

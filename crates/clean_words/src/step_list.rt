@@ -1,5 +1,5 @@
 // The moves of a table as steps.
-ghost use Rattle.std.specs.Prelude.{◌≡◌, ◌↔◌, ℕ, ◌+◌, ◌*◌, ◌<◌, ◌≤◌, ◌^◌, length, AllPairs, Contains, Some, IfOk, OnOk};
+ghost use Rattle.std.specs.Prelude.{◌≡◌, ◌↔◌, ℕ, ◌+◌, ◌<◌, length, AllPairs, Contains, Some, IfOk, OnOk};
 ghost use Rattle.rwsp_terms.specs.declared.data.Symbol.{Symbol};
 ghost use Rattle.rwsp_terms.specs.declared.limits.TheConstants.{MOST_SYMBOLS};
 ghost use Rattle.clean_words.specs.Automata.{StepBefore};
@@ -13,14 +13,18 @@ use rwsp_terms::limits::MOST_SYMBOLS;
 use std::alloc::{AllocError, Global};
 
 // Puts the move of a state by the symbol of a number, if there is one, behind the steps before it.
-fn put_step(steps: &mut Vec<Step>, moves: &[Row], state: u32, number: u8) -> Result<(), AllocError>
+fn put_step(
+    steps: &mut Vec<Step>,
+    moves: &[Row],
+    state: usize,
+    number: u8,
+) -> Result<(), AllocError>
     requires state { state < length moves.now }
     requires number { number < MOST_SYMBOLS }
-    ensures few { OnOk result (length steps.new.items ≤ length steps.old.items + 1) }
-    ensures steps { OnOk result (AreStepsBefore moves.now steps.old.items state number
+    ensures { OnOk result (AreStepsBefore moves.now steps.old.items state number
         → AreStepsBefore moves.now steps.new.items state (number + 1)) }
 {
-    if let Some(to) = moves[state as usize][number as usize] {
+    if let Some(to) = moves[state][number as usize] {
         steps.push(Step {
             from: state,
             symbol: Symbol { number },
@@ -31,10 +35,9 @@ fn put_step(steps: &mut Vec<Step>, moves: &[Row], state: u32, number: u8) -> Res
 }
 
 // Puts the moves of a state behind the steps from the states before it.
-fn put_steps(steps: &mut Vec<Step>, moves: &[Row], state: u32) -> Result<(), AllocError>
+fn put_steps(steps: &mut Vec<Step>, moves: &[Row], state: usize) -> Result<(), AllocError>
     requires state { state < length moves.now }
-    ensures few { OnOk result (length steps.new.items ≤ length steps.old.items + MOST_SYMBOLS) }
-    ensures steps { OnOk result (AreStepsBefore moves.now steps.old.items state 0
+    ensures { OnOk result (AreStepsBefore moves.now steps.old.items state 0
         → AreStepsBefore moves.now steps.new.items (state + 1) 0) }
 {
     for number in 0..MOST_SYMBOLS as u8 {
@@ -45,14 +48,12 @@ fn put_steps(steps: &mut Vec<Step>, moves: &[Row], state: u32) -> Result<(), All
 
 // All moves, ascending by the state and then by the symbol.
 pub fn steps_of(alloc: Global, moves: &[Row]) -> Result<Vec<Step>, AllocError>
-    requires { length moves.now < 2 ^ 32 }
-    ensures few { IfOk result (λ steps. length steps.items ≤ MOST_SYMBOLS * length moves.now) }
     ensures ordered { IfOk result (λ steps. AllPairs StepBefore steps.items) }
     ensures all { IfOk result (λ steps. (s : ℕ) (x : Symbol) (t : ℕ)
         → Contains steps.items (record { from = s; symbol = x; to = t }) ↔ (move_at moves.now s x.number ≡ Some t)) }
 {
     let mut steps = Vec::new(alloc);
-    for state in 0..moves.len() as u32 {
+    for state in 0..moves.len() {
         put_steps(&mut steps, moves, state)?;
     }
     Ok(steps)

@@ -17,7 +17,7 @@ use std::alloc::{AllocError, Global};
 #[derive(Drop)]
 pub struct Walk {
     pub symbols: Vec<Symbol>,
-    pub state: u32,
+    pub state: usize,
 }
 
 /// The best word, by the rows that were kept. The rows between two of them are made again.

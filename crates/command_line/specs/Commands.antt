@@ -1,15 +1,19 @@
 -- The command lines that are accepted.
 use Rattle.std.specs.Prelude.{◌≡◌, ℕ, ◌+◌, ◌<◌, ◌≤◌, List, [], ◌∷◌, ◌++◌, map, Option, Some, None, MatchOption, String, codes}
+use Rattle.std.specs.Option.{option_map}
 use Rattle.std.specs.String.{string_bytes}
 use Rattle.std.specs.declared.alloc.Global.{Global}
 use Rattle.rwsp_terms.specs.declared.limits.TheConstants.{MOST_WEEKS, USUAL_BUDGET, GREATEST_BUDGET, LONGEST_CALENDAR, USUAL_WORKERS, MOST_WORKERS, MOST_SIZES, USUAL_STAFF_BUDGET, GREATEST_STAFF_BUDGET, USUAL_BEST_BUDGET, LONGEST_REST}
+use Rattle.rwsp_text.specs.Fields.{Words}
 use Rattle.crew_calendar.specs.Calendar.{FitsDates, IsNotBefore}
-use Rattle.command_line.specs.Forms.{Field, File, Number, Day, Range, Setting, Perhaps, Form, said_by, forms_text}
+use Rattle.command_line.specs.Forms.{Field, File, Number, Day, Range, Setting, Optional, Options, Perhaps, Form, field_at, said_by, forms_text}
 use Rattle.command_line.specs.declared.command.TheConstants.{GREATEST_NUMBER, USUAL_MEND_BUDGET}
 use Rattle.command_line.specs.declared.command.Command.{Command}
 use Rattle.command_line.specs.declared.command.Command.TheVariants.{Trial, OnProblem, OnFiles, Explain}
 use Rattle.command_line.specs.declared.command.ProblemTask.{ProblemTask}
 use Rattle.command_line.specs.declared.command.ProblemTask.TheVariants.{Plan, Show, Best, Staff, Mend, Rest}
+use Rattle.command_line.specs.declared.command.CrewLayout.{CrewLayout}
+use Rattle.command_line.specs.declared.command.CrewLayout.TheVariants.{Table, Duties, Csv}
 use Rattle.command_line.specs.declared.command.FilesTask.{FilesTask}
 use Rattle.command_line.specs.declared.command.FilesTask.TheVariants.{Check, Verify, Reduce, CheckFree, CheckStaff, Crew, Page, Ics, On, Roster, Fill, CheckFill}
 
@@ -22,20 +26,30 @@ abbrev pub problem_file : Field
 problem_file = File (codes "FILE")
 
 -- the budget, in lines of a log
-abbrev pub budget : (usual greatest : ℕ) → Field
-budget usual greatest = Setting (codes "--budget") (codes "B") usual greatest
+abbrev pub budget : (usual greatest : ℕ) → Setting
+budget usual greatest =
+    record { word = codes "--budget"; label = codes "B"; least = 1; usual = usual; greatest = greatest }
+
+-- the seed of random numbers
+abbrev pub random_seed : Setting
+random_seed = record { word = codes "--seed"; label = codes "S"; least = 0; usual = 0; greatest = GREATEST_NUMBER }
+
+-- how many work
+abbrev pub worker_count : Setting
+worker_count =
+    record { word = codes "--workers"; label = codes "N"; least = 1; usual = USUAL_WORKERS; greatest = MOST_WORKERS }
 
 abbrev pub plan_form : Form Command
 plan_form = record {
   word = codes "plan";
-  fields = problem_file ∷ budget USUAL_BUDGET GREATEST_BUDGET ∷ [];
-  make = λ v. OnProblem v.0 (Plan v.1.0.0 v.1.0.1);
+  fields = problem_file ∷ Options (budget USUAL_BUDGET GREATEST_BUDGET) random_seed ∷ [];
+  make = λ v. OnProblem v.0 (Plan v.1.0.0.0 v.1.0.0.1 v.1.0.1.0);
 }
 
 abbrev pub check_form : Form Command
 check_form = record {
   word = codes "check";
-  fields = problem_file ∷ File (codes "LOG") ∷ Setting (codes "--workers") (codes "N") USUAL_WORKERS MOST_WORKERS ∷ [];
+  fields = problem_file ∷ File (codes "LOG") ∷ Optional worker_count ∷ [];
   make = λ v. OnFiles v.0 v.1.0 (Check v.1.1.0.0);
 }
 
@@ -57,7 +71,7 @@ trial_form = record {
 abbrev pub best_form : Form Command
 best_form = record {
   word = codes "best";
-  fields = problem_file ∷ budget USUAL_BEST_BUDGET GREATEST_BUDGET ∷ [];
+  fields = problem_file ∷ Optional (budget USUAL_BEST_BUDGET GREATEST_BUDGET) ∷ [];
   make = λ v. OnProblem v.0 (Best v.1.0.0 v.1.0.1);
 }
 
@@ -66,30 +80,43 @@ staff_form = record {
   word = codes "staff";
   fields =
       problem_file ∷ Range (codes "LOW") (codes "HIGH") MOST_WEEKS MOST_SIZES
-      ∷ budget USUAL_STAFF_BUDGET GREATEST_STAFF_BUDGET ∷ [];
+      ∷ Optional (budget USUAL_STAFF_BUDGET GREATEST_STAFF_BUDGET) ∷ [];
   make = λ v. OnProblem v.0 (Staff v.1.0.0 v.1.0.1 v.1.1.0.0 v.1.1.0.1);
 }
+
+-- who is shown: one employee, or all, in a table or for a spreadsheet
+abbrev pub crew_field : Field
+crew_field = Perhaps (Number (codes "EMPLOYEE") 1 MOST_WEEKS) (codes "--csv")
+
+abbrev pub layout_of : Option (Option ℕ) → CrewLayout
+layout_of None = Table
+layout_of (Some None) = Csv
+layout_of (Some (Some e)) = Duties e
+
+-- what the words ask for there
+abbrev pub layout_at : Words → Option (CrewLayout × Words)
+layout_at ws = option_map (λ v. (layout_of v.0, v.1)) (field_at crew_field ws)
 
 abbrev pub crew_form : Form Command
 crew_form = record {
   word = codes "crew";
   fields =
       problem_file ∷ File (codes "ROSTER") ∷ Day (codes "DATE") ∷ Number (codes "DAYS") 1 LONGEST_CALENDAR
-      ∷ Perhaps (Number (codes "EMPLOYEE") 1 MOST_WEEKS) ∷ [];
-  make = λ v. OnFiles v.0 v.1.0 (Crew v.1.1.0 v.1.1.1.0 v.1.1.1.1.0);
+      ∷ crew_field ∷ [];
+  make = λ v. OnFiles v.0 v.1.0 (Crew v.1.1.0 v.1.1.1.0 (layout_of v.1.1.1.1.0));
 }
 
 abbrev pub mend_form : Form Command
 mend_form = record {
   word = codes "mend";
-  fields = problem_file ∷ budget USUAL_MEND_BUDGET GREATEST_BUDGET ∷ [];
+  fields = problem_file ∷ Optional (budget USUAL_MEND_BUDGET GREATEST_BUDGET) ∷ [];
   make = λ v. OnProblem v.0 (Mend v.1.0.0 v.1.0.1);
 }
 
 abbrev pub fill_form : Form Command
 fill_form = record {
   word = codes "fill";
-  fields = problem_file ∷ File (codes "CELLS") ∷ budget USUAL_BUDGET GREATEST_BUDGET ∷ [];
+  fields = problem_file ∷ File (codes "CELLS") ∷ Optional (budget USUAL_BUDGET GREATEST_BUDGET) ∷ [];
   make = λ v. OnFiles v.0 v.1.0 (Fill v.1.1.0.0);
 }
 
@@ -177,7 +204,7 @@ IsUpTo limit n = (1 ≤ n) × (n ≤ limit)
 -- the numbers of a task on a problem are in their ranges
 abbrev pub IsProblemTaskInRange : ProblemTask → Type 0
 IsProblemTaskInRange Show = Unit {0}
-IsProblemTaskInRange (Plan budget counts) = IsUpTo GREATEST_BUDGET budget
+IsProblemTaskInRange (Plan budget counts seed) = IsUpTo GREATEST_BUDGET budget
 IsProblemTaskInRange (Best budget counts) = IsUpTo GREATEST_BUDGET budget
 IsProblemTaskInRange (Mend budget counts) = IsUpTo GREATEST_BUDGET budget
 IsProblemTaskInRange (Rest minutes) = minutes ≤ LONGEST_REST
@@ -185,14 +212,14 @@ IsProblemTaskInRange (Staff low high budget counts) =
     (1 ≤ low) × (low ≤ high) × (high ≤ MOST_WEEKS) × (high < low + MOST_SIZES) × IsUpTo GREATEST_STAFF_BUDGET budget
 
 -- the number of an employee, where one is asked for
-abbrev pub IsEmployeeNumber : Option ℕ → Type 0
-IsEmployeeNumber None = Unit {0}
-IsEmployeeNumber (Some e) = 1 ≤ e
+abbrev pub IsLayoutInRange : CrewLayout → Type 0
+IsLayoutInRange (Duties e) = 1 ≤ e
+IsLayoutInRange layout = Unit {0}
 
 -- the numbers of a task on two files are in their ranges
 abbrev pub IsFilesTaskInRange : FilesTask → Type 0
 IsFilesTaskInRange (Check workers) = IsUpTo MOST_WORKERS workers
-IsFilesTaskInRange (Crew date days employee) = IsUpTo LONGEST_CALENDAR days × IsEmployeeNumber employee
+IsFilesTaskInRange (Crew date days layout) = IsUpTo LONGEST_CALENDAR days × IsLayoutInRange layout
 IsFilesTaskInRange (Ics date days employee) = IsUpTo LONGEST_CALENDAR days × (1 ≤ employee)
 IsFilesTaskInRange (Fill budget) = IsUpTo GREATEST_BUDGET budget
 IsFilesTaskInRange task = Unit {0}
@@ -206,7 +233,7 @@ IsInRange (Explain file) = Unit {0}
 
 -- a calendar that the task asks for ends by 9999-12-31, with all duties, and a date isn't before the roster's first day
 abbrev pub EndsInTime : FilesTask → Type 0
-EndsInTime (Crew date days employee) = FitsDates date days
+EndsInTime (Crew date days layout) = FitsDates date days
 EndsInTime (Ics date days employee) = FitsDates date days
 EndsInTime (On start date) = IsNotBefore start date
 EndsInTime task = Unit {0}

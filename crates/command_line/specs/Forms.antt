@@ -8,6 +8,14 @@ use Rattle.rwsp_text.specs.Fields.{Words, ◌>>=◌, within, done_at}
 use Rattle.crew_calendar.specs.Calendar.{Date}
 use Rattle.crew_calendar.proofs.DateWords.{date_in}
 
+-- an option: its word, the name of its number in the line of usage, the range of that, and what it usually is
+pub record Setting : Type 0 where
+  pub word : List ℕ
+  pub label : List ℕ
+  pub least : ℕ
+  pub usual : ℕ
+  pub greatest : ℕ
+
 -- what a form may have behind its word, with its name in the line of usage
 pub data Field : Type 0 where
   -- a file
@@ -18,20 +26,28 @@ pub data Field : Type 0 where
   Day : (label : List ℕ) → Field
   -- the first and the last of at most `most` numbers in a row, from 1 to the greatest
   Range : (first last : List ℕ) (greatest most : ℕ) → Field
-  -- an option: a word, and behind it a number from 1 on; without them it has the usual number. It tells too whether it
+  -- an option: a word, and behind it a number in a range; without them it has the usual number. It tells too whether it
   -- was left out
-  Setting : (word label : List ℕ) (usual greatest : ℕ) → Field
-  -- a field, or the end of the words
-  Perhaps : Field → Field
+  Optional : Setting → Field
+  -- two options, in either order
+  Options : (first second : Setting) → Field
+  -- a field, or a word, or the end of the words
+  Perhaps : Field → (word : List ℕ) → Field
 
--- what a field holds
+-- what an option holds
+abbrev pub Given : Type 0
+Given = ℕ × Bool
+
+-- what a field holds. Where a field may be left out, that is nothing, or the word that stands in its place, or what the
+-- field holds
 abbrev pub Value : Field → Type 0
 Value (File label) = List ℕ
 Value (Number label least greatest) = ℕ
 Value (Day label) = Date
 Value (Range first last greatest most) = ℕ × ℕ
-Value (Setting word label usual greatest) = ℕ × Bool
-Value (Perhaps field) = Option (Value field)
+Value (Optional setting) = Given
+Value (Options first second) = Given × Given
+Value (Perhaps field word) = Option (Option (Value field))
 
 -- what fields hold, one behind the other
 abbrev pub Values : List Field → Type 0
@@ -69,20 +85,43 @@ range_at greatest most ws =
     digits_at low.0 (min greatest (low.0 + most - 1)) low.1 >>= (λ high.
     Some ((low.0, high.0), high.1)))
 
-unfoldable pub setting_at : List ℕ → ℕ → ℕ → Words → Option ((ℕ × Bool) × Words)
-setting_at word usual greatest [] = Some ((usual, true), [])
-setting_at word usual greatest (w ∷ ws) =
-    if bytes_eq w word then option_map (λ n. ((n.0, false), n.1)) (digits_at 1 greatest ws)
+unfoldable pub setting_at : List ℕ → ℕ → ℕ → ℕ → Words → Option (Given × Words)
+setting_at word least usual greatest [] = Some ((usual, true), [])
+setting_at word least usual greatest (w ∷ ws) =
+    if bytes_eq w word then option_map (λ n. ((n.0, false), n.1)) (digits_at least greatest ws)
     else Some ((usual, true), w ∷ ws)
+
+abbrev pub given_at : Setting → Words → Option (Given × Words)
+given_at it ws = setting_at it.word it.least it.usual it.greatest ws
+
+-- an option that is there, or behind the other one
+abbrev pub or_later : Setting → Given → Words → Option (Given × Words)
+or_later it early ws = if early.1 then given_at it ws else Some (early, ws)
+
+-- the first option may be on either side of the second
+abbrev pub options_at : (first second : Setting) → Words → Option ((Given × Given) × Words)
+options_at first second ws =
+    given_at first ws >>= (λ a.
+    given_at second a.1 >>= (λ b.
+    or_later first a.0 b.1 >>= (λ c.
+    Some ((c.0, b.0), c.1))))
+
+-- whether the word is the next one, and the words without it
+abbrev pub skipped : List ℕ → Words → Bool × Words
+skipped word [] = (false, [])
+skipped word (w ∷ ws) = if bytes_eq w word then (true, ws) else (false, w ∷ ws)
 
 abbrev pub field_at : (field : Field) → Words → Option (Value field × Words)
 field_at (File label) ws = file_at ws
 field_at (Number label least greatest) ws = digits_at least greatest ws
 field_at (Day label) ws = date_at ws
 field_at (Range first last greatest most) ws = range_at greatest most ws
-field_at (Setting word label usual greatest) ws = setting_at word usual greatest ws
-field_at (Perhaps field) [] = Some (None, [])
-field_at (Perhaps field) (w ∷ ws) = option_map (λ v. (Some v.0, v.1)) (field_at field (w ∷ ws))
+field_at (Optional setting) ws = given_at setting ws
+field_at (Options first second) ws = options_at first second ws
+field_at (Perhaps field word) [] = Some (None, [])
+field_at (Perhaps field word) (w ∷ ws) =
+    if bytes_eq w word then Some (Some None, ws)
+    else option_map (λ v. (Some (Some v.0), v.1)) (field_at field (w ∷ ws))
 
 abbrev pub fields_at : {X : Type 0} → (fields : List Field) → (Values fields → X) → Words → Option (X × Words)
 fields_at [] make ws = Some (make tt, ws)
@@ -104,13 +143,17 @@ said_by forms (w ∷ ws) = named_at forms w ws >>= (λ x. done_at x.0 x.1)
 
 -- The line of usage.
 
+abbrev pub setting_text : Setting → List ℕ
+setting_text it = codes "[" ++ join_with_byte 32 (it.word ∷ it.label ∷ []) ++ codes "]"
+
 abbrev pub field_text : Field → List ℕ
 field_text (File label) = label
 field_text (Number label least greatest) = label
 field_text (Day label) = label
 field_text (Range first last greatest most) = join_with_byte 32 (first ∷ last ∷ [])
-field_text (Setting word label usual greatest) = codes "[" ++ join_with_byte 32 (word ∷ label ∷ []) ++ codes "]"
-field_text (Perhaps field) = codes "[" ++ field_text field ++ codes "]"
+field_text (Optional setting) = setting_text setting
+field_text (Options first second) = join_with_byte 32 (setting_text first ∷ setting_text second ∷ [])
+field_text (Perhaps field word) = codes "[" ++ field_text field ++ codes " | " ++ word ++ codes "]"
 
 abbrev pub form_text : {X : Type 0} → Form X → List ℕ
 form_text form = join_with_byte 32 (form.word ∷ map field_text form.fields)

@@ -39,10 +39,12 @@ pub enum Command<'a> {
 /// A task on a problem alone.
 #[derive(Clone, Copy)]
 pub enum ProblemTask {
-    /// A roster, or the log of a refutation of at most `budget` lines, which may count blocks where it says so.
+    /// A roster, looked for by the random numbers of the seed, or the log of a refutation of at most `budget` lines,
+    /// which may count blocks where it says so.
     Plan {
         budget: u32,
         counts: bool,
+        seed: u32,
     },
     /// The canonical text.
     Show,
@@ -85,11 +87,11 @@ pub enum FilesTask {
     CheckFree,
     /// Whether what `staff` wrote is right.
     CheckStaff,
-    /// The calendar of a roster from a date on, for some days: of all employees, or the duties of one.
+    /// The calendar of a roster from a date on, for some days.
     Crew {
         date: CivilDate,
         days: u32,
-        employee: Option<u32>,
+        layout: CrewLayout,
     },
     /// A page in HTML that shows a roster.
     Page,
@@ -112,6 +114,17 @@ pub enum FilesTask {
     },
     /// Whether a fill log passes.
     CheckFill,
+}
+
+/// How a calendar is laid out.
+#[derive(Clone, Copy)]
+pub enum CrewLayout {
+    /// A table of all employees.
+    Table,
+    /// The duties of one employee.
+    Duties(u32),
+    /// The table of all employees for a spreadsheet.
+    Csv,
 }
 
 /// Whether a calendar that the command asks for ends by 9999-12-31, with all duties, and a date doesn't come before the

@@ -2,9 +2,11 @@
 ghost use Rattle.std.specs.Prelude.{◌≡◌, [], IfSome};
 ghost use Rattle.rwsp_text.specs.Reads.{Reads};
 ghost use Rattle.command_line.specs.Forms.{form_at, named_at};
-ghost use Rattle.command_line.specs.Commands.{IsCommandOf, IsInRange, IsFilesTaskInRange, usage_text, forms, plan_form, check_form, files_form, show_form, trial_form, best_form, staff_form, crew_form, mend_form, fill_form, rest_form, ics_form, on_form, explain_form};
+ghost use Rattle.command_line.specs.Commands.{IsCommandOf, IsInRange, IsFilesTaskInRange, IsLayoutInRange, layout_at, usage_text, forms, plan_form, check_form, files_form, show_form, trial_form, best_form, staff_form, crew_form, mend_form, fill_form, rest_form, ics_form, on_form, explain_form};
 
-use crate::command::{Command, FilesTask, GREATEST_NUMBER, ProblemTask, USUAL_MEND_BUDGET};
+use crate::command::{
+    Command, CrewLayout, FilesTask, GREATEST_NUMBER, ProblemTask, USUAL_MEND_BUDGET,
+};
 use crate::words::Words;
 use rwsp_terms::limits::{
     GREATEST_BUDGET, GREATEST_STAFF_BUDGET, LONGEST_CALENDAR, LONGEST_REST, MOST_SIZES, MOST_WEEKS,
@@ -12,7 +14,7 @@ use rwsp_terms::limits::{
 };
 
 const USAGE: &str =
-    "usage: rwsp plan FILE [--budget B] | check FILE LOG [--workers N] | verify FILE ROSTER | reduce FILE LOG | show FILE | trial NUMBER WEEKS | best FILE [--budget B] | check-free FILE LOG | staff FILE LOW HIGH [--budget B] | check-staff FILE TEXT | crew FILE ROSTER DATE DAYS [EMPLOYEE] | mend FILE [--budget B] | fill FILE CELLS [--budget B] | check-fill FILE LOG | rest FILE MINUTES | page FILE ROSTER | ics FILE ROSTER DATE DAYS EMPLOYEE | on FILE ROSTER START DATE | roster FILE ANSWER | explain FILE";
+    "usage: rwsp plan FILE [--budget B] [--seed S] | check FILE LOG [--workers N] | verify FILE ROSTER | reduce FILE LOG | show FILE | trial NUMBER WEEKS | best FILE [--budget B] | check-free FILE LOG | staff FILE LOW HIGH [--budget B] | check-staff FILE TEXT | crew FILE ROSTER DATE DAYS [EMPLOYEE | --csv] | mend FILE [--budget B] | fill FILE CELLS [--budget B] | check-fill FILE LOG | rest FILE MINUTES | page FILE ROSTER | ics FILE ROSTER DATE DAYS EMPLOYEE | on FILE ROSTER START DATE | roster FILE ANSWER | explain FILE";
 
 /// The line that lists all forms, without its LF.
 #[tactic(auto, unfolding(crate::specs::Commands::usage_text))]
@@ -73,8 +75,18 @@ fn plan<'a>(words: &mut Words<'a>) -> Option<Command<'a>>
     ensures range { IfSome result IsInRange }
 {
     let file = words.file()?;
-    let (budget, counts) = words.setting("--budget", USUAL_BUDGET, GREATEST_BUDGET)?;
-    let task = ProblemTask::Plan { budget, counts };
+    let early = words.setting("--budget", 1, USUAL_BUDGET, GREATEST_BUDGET)?;
+    let (seed, _) = words.setting("--seed", 0, 0, GREATEST_NUMBER)?;
+    let (budget, counts) = if early.1 {
+        words.setting("--budget", 1, USUAL_BUDGET, GREATEST_BUDGET)?
+    } else {
+        early
+    };
+    let task = ProblemTask::Plan {
+        budget,
+        counts,
+        seed,
+    };
     Some(Command::OnProblem { file, task })
 }
 
@@ -84,7 +96,7 @@ fn check<'a>(words: &mut Words<'a>) -> Option<Command<'a>>
 {
     let file = words.file()?;
     let second = words.file()?;
-    let (workers, _) = words.setting("--workers", USUAL_WORKERS, MOST_WORKERS)?;
+    let (workers, _) = words.setting("--workers", 1, USUAL_WORKERS, MOST_WORKERS)?;
     let task = FilesTask::Check { workers };
     Some(Command::OnFiles { file, second, task })
 }
@@ -123,7 +135,7 @@ fn best<'a>(words: &mut Words<'a>) -> Option<Command<'a>>
     ensures range { IfSome result IsInRange }
 {
     let file = words.file()?;
-    let (budget, counts) = words.setting("--budget", USUAL_BEST_BUDGET, GREATEST_BUDGET)?;
+    let (budget, counts) = words.setting("--budget", 1, USUAL_BEST_BUDGET, GREATEST_BUDGET)?;
     let task = ProblemTask::Best { budget, counts };
     Some(Command::OnProblem { file, task })
 }
@@ -134,7 +146,7 @@ fn staff<'a>(words: &mut Words<'a>) -> Option<Command<'a>>
 {
     let file = words.file()?;
     let (low, high) = words.range(MOST_WEEKS, MOST_SIZES)?;
-    let (budget, counts) = words.setting("--budget", USUAL_STAFF_BUDGET, GREATEST_STAFF_BUDGET)?;
+    let (budget, counts) = words.setting("--budget", 1, USUAL_STAFF_BUDGET, GREATEST_STAFF_BUDGET)?;
     let task = ProblemTask::Staff {
         low,
         high,
@@ -152,17 +164,23 @@ fn crew<'a>(words: &mut Words<'a>) -> Option<Command<'a>>
     let second = words.file()?;
     let date = words.date()?;
     let days = words.number(1, LONGEST_CALENDAR)?;
-    let employee = if words.is_empty() {
-        None
-    } else {
-        Some(words.number(1, MOST_WEEKS)?)
-    };
-    let task = FilesTask::Crew {
-        date,
-        days,
-        employee,
-    };
+    let layout = crew_layout(words)?;
+    let task = FilesTask::Crew { date, days, layout };
     Some(Command::OnFiles { file, second, task })
+}
+
+// The layout that the last word asks for, where there is one.
+fn crew_layout(words: &mut Words<'_>) -> Option<CrewLayout>
+    ensures form { Reads (layout_at words.old) result words.new }
+    ensures range { IfSome result IsLayoutInRange }
+{
+    if words.is_empty() {
+        Some(CrewLayout::Table)
+    } else if words.skips("--csv") {
+        Some(CrewLayout::Csv)
+    } else {
+        Some(CrewLayout::Duties(words.number(1, MOST_WEEKS)?))
+    }
 }
 
 fn mend<'a>(words: &mut Words<'a>) -> Option<Command<'a>>
@@ -170,7 +188,7 @@ fn mend<'a>(words: &mut Words<'a>) -> Option<Command<'a>>
     ensures range { IfSome result IsInRange }
 {
     let file = words.file()?;
-    let (budget, counts) = words.setting("--budget", USUAL_MEND_BUDGET, GREATEST_BUDGET)?;
+    let (budget, counts) = words.setting("--budget", 1, USUAL_MEND_BUDGET, GREATEST_BUDGET)?;
     let task = ProblemTask::Mend { budget, counts };
     Some(Command::OnProblem { file, task })
 }
@@ -181,7 +199,7 @@ fn fill<'a>(words: &mut Words<'a>) -> Option<Command<'a>>
 {
     let file = words.file()?;
     let second = words.file()?;
-    let (budget, _) = words.setting("--budget", USUAL_BUDGET, GREATEST_BUDGET)?;
+    let (budget, _) = words.setting("--budget", 1, USUAL_BUDGET, GREATEST_BUDGET)?;
     let task = FilesTask::Fill { budget };
     Some(Command::OnFiles { file, second, task })
 }

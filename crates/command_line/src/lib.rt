@@ -6,7 +6,9 @@ mod forms;
 mod laws;
 mod words;
 
-pub use command::{Command, FilesTask, GREATEST_NUMBER, ProblemTask, is_within_horizon};
+pub use command::{
+    Command, CrewLayout, FilesTask, GREATEST_NUMBER, ProblemTask, is_within_horizon,
+};
 pub use forms::{command_of, usage};
 pub use laws::dates_are_named;
 pub use words::FileName;

@@ -4,7 +4,7 @@ ghost use Rattle.std.specs.String.{string_bytes};
 ghost use Rattle.rwsp_text.specs.Reads.{Reads};
 ghost use Rattle.rwsp_text.specs.Lines.{rest_of};
 ghost use Rattle.crew_calendar.proofs.DateWords.{date_in};
-ghost use Rattle.command_line.specs.Forms.{is_file_word, file_at, digits_at, date_at, range_at, setting_at};
+ghost use Rattle.command_line.specs.Forms.{is_file_word, file_at, digits_at, date_at, range_at, setting_at, skipped};
 
 use crew_calendar::{CivilDate, date_of};
 use rwsp_text::number;
@@ -122,13 +122,19 @@ impl<'a> Words<'a> {
         Some((low, high))
     }
 
-    /// The number behind the word, where the word is the next one; else the usual number, and all words stay. Tells too
-    /// whether the word was left out.
+    /// The number behind the word, from the least to the greatest, where the word is the next one; else the usual number,
+    /// and all words stay. Tells too whether the word was left out.
     #[tactic(auto, unfolding(crate::specs::Forms::setting_at))]
-    pub fn setting(&mut self, word: &str, usual: u32, greatest: u32) -> Option<(u32, bool)>
-        requires { (1 ≤ usual) × (usual ≤ greatest) }
-        ensures reads { Reads (setting_at word.now usual greatest self.old) result self.new }
-        ensures range { IfSome result (λ n. (1 ≤ n.0) × (n.0 ≤ greatest)) }
+    pub fn setting(
+        &mut self,
+        word: &str,
+        least: u32,
+        usual: u32,
+        greatest: u32,
+    ) -> Option<(u32, bool)>
+        requires { (least ≤ usual) × (usual ≤ greatest) }
+        ensures reads { Reads (setting_at word.now least usual greatest self.old) result self.new }
+        ensures range { IfSome result (λ n. (least ≤ n.0) × (n.0 ≤ greatest)) }
     {
         let Some(first) = self.first() else {
             return Some((usual, true));
@@ -137,8 +143,22 @@ impl<'a> Words<'a> {
             return Some((usual, true));
         }
         self.next();
-        let given = self.number(1, greatest)?;
+        let given = self.number(least, greatest)?;
         Some((given, false))
+    }
+
+    /// Whether the next word is this one, which is then skipped.
+    pub fn skips(&mut self, word: &str) -> bool
+        ensures { (result, self.new) ≡ skipped word.now self.old }
+    {
+        let is_next = match self.first() {
+            Some(first) => first == word,
+            None => false,
+        };
+        if is_next {
+            self.next();
+        }
+        is_next
     }
 
     // The next word, which stays.

@@ -1,5 +1,5 @@
 -- What is found behind given cells, and what two such answers agree in.
-use Rattle.std.proofs.Common.{◌≡◌, ℕ, List, get_or, sym, subst, ◌∙◌, refl}
+use Rattle.std.proofs.Common.{◌≡◌, ℕ, List, get_or, sym, subst, ◌∙◌}
 use Rattle.std.specs.Prelude.{Some, Contains, slice_get}
 use Rattle.std.proofs.lemmas.List.Elements.{All-contains, Contains-get_or}
 use Rattle.rwsp_terms.specs.declared.data.Symbol.{Symbol}
@@ -14,17 +14,11 @@ use Rattle.refutation_log.specs.declared.found.Found.{Found}
 use Rattle.refutation_log.specs.declared.found.Found.TheVariants.{Roster, NoRoster, Undecided}
 use Rattle.refutation_log.specs.Filled.{IsFillProof, IsFilledWith}
 use Rattle.refutation_log.proofs.CellsSpelled.{one_list, refused_gives_none}
-use Rattle.commands.specs.Plan.{IsPlanOf, PlansAgree}
+use Rattle.commands.specs.Plan.{PlansAgree}
 use Rattle.commands.specs.Fill.{IsFillAnswer, FillsAgree}
 use Rattle.commands.specs.declared.fill.Answer.{Answer as Fill}
 use Rattle.commands.specs.declared.fill.Answer.TheVariants as Fills
 use Rattle.commands.proofs.Logs.{meets_named}
-
--- what is found is the instance's
-pub filled_owned : (P : Instance) (given : List GivenCell) (budget : ℕ) (found : Found) → IsFilledWith P given budget found → IsPlanOf P found
-filled_owned P given budget (Roster s) h = (h.0, h.1.0.is_roster)
-filled_owned P given budget (NoRoster g) h = h.passes
-filled_owned P given budget (Undecided g) h = h.spent.grounded.fits
 
 -- a roster that holds the given cells and a refutation that names no others exclude each other
 

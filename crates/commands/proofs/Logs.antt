@@ -14,12 +14,13 @@ use Rattle.refutation_terms.specs.declared.lines.LogRefusal.{LogRefusal}
 use Rattle.refutation_terms.specs.Log.{Log, Fits, GoalFits, Passes}
 use Rattle.refutation_terms.specs.LogText.{log_text}
 use Rattle.refutation_terms.specs.Strip.{IsReduced}
-use Rattle.refutation_terms.specs.Verdict.{kind_by, kind_of_log, IsRefused, IsVerdict}
+use Rattle.refutation_terms.specs.Verdict.{kind_by, kind_of_log, IsVerdict}
 use Rattle.refutation_terms.proofs.Sound.{passing_leaves_none}
 use Rattle.refutation_terms.proofs.LogKinds.{plain_leaves_none}
 use Rattle.refutation_terms.proofs.Named.{named-IsRule}
 use Rattle.refutation_terms.proofs.Unique.{verdict_unique}
-use Rattle.refutation_log.proofs.OneText.{has_names, is_writable}
+use Rattle.refutation_log.proofs.LineTexts.{is_writable}
+use Rattle.refutation_log.proofs.OneText.{has_names}
 use Rattle.refutation_log.specs.Planned.{IsPlanned}
 use Rattle.refutation_checker.specs.Accepted.{shown_by, IsPassedText}
 use Rattle.refutation_checker.specs.declared.verdict.PassedLog.{PassedLog}
@@ -79,11 +80,6 @@ not_both_ways : (P : Instance) (kind : LogKind) (bytes : List ℕ) (g : Log) (wh
 not_both_ways P kind bytes g why limits a r =
     let both : Ok g ≡ Err why = one_verdict P kind bytes (Ok g) (Err why) limits a r in
     absurd (cc)
-
--- a log that passes isn't refused
-pub passing_is_not_refused : (P : Instance) (g : Log) (why : LogRefusal) → KeepsLimits P → Passes P g → IsRefused P (kind_of_log g) (log_text P g) why → ⊥
-passing_is_not_refused P g why limits passes refused =
-    not_both_ways P (kind_of_log g) (log_text P g) g why limits (record { of_kind = refl; is_text = refl; passes = passes }) refused
 
 pub one_checked : (P : Instance) (kind : LogKind) (bytes : List ℕ) (a b : Checked) → KeepsLimits P → IsChecked P kind bytes a → IsChecked P kind bytes b → a ≡ b
 one_checked P kind bytes (Checks.Accepted p) (Checks.Accepted q) limits h k =

@@ -35,7 +35,8 @@ use Rattle.refutation_terms.specs.Verdict.{kind_of_log}
 use Rattle.refutation_terms.proofs.Fronts.{texts_distinct}
 use Rattle.refutation_log.specs.ReadLog.{IsReadAs, IsUnread}
 use Rattle.refutation_log.proofs.OneCause.{texts_read}
-use Rattle.refutation_log.proofs.OneText.{is_writable, has_names}
+use Rattle.refutation_log.proofs.LineTexts.{is_writable}
+use Rattle.refutation_log.proofs.OneText.{has_names}
 use Rattle.commands.specs.ReadBest.{IsFreeLog, IsBestWith, AreBestParts, free_line, left_behind, lines_len}
 use Rattle.commands.proofs.Logs.{with_goal}
 

@@ -1,5 +1,5 @@
 -- What `crew` answers.
-use Rattle.std.specs.Prelude.{◌≡◌, ℕ, ◌<◌, ◌≤◌, List, [], ◌∷◌, ◌++◌, codes, Option, Some, None, ◌==◌, ◌&&◌, not, if◌then◌else◌}
+use Rattle.std.specs.Prelude.{◌≡◌, ℕ, ◌<◌, ◌≤◌, List, [], ◌∷◌, ◌++◌, codes, ◌==◌, ◌&&◌, not, if◌then◌else◌}
 use Rattle.std.specs.Fmt.{decimal}
 use Rattle.std.specs.Str.{bytes_eq}
 use Rattle.rwsp_terms.specs.Instance.{Instance}
@@ -9,6 +9,9 @@ use Rattle.rwsp_terms.specs.declared.limits.TheConstants.{DAYS_OF_WEEK}
 use Rattle.roster_print.specs.RosterText.{SpellsRoster}
 use Rattle.crew_calendar.specs.Calendar.{Date, date_text, weekday_text}
 use Rattle.crew_calendar.specs.Texts.{IsTable, AreDuties}
+use Rattle.crew_calendar.specs.Sheet.{IsSheet}
+use Rattle.command_line.specs.declared.command.CrewLayout.{CrewLayout}
+use Rattle.command_line.specs.declared.command.CrewLayout.TheVariants.{Table, Duties, Csv}
 use Rattle.plain_words.specs.Statements.{Statement, Says, Headed, told_lines}
 use Rattle.plain_words.specs.declared.pieces.TheConstants.{NO_EMPLOYEE, NO_MONDAY}
 use Rattle.plain_words.specs.declared.part.Part.TheVariants.{Number}
@@ -18,26 +21,27 @@ use Rattle.commands.specs.declared.crew.Answer.{Answer}
 use Rattle.commands.specs.declared.crew.Answer.TheVariants.{Shown, NoEmployee, Fails}
 
 -- the text is the calendar of a roster from a date on, for some days: of all employees, or the duties of one
-abbrev pub IsCalendarFor : Option ℕ → Instance → List Symbol → Date → ℕ → List ℕ → Type 0
-IsCalendarFor None P s date days text = IsTable P s date days text
-IsCalendarFor (Some e) P s date days text = AreDuties P s date days e text
+abbrev pub IsCalendarFor : CrewLayout → Instance → List Symbol → Date → ℕ → List ℕ → Type 0
+IsCalendarFor Table P s date days text = IsTable P s date days text
+IsCalendarFor (Duties e) P s date days text = AreDuties P s date days e text
+IsCalendarFor Csv P s date days text = IsSheet P s date days text
 
 -- the text is such a calendar of the roster that the bytes spell, which meets every rule
-abbrev pub IsCalendarOf : Option ℕ → Instance → List ℕ → Date → ℕ → List ℕ → Type 0
-IsCalendarOf employee P bytes date days text =
-    (s : List Symbol) × SpellsRoster P bytes s × MeetsAll P s × IsCalendarFor employee P s date days text
+abbrev pub IsCalendarOf : CrewLayout → Instance → List ℕ → Date → ℕ → List ℕ → Type 0
+IsCalendarOf layout P bytes date days text =
+    (s : List Symbol) × SpellsRoster P bytes s × MeetsAll P s × IsCalendarFor layout P s date days text
 
 -- the instance has the employee, where one is asked for
-abbrev pub HasEmployee : Instance → Option ℕ → Type 0
-HasEmployee P None = Unit {0}
-HasEmployee P (Some e) = e ≤ P.weeks
+abbrev pub HasEmployee : Instance → CrewLayout → Type 0
+HasEmployee P (Duties e) = e ≤ P.weeks
+HasEmployee P layout = Unit {0}
 
 -- what an answer says of the bytes of a roster
-abbrev pub IsCrewAnswer : Instance → List ℕ → Date → ℕ → Option ℕ → Answer → Type 0
-IsCrewAnswer P bytes date days employee (Shown text from) =
-    (from ≡ date) × HasEmployee P employee × IsCalendarOf employee P bytes date days text
-IsCrewAnswer P bytes date days employee (NoEmployee e) = SpellsRight P bytes × (employee ≡ Some e) × (P.weeks < e)
-IsCrewAnswer P bytes date days employee (Fails fault) = IsRosterFault P bytes fault
+abbrev pub IsCrewAnswer : Instance → List ℕ → Date → ℕ → CrewLayout → Answer → Type 0
+IsCrewAnswer P bytes date days layout (Shown text from) =
+    (from ≡ date) × HasEmployee P layout × IsCalendarOf layout P bytes date days text
+IsCrewAnswer P bytes date days layout (NoEmployee e) = SpellsRight P bytes × (layout ≡ Duties e) × (P.weeks < e)
+IsCrewAnswer P bytes date days layout (Fails fault) = IsRosterFault P bytes fault
 
 abbrev pub crew_text : Instance → Answer → List ℕ
 crew_text P (Shown text date) = text

@@ -18,7 +18,7 @@ use Rattle.commands.specs.declared.problem_file.ProblemRefusal.TheVariants.{TooL
 abbrev pub IsShortFile : List ℕ → Type 0
 IsShortFile file = length file ≤ LONGEST_FILE
 
--- one that is
+-- a problem's file that is too long
 abbrev pub IsLongFile : List ℕ → Type 0
 IsLongFile file = LONGEST_FILE < length file
 

@@ -1,9 +1,10 @@
 -- What `rest` answers.
-use Rattle.std.specs.Prelude.{◌≡◌, ℕ, List, [], ◌++◌, codes, ◌∷◌, length}
+use Rattle.std.specs.Prelude.{◌≡◌, ℕ, List, [], ◌++◌, codes, ◌∷◌}
 use Rattle.std.specs.Fmt.{decimal}
 use Rattle.rwsp_terms.specs.Instance.{Instance}
 use Rattle.rwsp_terms.specs.Roster.{MeetsAll}
 use Rattle.rwsp_terms.specs.declared.data.Symbol.{Symbol}
+use Rattle.rwsp_model.specs.Sequences.{pair_count, triple_count}
 use Rattle.rwsp_file.specs.Spelling.{SpellsProblem}
 use Rattle.rwsp_file.specs.Text.{problem_text}
 use Rattle.made_problems.specs.Rested.{HasRest}
@@ -35,7 +36,7 @@ IsRestAnswer P minutes answer = IsRestOf P minutes answer × IsPromised P minute
 
 -- how many sequences are forbidden, or would be
 abbrev pub rest_statement : LeastRest → Statement
-rest_statement (Rested Q) = Says REST_FORBIDS.now (Part.Pairs (length Q.pairs) ∷ Part.Triples (length Q.triples) ∷ [])
+rest_statement (Rested Q) = Says REST_FORBIDS.now (Part.Pairs (pair_count Q) ∷ Part.Triples (triple_count Q) ∷ [])
 rest_statement (Pairs n) = Says TOO_MANY_PAIRS.now (Part.Number n ∷ [])
 rest_statement (Triples n) = Says TOO_MANY_TRIPLES.now (Part.Number n ∷ [])
 

@@ -61,7 +61,7 @@ IsVerifiedOf P (Fails fault) = IsFaultOf P fault
 abbrev pub breach_statement : Instance → BrokenRoster → Statement
 breach_statement P breach = broken_statement P breach.roster.cells breach.broken
 
--- and of any fault
+-- what is said of a roster that is refused or breaks a rule
 abbrev pub fault_statement : Instance → RosterFault → Statement
 fault_statement P (Refused why) = roster_refusal_statement why
 fault_statement P (Breaks breach) = breach_statement P breach

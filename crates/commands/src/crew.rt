@@ -3,7 +3,7 @@ ghost use Rattle.std.specs.Prelude.{◌≡◌, ◌∷◌, ◌++◌, ◌≤◌, [
 ghost use Rattle.std.specs.Fmt.{decimal};
 ghost use Rattle.crew_calendar.specs.Calendar.{FitsDates};
 ghost use Rattle.plain_words.specs.Statements.{told_lines};
-ghost use Rattle.command_line.specs.Commands.{IsEmployeeNumber};
+ghost use Rattle.command_line.specs.Commands.{IsLayoutInRange};
 ghost use Rattle.commands.specs.Lines.{line};
 ghost use Rattle.commands.specs.Files.{IsWithinLimit};
 ghost use Rattle.commands.specs.declared.second_file.SecondKind.TheVariants as Kinds;
@@ -12,7 +12,8 @@ ghost use Rattle.commands.specs.Crew.{IsCrewAnswer, IsCrewAnswerOf, IsCrewTold, 
 use crate::telling::one_told;
 use crate::text::Text;
 use crate::verify::{RosterFault, fault_line, fault_status, fault_told, right_roster};
-use crew_calendar::{CivilDate, crew_table, duties, put_date, put_weekday};
+use command_line::CrewLayout;
+use crew_calendar::{CivilDate, crew_sheet, crew_table, duties, put_date, put_weekday};
 use plain_words::pieces::{NO_EMPLOYEE, NO_MONDAY};
 use plain_words::{Part, put_headed_told};
 use rwsp_model::Problem;
@@ -23,7 +24,8 @@ use std::alloc::{AllocError, Global};
 /// The calendar of a roster, or why there is none.
 #[derive(Drop)]
 pub enum Answer {
-    /// The roster meets every rule: a table of all employees, or the duties of one, from a date on.
+    /// The roster meets every rule: a table of all employees, also one for a spreadsheet, or the duties of one, from a
+    /// date on.
     Shown(Text, CivilDate),
     /// The problem has no employee with this number.
     NoEmployee(u32),
@@ -38,27 +40,31 @@ pub fn job(
     bytes: &[u8],
     date: CivilDate,
     days: u32,
-    employee: Option<u32>,
+    layout: CrewLayout,
 ) -> Result<Answer, AllocError>
     requires short { IsWithinLimit Kinds.Roster bytes.now }
     requires days { days ≤ LONGEST_CALENDAR }
-    requires employee { IsEmployeeNumber employee }
+    requires layout { IsLayoutInRange layout }
     requires fits { FitsDates date days }
-    ensures says { IfOk result (IsCrewAnswer problem.now bytes.now date days employee) }
+    ensures says { IfOk result (IsCrewAnswer problem.now bytes.now date days layout) }
     ensures own { IfOk result (IsCrewAnswerOf problem.now) }
 {
     let roster = match right_roster(alloc, problem, bytes)? {
         Ok(roster) => roster,
         Err(fault) => return Ok(Answer::Fails(fault)),
     };
-    match employee {
-        Some(number) if number > problem.weeks() => Ok(Answer::NoEmployee(number)),
-        Some(number) => {
+    match layout {
+        CrewLayout::Duties(number) if number > problem.weeks() => Ok(Answer::NoEmployee(number)),
+        CrewLayout::Duties(number) => {
             let text = duties(alloc, problem, &roster, date, days, number)?;
             Ok(Answer::Shown(Text::of(text), date))
         }
-        None => {
+        CrewLayout::Table => {
             let text = crew_table(alloc, problem, &roster, date, days)?;
+            Ok(Answer::Shown(Text::of(text), date))
+        }
+        CrewLayout::Csv => {
+            let text = crew_sheet(alloc, problem, &roster, date, days)?;
             Ok(Answer::Shown(Text::of(text), date))
         }
     }

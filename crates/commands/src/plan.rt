@@ -22,19 +22,20 @@ use std::thread::Threads;
 /// The most lines of a log that is reduced before it is told.
 pub const MOST_LINES_REDUCED: u32 = 2_000;
 
-/// The plan of the problem with this effort.
+/// The plan of the problem with this effort, and the random numbers of the seed.
 pub fn job<R: Threads + Sync, G: Gate>(
     rt: &R,
     alloc: Global,
     problem: &Problem,
     effort: Effort,
+    seed: u32,
     gate: &G,
 ) -> Result<Found, AllocError>
     requires { (1 ≤ effort.budget) × (effort.budget ≤ GREATEST_BUDGET) }
     ensures found { IfOk result (IsPlanAnswer problem.now effort.budget effort.counts) }
     ensures own { IfOk result (IsPlanOf problem.now) }
 {
-    plan_roster(rt, alloc, problem, effort, gate)
+    plan_roster(rt, alloc, problem, effort, seed, gate)
 }
 
 /// The text of a plan: a roster, or a log.

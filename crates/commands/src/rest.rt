@@ -1,5 +1,5 @@
 // The problem with a least rest between shifts.
-ghost use Rattle.std.specs.Prelude.{◌≡◌, ◌++◌, ◌≤◌, IfOk, codes};
+ghost use Rattle.std.specs.Prelude.{◌≡◌, ◌++◌, ◌≤◌, IfOk};
 ghost use Rattle.std.specs.Fmt.{decimal};
 ghost use Rattle.commands.specs.Lines.{line};
 ghost use Rattle.commands.specs.Rest.{IsRestTold, IsRestAnswer, rest_text, rest_status};
@@ -9,7 +9,7 @@ use made_problems::{LeastRest, require_rest, rosters_rest};
 use plain_words::Part;
 use plain_words::pieces::{REST_FORBIDS, TOO_MANY_PAIRS, TOO_MANY_TRIPLES};
 use rwsp_file::{canonical_texts_spell, print_problem};
-use rwsp_model::Problem;
+use rwsp_model::{Problem, count_in};
 use rwsp_terms::limits::LONGEST_REST;
 use rwsp_text::put_labelled;
 use std::alloc::{AllocError, Global};
@@ -55,8 +55,8 @@ pub fn told(alloc: Global, problem: &Problem, answer: &LeastRest) -> Result<Vec<
 {
     match answer {
         LeastRest::Rested(rested) => {
-            let pairs = Part::Pairs(rested.pairs().len() as u64);
-            let triples = Part::Triples(rested.triples().len() as u64);
+            let pairs = Part::Pairs(count_in(2, rested.sequences()) as u64);
+            let triples = Part::Triples(count_in(3, rested.sequences()) as u64);
             one_told(alloc, problem, REST_FORBIDS, &[pairs, triples])
         }
         LeastRest::Pairs(n) => one_told(alloc, problem, TOO_MANY_PAIRS, &[Part::Number(*n)]),

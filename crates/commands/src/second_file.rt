@@ -1,5 +1,5 @@
 // The second file of a command.
-ghost use Rattle.std.specs.Prelude.{◌≡◌, ℕ, ◌≤◌, List, IfOk, IfErr, MatchOption};
+ghost use Rattle.std.specs.Prelude.{◌≡◌, ◌≤◌, IfOk, IfErr, MatchOption};
 ghost use Rattle.std.specs.String.{string_bytes};
 ghost use Rattle.rwsp_io.specs.Told.{NeverFall, Rose};
 ghost use Rattle.commands.specs.Files.{WhereTold, IsSecond, IsTooLong, IsStop, longest, too_long_line};

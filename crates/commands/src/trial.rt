@@ -71,5 +71,5 @@ fn tried<R: Threads + Sync, G: Gate>(
         budget: TRIAL_BUDGET,
         counts: false,
     };
-    plan_roster(rt, alloc, problem, effort, gate)
+    plan_roster(rt, alloc, problem, effort, 0, gate)
 }

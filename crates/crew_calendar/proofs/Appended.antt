@@ -1,16 +1,15 @@
 -- What is appended, piece by piece.
-use Rattle.std.proofs.Common.{◌≡◌, ℕ, zero, suc, ◌+◌, ◌-◌, ◌<◌, ◌≤◌, List, [], ◌∷◌, ◌++◌, length, refl, ap, sym, ◌∙◌, arith, append_assoc}
-use Rattle.std.specs.Prelude.{Option, Some, None, option_map, Result, Ok, Err, OnOk}
+use Rattle.std.proofs.Common.{◌≡◌, ℕ, zero, suc, ◌+◌, ◌-◌, ◌<◌, ◌≤◌, List, [], ◌∷◌, ◌++◌, refl, ap, sym, ◌∙◌, arith, append_assoc}
+use Rattle.std.specs.Prelude.{Result, Ok, Err, OnOk}
 use Rattle.std.specs.List.{flat_map, range_with_len}
 use Rattle.std.proofs.lemmas.List.{flat_map_more}
 use Rattle.std.specs.declared.alloc.AllocError.{AllocError}
 use Rattle.rwsp_terms.specs.Instance.{Instance}
-use Rattle.rwsp_terms.specs.declared.data.ShiftRow.{ShiftRow}
 use Rattle.rwsp_terms.specs.declared.data.Symbol.{Symbol}
 use Rattle.rwsp_terms.proofs.Counting.{range_more}
 use Rattle.crew_calendar.specs.Calendar.{Date, OnCalendar}
 use Rattle.crew_calendar.specs.Crew.{symbol_on}
-use Rattle.crew_calendar.specs.Texts.{start_in, length_in, shift_line, duty_line_of, duty_line}
+use Rattle.crew_calendar.specs.Texts.{shift_line, duty_line_of, duty_line}
 
 -- one piece more
 pub piece_more : (f : ℕ → List ℕ) (a n : ℕ) (old out new : List ℕ) → out ≡ old ++ flat_map f (range_with_len a n) → new ≡ out ++ f (a + n) → new ≡ old ++ flat_map f (range_with_len a (n + 1))
@@ -32,15 +31,6 @@ pub day_more : (f : ℕ → List ℕ) (t : ℕ) (out new : List ℕ) → out ≡
 day_more f t out new before step =
     let here : t ≡ 0 + t = omega arith in
     piece_more f 0 t [] out new before (step ∙ ap (λ k. out ++ f k) here)
-
--- the start and the length of a shift, by its row
-pub start_is : (row : Option ShiftRow) (start : ℕ) → option_map (λ r. r.start) row ≡ Some start → start ≡ start_in row
-start_is None start h = absurd (cc)
-start_is (Some row) start h = cc
-
-pub length_is : (row : Option ShiftRow) (length : ℕ) → option_map (λ r. r.length) row ≡ Some length → length ≡ length_in row
-length_is None length h = absurd (cc)
-length_is (Some row) length h = cc
 
 -- a date, a blank and a time of day are a moment
 pub moment_joined : (old date out mid clock new : List ℕ) → out ≡ old ++ date → mid ≡ out ++ 32 ∷ [] → new ≡ mid ++ clock → new ≡ old ++ (date ++ 32 ∷ clock)

@@ -1,11 +1,11 @@
 -- Words that name dates.
-use Rattle.std.proofs.Common.{◌≡◌, ℕ, ℤ, pos, negsuc, neg_ℤ, ◌+◌, ◌-◌, List, [], ◌∷◌, Result, Ok, Err, Option, Some, None, Bool, true, false, cond, refl, ap, sym, subst, ◌∙◌, arith, rules}
+use Rattle.std.proofs.Common.{◌≡◌, ℕ, ℤ, pos, negsuc, neg_ℤ, ◌+◌, ◌-◌, List, Result, Ok, Err, Option, Some, None, Bool, true, false, cond, refl, ap, sym, subst, ◌∙◌, arith, rules}
 use Rattle.std.specs.Prelude.{◌<ℤ◌, ◌≤ℤ◌, ◌&&◌}
-use Rattle.std.proofs.lemmas.Bool.Decides.{nat_tests}
 use Rattle.std.proofs.lemmas.Int.{ints}
 use Rattle.std.proofs.lemmas.Slice.Eq.{bytes_eq-Decides}
 use borrow.Author.Differences.{up, down}
 use Rattle.std.specs.Str.{bytes_eq}
+use Rattle.rwsp_text.proofs.Words.{bytes_same}
 use Rattle.jiff_core.specs.declared.error.Error.{Error}
 use Rattle.jiff_core.proofs.SignedLemmas.{signed_arith}
 use Rattle.jiff_core.proofs.DateLemmas.{epoch_day_same}
@@ -21,11 +21,6 @@ use Rattle.crew_calendar.proofs.Calendars.{later_or_same}
 -- dates of the same parts are one
 pub same_parts : (a b : Date) → a.year ≡ b.year → a.month ≡ b.month → a.day ≡ b.day → a ≡ b
 same_parts a b years months days = same_date a b (epoch_day_same a b years months days)
-
--- a text is the same as itself
-pub text_same : (xs : List ℕ) → bytes_eq xs xs ≡ true
-text_same [] = refl
-text_same (x ∷ xs) = let more = text_same xs in grind (arith, nat_tests)
 
 -- a word that names a date is read as a date
 pub word_is_read : (word : List ℕ) (why : Error) (date : Date) → Err why ≡ parse_date word → IsDateWord word date → ⊥
@@ -114,7 +109,7 @@ date_only word date names =
     let parts : parse_date word ≡ Ok (date_parts date) = ap parse_date names.1 ∙ parse_date-date_text date in
     let here = date_on (epoch_day date) in
     let one : here.0 ≡ date = same_date here.0 date (here.1 (epoch_day_range date)) in
-    let same : bytes_eq word (date_text date) ≡ true = ap (λ w. bytes_eq w (date_text date)) names.1 ∙ text_same (date_text date) in
+    let same : bytes_eq word (date_text date) ≡ true = ap (λ w. bytes_eq w (date_text date)) names.1 ∙ bytes_same (date_text date) in
     ap (λ r. named_by word (date_of_parts r)) parts ∙ ap (named_by word) one
     ∙ ap (λ b. cond (b && bytes_eq word (date_text date)) (Some date) None) (civil_only date.year names.0.0)
     ∙ ap (λ b. cond b (Some date) None) same

@@ -75,11 +75,6 @@ event_put P s e t days first x old new (Err why) is some h = tt
 event_put P s e t days first x old new (Ok u) is some h = λ on calendar.
     h on calendar ∙ ap (λ ls. old ++ content_text ls) (shift_events P first on e t x.number some ∙ ap (λ (y : Symbol). duty_events P first on e t y.number) is)
 
--- no event on a day off
-pub no_event : (P : Instance) (s : List Symbol) (e t : ℕ) (first : Date) (on : ℕ → Date) (old : List ℕ) → (symbol_on P s e t).number ≡ 0 → old ≡ old ++ content_text (events_on P s first on e t)
-no_event P s e t first on old off =
-    sym (ap (λ n. old ++ content_text (duty_events P first on e t n)) off ∙ append-nil old)
-
 -- one day more
 pub days_more : (f : ℕ → List (List ℕ)) (head : List (List ℕ)) (t : ℕ) (out new : List ℕ) → out ≡ content_text (head ++ flat_map f (range_with_len 0 t)) → new ≡ out ++ content_text (f t) → new ≡ content_text (head ++ flat_map f (range_with_len 0 (t + 1)))
 days_more f head t out new before step =

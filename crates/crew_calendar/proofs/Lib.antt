@@ -11,3 +11,5 @@ pub mod OneEvents
 pub mod ReadBack
 pub mod EventsRead
 pub mod ReadDates
+pub mod CsvRead
+pub mod Sheets

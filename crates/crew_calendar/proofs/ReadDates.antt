@@ -250,7 +250,7 @@ order_one k j (suc x) h =
 abbrev has_symbol : Instance → List Symbol → (t x e : ℕ) → Bool
 has_symbol P s t x e = (symbol_on P s e t).number == x
 
-abbrev day_words : Instance → List Symbol → (ℕ → Date) → ℕ → Words
+abbrev pub day_words : Instance → List Symbol → (ℕ → Date) → ℕ → Words
 day_words P s on t = date_text (on t) ∷ map (λ e. name_of P (symbol_on P s e t)) (employees P)
 
 abbrev symbol_words : Instance → List Symbol → (t x : ℕ) → Words
@@ -288,7 +288,7 @@ symbol_fits P s t limits x = (
   (name_seen P.shifts x limits.names, numbers_seen (has_symbol P s t x) 1 P.weeks (few_employees P limits)),
 )
 
-table_lines : (P : Instance) (s : List Symbol) (on : ℕ → Date) (days : ℕ) → KeepsLimits P → lines_read (table_text P s on days) ≡ map (day_words P s on) (range_with_len 0 days) ++ ([] ∷ []) ∷ []
+pub table_lines : (P : Instance) (s : List Symbol) (on : ℕ → Date) (days : ℕ) → KeepsLimits P → lines_read (table_text P s on days) ≡ map (day_words P s on) (range_with_len 0 days) ++ ([] ∷ []) ∷ []
 table_lines P s on days limits =
     ap lines_read (lines_mapped (day_line P s on) (day_words P s on) (range_with_len 0 days) (day_is P s on))
     ∙ lines_again (map (day_words P s on) (range_with_len 0 days)) (lines_are (day_words P s on) (range_with_len 0 days) (day_fits P s on limits))

@@ -57,11 +57,6 @@ is_staffed P s some days meets t x known =
     let same = sym (crew-weeks P s t x some days meets.is_roster.long) in
     (subst (λ c. least P x (weekday P t) ≤ℤ pos c) same met.0, subst (λ c. pos c ≤ℤ greatest P x (weekday P t)) same met.1)
 
--- where there are cells there are days and weeks
-pub some_days : (weeks days : ℕ) → 0 < weeks * days → 0 < days
-some_days weeks zero h = absurd (omega (arith, h))
-some_days weeks (suc days) h = omega arith
-
 pub some_cells : (weeks days : ℕ) → 1 ≤ weeks → 1 ≤ days → 0 < weeks * days
 some_cells zero days h k = absurd (omega (arith, h))
 some_cells (suc weeks) days h k = omega (arith, k)

@@ -1,10 +1,10 @@
 -- What is written byte by byte.
-use Rattle.std.proofs.Common.{◌≡◌, ℕ, ◌+◌, ◌-◌, ◌<◌, ◌≤◌, List, [], ◌∷◌, ◌++◌, length, drop, get_or, Bool, true, false, cond, refl, ap, sym, ◌∙◌, arith, append_assoc}
-use Rattle.std.specs.Prelude.{slice_range, nat_le}
+use Rattle.std.proofs.Common.{◌≡◌, ℕ, ◌+◌, ◌<◌, ◌≤◌, List, [], ◌∷◌, ◌++◌, length, drop, get_or, Bool, true, false, cond, refl, ap, sym, ◌∙◌, arith, append_assoc}
+use Rattle.std.specs.Prelude.{nat_le}
 use Rattle.std.specs.List.{flat_map}
 use Rattle.std.proofs.Math.Numerals.{add-one}
 use Rattle.std.proofs.Math.Seq.{drop-cons}
-use Rattle.std.proofs.lemmas.List.{append-nil, drop_all, take_all, length-drop}
+use Rattle.std.proofs.lemmas.List.{append-nil, drop_all}
 use Rattle.std.proofs.lemmas.Bool.{le-leb, leb-true}
 use Rattle.crew_calendar.specs.declared.content_lines.TheConstants.{LONGEST_ROW}
 use Rattle.crew_calendar.specs.ContentLines.{width, has_room, folded_from}
@@ -12,9 +12,6 @@ use Rattle.crew_calendar.specs.ContentLines.{width, has_room, folded_from}
 -- what is behind an index begins with the element there
 drop-at : (l : List ℕ) (i : ℕ) → i < length l → drop i l ≡ get_or l i 0 ∷ drop (i + 1) l
 drop-at l i less = rw add-one (drop-cons l i 0 less)
-
-range-end : (l : List ℕ) (i : ℕ) → slice_range l i (length l) ≡ drop i l
-range-end l i = take_all (length l - i) (drop i l) (omega (arith, length-drop i l))
 
 -- one piece more
 put_one : (old one rest new : List ℕ) → new ≡ old ++ one → old ++ (one ++ rest) ≡ new ++ rest

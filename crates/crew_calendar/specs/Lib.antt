@@ -8,3 +8,5 @@ pub mod ReadDates
 pub mod ContentLines
 pub mod Events
 pub mod ReadEvents
+pub mod Csv
+pub mod Sheet

@@ -1,5 +1,5 @@
 // The duties of an employee.
-ghost use Rattle.std.specs.Prelude.{◌≡◌, ◌++◌, ◌∷◌, [], ◌+◌, ◌*◌, ◌/◌, ◌%◌, ◌<◌, ◌≤◌, IfOk, OnOk};
+ghost use Rattle.std.specs.Prelude.{◌≡◌, ◌++◌, ◌+◌, ◌*◌, ◌/◌, ◌%◌, ◌<◌, ◌≤◌, IfOk, OnOk};
 ghost use Rattle.rwsp_terms.specs.Instance.{IsShift};
 ghost use Rattle.rwsp_terms.specs.Roster.{IsRoster};
 ghost use Rattle.crew_calendar.specs.Crew.{IsEmployee};

@@ -1,12 +1,12 @@
 // An employee's duties as an iCalendar (RFC 5545).
 ghost use Rattle.std.specs.Prelude.{◌≡◌, ◌++◌, ◌∷◌, [], ◌+◌, ◌*◌, ◌/◌, ◌%◌, ◌<◌, ◌≤◌, IfOk, OnOk, MatchBool};
-ghost use Rattle.rwsp_terms.specs.Instance.{IsShift, IsSymbol, name_of};
+ghost use Rattle.rwsp_terms.specs.Instance.{IsShift};
 ghost use Rattle.rwsp_terms.specs.Roster.{IsRoster};
 ghost use Rattle.crew_calendar.specs.Crew.{IsEmployee};
 ghost use Rattle.crew_calendar.specs.Calendar.{FitsDates, IsWithinDates, OnCalendar};
 ghost use Rattle.crew_calendar.specs.Texts.{day_minutes, start_of, length_of};
 ghost use Rattle.crew_calendar.specs.ContentLines.{content_text};
-ghost use Rattle.crew_calendar.specs.Events.{compact_date, compact_moment, moment_at, uid_line, stamp_line, start_line, end_line, summary_line, opening_lines, closing_lines, time_lines, event_lines, events_on, first_lines, AreEvents, HasNoDuty, HasDuty};
+ghost use Rattle.crew_calendar.specs.Events.{compact_date, compact_moment, moment_at, uid_line, stamp_line, summary_line, opening_lines, closing_lines, time_lines, event_lines, events_on, first_lines, AreEvents, HasNoDuty, HasDuty};
 
 use crate::content_lines::{put_content_line, put_escaped};
 use crate::duty_lines::{length_of, put_two_digits, start_of};

@@ -4,6 +4,8 @@ ghost use Rattle.crew_calendar.specs.OnDate.{DatesHaveOneText};
 ghost use Rattle.crew_calendar.specs.ReadDates.{DatesAreAsInTables};
 ghost use Rattle.crew_calendar.specs.ContentLines.{LinesAreReadBack, TextsAreReadBack, RowsAreShort, CharactersStayWhole};
 ghost use Rattle.crew_calendar.specs.ReadEvents.{EventsAreReadBack, DutiesAreListed};
+ghost use Rattle.crew_calendar.specs.Csv.{RecordsAreReadBack};
+ghost use Rattle.crew_calendar.specs.Sheet.{SheetsAreOne, SheetsAreReadBack, SheetsAreAsTables};
 ghost use Rattle.crew_calendar.specs.Laws.{TablesAreOne, DutiesAreOne, EventsAreOne, WordsNameOneDate};
 
 /// Where a roster meets all rules, on each day at least as many employees as the least demand and at most as many as
@@ -86,4 +88,24 @@ pub fn events_are_read_back()
 /// The text of an employee's duties is a line for each of them.
 pub fn duties_are_listed()
     ensures { DutiesAreListed }
+{}
+
+/// Records are read back from how they are written.
+pub fn records_are_read_back()
+    ensures { RecordsAreReadBack }
+{}
+
+/// A sheet has one text.
+pub fn sheets_are_one()
+    ensures { SheetsAreOne }
+{}
+
+/// The records of a sheet, read back from its text, are its head and its days.
+pub fn sheets_are_read_back()
+    ensures { SheetsAreReadBack }
+{}
+
+/// The days of a sheet, read back from its text, have the cells of the table of the same days, read back from its own.
+pub fn sheets_are_as_tables()
+    ensures { SheetsAreAsTables }
 {}

@@ -3,6 +3,7 @@
 
 mod civil_date;
 mod content_lines;
+mod csv;
 mod dates;
 mod duty_lines;
 mod events;
@@ -10,6 +11,7 @@ mod laws;
 mod lines;
 mod on_date;
 mod places;
+mod sheet;
 
 pub use civil_date::CivilDate;
 pub use content_lines::{LONGEST_ROW, put_content_line, put_escaped};
@@ -23,8 +25,10 @@ pub use laws::{
     characters_stay_whole, dates_are_as_in_tables, dates_have_one_text, demand_is_met_daily,
     duties_are_listed, duties_are_one, employees_follow_the_cycle, employees_go_round,
     employees_keep_the_rules, events_are_one, events_are_read_back, lines_are_read_back,
-    rows_are_short, tables_are_one, texts_are_read_back, words_name_one_date,
+    records_are_read_back, rows_are_short, sheets_are_as_tables, sheets_are_one,
+    sheets_are_read_back, tables_are_one, texts_are_read_back, words_name_one_date,
 };
 pub use lines::crew_table;
 pub use on_date::who_works;
 pub use places::place;
+pub use sheet::crew_sheet;

@@ -1,9 +1,9 @@
 // Who works on one date.
-ghost use Rattle.std.specs.Prelude.{◌≡◌, ◌++◌, ◌∷◌, [], ◌≤◌, IfOk, OnOk};
-ghost use Rattle.rwsp_terms.specs.Instance.{IsSymbol, shift_count};
+ghost use Rattle.std.specs.Prelude.{◌≡◌, ◌++◌, ◌≤◌, IfOk, OnOk};
+ghost use Rattle.rwsp_terms.specs.Instance.{shift_count};
 ghost use Rattle.rwsp_terms.specs.Roster.{IsRoster};
 ghost use Rattle.crew_calendar.specs.Crew.{IsEmployee};
-ghost use Rattle.crew_calendar.specs.Calendar.{date_text, weekday_text, IsNotBefore};
+ghost use Rattle.crew_calendar.specs.Calendar.{IsNotBefore};
 ghost use Rattle.crew_calendar.specs.OnDate.{holder_text, holders_text, symbol_line, shift_lines, IsOn};
 
 use crate::places::symbol_on;

@@ -15,7 +15,7 @@ use Rattle.refutation_terms.specs.declared.lines.LogRefusal.{LogRefusal}
 use Rattle.refutation_terms.specs.Log.{Log}
 use Rattle.refutation_terms.specs.LogText.{log_text}
 use Rattle.refutation_terms.specs.Verdict.{kind_of_log}
-use Rattle.refutation_log.specs.ReadLog.{IsReadAs, IsUnread}
+use Rattle.refutation_log.specs.ReadLog.{IsUnread}
 use Rattle.refutation_log.proofs.OneCause.{texts_read}
 use Rattle.crew_size.specs.Sizes.{with_weeks, IsSize}
 use Rattle.crew_size.specs.Texts.{refuted_line, roster_line, section_text, sections_text}
@@ -46,10 +46,6 @@ first_of_next P (Some sizes) m next = next.1
 next_of_first : (P : Instance) (sizes : Option (ℕ × ℕ)) (m : ℕ) → IsFirst sizes m → IsSize P m → IsNextOf P sizes m
 next_of_first P None m first size = size
 next_of_first P (Some sizes) m first size = (size, first)
-
-pub size_of_next : (P : Instance) (sizes : Option (ℕ × ℕ)) (m : ℕ) → IsNextOf P sizes m → IsSize P m
-size_of_next P None m next = next
-size_of_next P (Some sizes) m next = next.0
 
 section_first : (P : Instance) (m : ℕ) (g : Log) (logs : List Log) (rest : List ℕ) → sections_text P m (g ∷ logs) ++ rest ≡ refuted_line m ++ (log_text (with_weeks P m) g ++ (sections_text P (m + 1) logs ++ rest))
 section_first P m g logs rest =
@@ -151,17 +147,11 @@ end_heading P sizes bytes n s h behind written here end =
     let size = end.roster.size in
     headings_once (Found n) h end.behind behind (size.some, size_is_short P n size) written (sym end.heading ∙ here)
 
-pub section_is : (P : Instance) (sizes : Option (ℕ × ℕ)) (bytes : List ℕ) (m : ℕ) (behind rest : List ℕ) → MayFollow P sizes (Refuted m) → bytes ≡ heading_line (Refuted m) ++ behind → BeginsWithLog P m behind rest → BeginsWithSection P sizes bytes m rest
-section_is P sizes bytes m behind rest next heading log = record { next = next; behind = behind; heading = heading; log = log }
-
 pub no_log_no_section : (P : Instance) (sizes : Option (ℕ × ℕ)) (bytes : List ℕ) (k : ℕ) (behind : List ℕ) → IsHeadingNumber (Refuted k) → bytes ≡ heading_line (Refuted k) ++ behind → ((rest : List ℕ) → BeginsWithLog P k behind rest → ⊥) → (m : ℕ) (rest : List ℕ) → BeginsWithSection P sizes bytes m rest → ⊥
 no_log_no_section P sizes bytes k behind written here none m rest section =
     let once = section_heading P sizes bytes m rest (Refuted k) behind written here section in
     let number : m ≡ k = ap heading_number once.0 in
     none rest (subst (λ (n : ℕ). BeginsWithLog P n behind rest) number (subst (λ (b : List ℕ). BeginsWithLog P m b rest) once.1 section.log))
-
-pub end_is : (P : Instance) (sizes : Option (ℕ × ℕ)) (bytes : List ℕ) (n : ℕ) (behind : List ℕ) (s : List Symbol) → MayFollow P sizes (Found n) → bytes ≡ heading_line (Found n) ++ behind → SpellsFor P n behind s → IsLeastEnd P sizes bytes n s
-end_is P sizes bytes n behind s next heading roster = record { next = next; behind = behind; heading = heading; roster = roster }
 
 pub no_roster_no_end : (P : Instance) (sizes : Option (ℕ × ℕ)) (bytes : List ℕ) (k : ℕ) (behind : List ℕ) → IsHeadingNumber (Found k) → bytes ≡ heading_line (Found k) ++ behind → ((s : List Symbol) → SpellsFor P k behind s → ⊥) → (n : ℕ) (s : List Symbol) → IsLeastEnd P sizes bytes n s → ⊥
 no_roster_no_end P sizes bytes k behind written here none n s end =
@@ -170,16 +160,6 @@ no_roster_no_end P sizes bytes k behind written here none n s end =
     none s (subst (λ (m : ℕ). SpellsFor P m behind s) number (subst (λ (b : List ℕ). SpellsFor P n b s) once.1 end.roster))
 
 -- Logs.
-
-pub log_is : (P sized : Instance) (m : ℕ) (bytes log rest : List ℕ) (g : Log) → sized ≡ with_weeks P m → IsSize P m → bytes ≡ log ++ rest → AreUpToHeading log rest → IsReadAs sized WithoutGoal log g → BeginsWithLog P m bytes rest
-log_is P sized m bytes log rest g is size whole cut read =
-    let there : IsReadAs (with_weeks P m) WithoutGoal log g = subst (λ (Q : Instance). IsReadAs Q WithoutGoal log g) is read in
-    record {
-      log = g;
-      read = record { size = size; plain = there.of_kind; fits = there.fits; tree = there.tree };
-      whole = whole ∙ ap (λ t. t ++ rest) there.is_text;
-      cut = subst (λ t. AreUpToHeading t rest) there.is_text cut;
-    }
 
 pub no_log : (P sized : Instance) (m : ℕ) (bytes log rest : List ℕ) (why : LogRefusal) → KeepsLimits P → sized ≡ with_weeks P m → bytes ≡ log ++ rest → AreUpToHeading log rest → IsUnread sized WithoutGoal log why → (other : List ℕ) → BeginsWithLog P m bytes other → ⊥
 no_log P sized m bytes log rest why limits is whole cut unread other begins =

@@ -1,11 +1,10 @@
 -- What accepted texts and searches decide.
-use Rattle.std.proofs.Common.{◌≡◌, ◌≢◌, ℕ, ◌+◌, ◌-◌, ◌*◌, ◌^◌, ◌<◌, ◌≤◌, List, [], ◌∷◌, ◌++◌, length, get_or, Some, None, refl, ap, sym, ◌∙◌, subst, arith, inl, inr, ⊎_elim, Option}
+use Rattle.std.proofs.Common.{◌≡◌, ◌≢◌, ℕ, ◌+◌, ◌-◌, ◌*◌, ◌^◌, ◌<◌, ◌≤◌, List, [], ◌∷◌, ◌++◌, length, get_or, Some, None, refl, ap, sym, ◌∙◌, subst, arith, inl, inr, ⊎_elim}
 use Rattle.std.specs.Prelude.{slice_get, codes}
 use Rattle.std.specs.Fmt.{decimal}
 use Rattle.std.proofs.Math.Nat.{mul-le-mul_right, pow-le-pow_right}
 use Rattle.std.proofs.lemmas.Bool.{cases_lt}
 use Rattle.std.proofs.lemmas.Option.{slice_get-get_or}
-use Rattle.rwsp_terms.specs.declared.data.Symbol.{Symbol}
 use Rattle.rwsp_terms.specs.Instance.{Instance, shift_count}
 use Rattle.rwsp_model.specs.Validity.{IsValid, KeepsLimits}
 use Rattle.rwsp_model.proofs.Limits.{keeps_valid}
@@ -29,6 +28,7 @@ use Rattle.crew_size.specs.declared.run.StaffEnd.TheVariants as Ends
 use Rattle.crew_size.specs.declared.verdict.Staffed.{Staffed}
 use Rattle.crew_size.specs.declared.verdict.Staffed.TheVariants.{Least, NoneTo}
 use Rattle.crew_size.proofs.Searches.{AreRefuted, fits_sizes}
+use Rattle.crew_size.proofs.Printing.{some_logs}
 
 pub sized_keeps : (P : Instance) (m : ℕ) → KeepsLimits P → IsSize P m → KeepsLimits (with_weeks P m)
 sized_keeps P m limits size = other_weeks_keep P m limits size.some size.few size.few_cells
@@ -147,10 +147,6 @@ place_at (g ∷ logs) rest h = inr h
 next_at : (P : Instance) (low m : ℕ) (logs : List Log) → m ≡ low + length logs → IsSize P m → IsNextSize P low logs m
 next_at P low m [] e size = size
 next_at P low m (g ∷ logs) e size = (size, e)
-
-some_logs : (logs : List Log) → logs ≢ [] → 0 < length logs
-some_logs [] h = absurd (h refl)
-some_logs (g ∷ logs) h = omega arith
 
 printed_by : (P : Instance) (high budget low m : ℕ) (logs : List Log) (end : StaffEnd) (staffed : Staffed) → KeepsLimits P → ArePassing P low logs → m ≡ low + length logs → EndFits P m end → (end ≡ Ends.NoneTo → logs ≢ []) → IsEnd P high budget m end → decision_at low m end ≡ Some staffed → IsStaffAccepted P (sections_text P low logs ++ end_text P m end) staffed
 printed_by P high budget low m logs (Ends.Least s) staffed limits passing e fits some h same =

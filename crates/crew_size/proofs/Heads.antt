@@ -19,7 +19,8 @@ use Rattle.rwsp_text.specs.Lines.{IsNextLine}
 use Rattle.rwsp_text.proofs.LineLaws.{next_same, line_some}
 use Rattle.refutation_terms.specs.Verdict.{IsVerdict}
 use Rattle.refutation_terms.proofs.Unique.{verdict_unique}
-use Rattle.refutation_log.proofs.OneText.{is_writable, has_names}
+use Rattle.refutation_log.proofs.LineTexts.{is_writable}
+use Rattle.refutation_log.proofs.OneText.{has_names}
 use Rattle.refutation_terms.specs.declared.lines.LogKind.TheVariants.{WithoutGoal}
 use Rattle.crew_size.specs.Sizes.{with_weeks, IsSize}
 use Rattle.crew_size.specs.Sections.{AreUpToHeading}

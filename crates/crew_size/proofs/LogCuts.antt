@@ -18,7 +18,8 @@ use Rattle.refutation_terms.specs.LogText.{RawLine, raw, raw_fields, line_text, 
 use Rattle.refutation_terms.specs.TextLaws.{HasNames}
 use Rattle.refutation_terms.proofs.LineTables.{rules_fields, version_fields, version_line, raw_line, spelled_raw}
 use Rattle.refutation_terms.proofs.Texts.{lines_fields, log_fields, log_written, log_words, third_fields, each_fits}
-use Rattle.refutation_log.proofs.OneText.{is_writable, has_names}
+use Rattle.refutation_log.proofs.LineTexts.{is_writable}
+use Rattle.refutation_log.proofs.OneText.{has_names}
 use Rattle.refutation_terms.specs.declared.lines.Version.{Version}
 use Rattle.refutation_terms.specs.Log.{Log, LineFits, Fits}
 use Rattle.crew_size.specs.Sections.{AreWholeLines, BeginsAsHeading, HasHeadingAt, AreUpToHeading}

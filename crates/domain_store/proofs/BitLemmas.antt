@@ -6,7 +6,7 @@ use Rattle.std.specs.Int.{bit_at, bit_not, w16, trailing_zeros}
 use Rattle.std.specs.Int.RustNames.{bit_and, count_ones}
 use Rattle.std.proofs.lemmas.Bool.{cases_eq, cases_lt, ne_eqb, eq-eqb}
 use Rattle.std.proofs.lemmas.Bool.Decides.{nat_tests}
-use Rattle.std.proofs.lemmas.Nat.{one_shl, pow_below, pow_pos, and_le_l, ones_cat, ones-le, ones_le_self, zero_from_ones}
+use Rattle.std.proofs.lemmas.Nat.{one_shl, pow_below, and_le_l, ones_cat, ones-le, ones_le_self, zero_from_ones}
 use Rattle.std.proofs.lemmas.Nat.Bits.{bit_at-zero, bit_at-lt, bit_at-pow_same, bit_at-pow_other, bit_at_ones, bit_at_ones_above, bit_at_clear_same, bit_at_clear_other, bit_at-trailing_zeros, bit_at_above, shr_and_one}
 use Rattle.std.proofs.Math.Nat.{pow-le-pow_right}
 use Rattle.rwsp_terms.specs.declared.limits.TheConstants.{MOST_SYMBOLS}
@@ -126,11 +126,6 @@ low_bits_fit last few =
     let most : last + 1 ≤ MOST_SYMBOLS = omega arith in
     let two : 0 < 2 = omega arith in
     omega (arith, low-ones (last + 1) most, pow-le-pow_right two most)
-
-pub low_bits_some : (last : ℕ) → last < MOST_SYMBOLS → 1 ≤ 1 * 2 ^ (last + 1) % 2 ^ 16
-low_bits_some last few =
-    let within : last + 1 < 16 = omega arith in
-    omega (arith, one_shl (last + 1) 16 within, pow_pos (last + 1))
 
 -- a bit is cleared
 pub bit_cleared : (n x : ℕ) → x < MOST_SYMBOLS → symbols_of (bit_and n (bit_not w16 (1 * 2 ^ x % 2 ^ 16))) ≡ without_symbol x (symbols_of n)

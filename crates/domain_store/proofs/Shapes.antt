@@ -9,7 +9,7 @@ use Rattle.rwsp_terms.specs.declared.data.Sequence.{Sequence}
 use Rattle.rwsp_terms.specs.declared.data.Rule.{Rule}
 use Rattle.rwsp_terms.specs.declared.data.Rule.TheVariants.{Most, Least, Never}
 use Rattle.rwsp_terms.specs.declared.limits.TheConstants.{GREATEST_BOUND}
-use Rattle.rwsp_terms.specs.Instance.{Instance, bounds, sequences, off_symbol}
+use Rattle.rwsp_terms.specs.Instance.{Instance, bounds, off_symbol}
 use Rattle.rwsp_terms.specs.Window.{Bad, InClass, IsSequence, symbols_of, third_of, TooLong, TooShort}
 use Rattle.rwsp_terms.proofs.Windows.{get_or-front, get_or-seam}
 use Rattle.domain_store.specs.declared.pattern.Pattern.{Pattern}
@@ -195,7 +195,7 @@ pattern_of_most P r c m is h = subst (λ (q : Rule). IsPatternOf (Bad P q) m) (s
 pub pattern_of_least : (P : Instance) (r : Rule) (c : Class) (m : Pattern) → r ≡ Least c → IsPatternOf (λ p. TooShort c (bounds P c).least) m → IsPatternOf (Bad P r) m
 pattern_of_least P r c m is h = subst (λ (q : Rule). IsPatternOf (Bad P q) m) (sym is) (record { judged = h.judged; shaped = λ p u bad. h.shaped p u bad; kind = λ p u shaped. h.kind p u shaped })
 
-pub pattern_of_rule : (P : Instance) (k week : ℕ) (q : Sequence) (m : Pattern) → slice_get (sequences P) k ≡ Some q → week ≡ P.days → IsPatternOf (IsSequence week q) m → IsPatternOf (Bad P (Never k)) m
+pub pattern_of_rule : (P : Instance) (k week : ℕ) (q : Sequence) (m : Pattern) → slice_get P.sequences k ≡ Some q → week ≡ P.days → IsPatternOf (IsSequence week q) m → IsPatternOf (Bad P (Never k)) m
 pattern_of_rule P k week q m is days h =
     let own : IsPatternOf (IsSequence P.days q) m = subst (λ (n : ℕ). IsPatternOf (IsSequence n q) m) days h in
     record {

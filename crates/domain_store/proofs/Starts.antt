@@ -96,12 +96,6 @@ clean_from_run A m p run n some one r refused part all q inner from before h =
       ]
     ]
 
--- where the first day is not kept, no window begins
-pub clean_first : (A : ℕ → Symbol → Type 0) (m : Pattern) (p : ℕ) → (Keeps A m.first p → ⊥) → NonePlaced A m p (p + 1)
-clean_first A m p refused q inner from before h =
-    let at : q ≡ p = omega (arith, from, before) in
-    refused (subst (Keeps A m.first) at h.first)
-
 -- none up to a position, and none from there on
 pub none_further : (A : ℕ → Symbol → Type 0) (m : Pattern) (from p end : ℕ) → NonePlaced A m from p → NonePlaced A m p end → NonePlaced A m from end
 none_further A m from p end before behind q inner low high h = elim (cases_lt q p) [

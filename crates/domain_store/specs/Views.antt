@@ -19,7 +19,7 @@ left_in S p x = IsTrue (has_domain S (p % length S.sets) x.number)
 abbrev pub LiesIn : (ℕ → Symbol → Type 0) → Class → ℕ → Type 0
 LiesIn A c p = (x : Symbol) → A p x → InClass c x
 
--- and none is
+-- no possible symbol of the position is in the class
 abbrev pub LiesOutside : (ℕ → Symbol → Type 0) → Class → ℕ → Type 0
 LiesOutside A c p = (x : Symbol) → A p x → InClass c x → ⊥
 

@@ -1,5 +1,5 @@
 // Domains with their trail.
-ghost use Rattle.std.specs.Prelude.{◌≡◌, ℕ, ◌+◌, ◌-◌, ◌*◌, ◌<◌, ◌≤◌, ◌↔◌, All, List, [], ◌∷◌, ◌++◌, length, map, take, IsTrue, IfOk, MatchOption, OnOk, vec_len, vec_capacity, ◌==◌, not, ◌&&◌, ◌||◌, nat_le, slice_index_or};
+ghost use Rattle.std.specs.Prelude.{◌≡◌, ℕ, ◌+◌, ◌-◌, ◌*◌, ◌<◌, ◌≤◌, ◌↔◌, All, [], ◌∷◌, ◌++◌, length, map, IsTrue, IfOk, MatchOption, vec_len, vec_capacity, ◌==◌, not, ◌&&◌, ◌||◌, nat_le, slice_index_or};
 ghost use Rattle.rwsp_terms.specs.Instance.{cells, shift_count};
 ghost use Rattle.rwsp_terms.specs.Roster.{IsRoster};
 ghost use Rattle.rwsp_terms.specs.declared.data.Symbol.{Symbol};

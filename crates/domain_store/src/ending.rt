@@ -1,5 +1,5 @@
 // The end of a tree in the stack of open splits.
-ghost use Rattle.std.specs.Prelude.{◌≡◌, ℕ, ◌+◌, ◌<◌, cond, List, [], ◌∷◌, ◌++◌, length, vec_len, vec_capacity};
+ghost use Rattle.std.specs.Prelude.{◌≡◌, ◌+◌, ◌<◌, cond, List, [], ◌∷◌, ◌++◌, length, vec_len, vec_capacity};
 ghost use Rattle.refutation_terms.specs.declared.lines.Line.{Line};
 ghost use Rattle.refutation_terms.specs.Word.{Domains as DomainTest};
 ghost use Rattle.refutation_terms.specs.Tree.{IsTree};

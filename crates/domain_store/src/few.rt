@@ -1,5 +1,5 @@
 // The few leaf: fewer weeks than the goal can have their weekend off.
-ghost use Rattle.std.specs.Prelude.{◌≡◌, ◌+◌, ◌*◌, ◌<◌, ◌≤◌, ◌↔◌, IsTrue, count_by};
+ghost use Rattle.std.specs.Prelude.{◌≡◌, ◌+◌, ◌<◌, ◌≤◌, ◌↔◌, IsTrue, count_by};
 ghost use Rattle.std.specs.List.{range_with_len};
 ghost use Rattle.rwsp_terms.specs.declared.limits.TheConstants.{MOST_WEEKS, DAYS_OF_WEEK};
 ghost use Rattle.refutation_terms.specs.FewLeaf.{may_be_free, HasTooFewFree};

@@ -1,7 +1,7 @@
 // What the windows that break a rule have in common. This is the one place that tells the kinds of rules on windows
 // apart.
 ghost use Rattle.std.specs.Prelude.{◌≡◌, ℕ, ◌<◌, ◌≤◌, List, length, MatchOption, Option};
-ghost use Rattle.rwsp_terms.specs.Instance.{bounds, sequences, IsClass};
+ghost use Rattle.rwsp_terms.specs.Instance.{bounds, IsClass};
 ghost use Rattle.rwsp_terms.specs.Roster.{IsRule};
 ghost use Rattle.rwsp_terms.specs.Window.{Bad, IsSequence, TooLong, TooShort};
 ghost use Rattle.rwsp_terms.specs.declared.data.Rule.TheVariants.{Never};
@@ -64,7 +64,7 @@ fn under_least(problem: &Problem, class: Class) -> Pattern
 
 // Sequences count from 0.
 fn forbidden(problem: &Problem, place: u32) -> Pattern
-    requires { place < length (sequences problem.now) }
+    requires { place < length problem.now.sequences }
     ensures { IsPatternOf (Bad problem.now (Never place)) result }
 {
     symbols_in_a_row(problem.sequence(place), problem.days())

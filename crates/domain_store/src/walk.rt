@@ -1,13 +1,12 @@
 // A walk through the lines of a log.
-ghost use Rattle.std.specs.Prelude.{◌≡◌, ℕ, ◌+◌, ◌<◌, ◌≤◌, ◌↔◌, List, [], ◌∷◌, ◌++◌, length, Option, true, false, IsTrue, IfOk, OnErr};
+ghost use Rattle.std.specs.Prelude.{◌≡◌, ◌+◌, ◌<◌, ◌≤◌, ◌↔◌, List, [], ◌∷◌, ◌++◌, length, false, IsTrue, IfOk, OnErr};
 ghost use Rattle.rwsp_terms.specs.Instance.{Instance, cells};
 ghost use Rattle.refutation_terms.specs.declared.lines.Line.{Line};
 ghost use Rattle.refutation_terms.specs.declared.lines.Line.TheVariants.{Split};
-ghost use Rattle.refutation_terms.specs.declared.lines.Opening.{Opening as TheOpening};
 ghost use Rattle.refutation_terms.specs.Word.{AreSame};
-ghost use Rattle.refutation_terms.specs.Tree.{IsLeaf, IsTree, after_trees, opening, domains_at, is_idle};
+ghost use Rattle.refutation_terms.specs.Tree.{IsLeaf, IsTree, after_trees, domains_at, is_idle};
 ghost use Rattle.refutation_terms.specs.Log.{OpeningFits};
-ghost use Rattle.domain_store.specs.Store.{HasSameShape, has_domain, BelongsTo};
+ghost use Rattle.domain_store.specs.Store.{HasSameShape, has_domain};
 ghost use Rattle.domain_store.specs.Splits.{second_sides_to_come, is_idle_in};
 
 use crate::Domains;

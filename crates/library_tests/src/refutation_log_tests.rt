@@ -2,16 +2,16 @@
 ghost use Rattle.refutation_terms.specs.Log.{Fits};
 
 use refutation_log::{
-    Log, LogKind, LogRefusal, Opening, Turn, first_turn, print_log, put_cited, read_header,
-    read_line, read_log,
+    Log, LogKind, LogRefusal, Opening, Turn, print_log, put_cited, read_header, read_line,
+    read_log, scarcest_turn,
 };
 use rwsp_model::{Fail as Failure, Problem};
 use rwsp_terms::RuleList;
 use std::alloc::{AllocError, Global};
 use std::test::Fail;
 use test_helpers::{
-    D, D_ON_BOTH_DAYS, LONG_BLOCKS, NO_DEMAND, ONE_CELL, THREE_IN_FIVE, TWO_IN_FOUR, TWOS_IN_SIX,
-    log_of, log_of_kind, problem_of,
+    D, D_ON_BOTH_DAYS, LONG_BLOCKS, NO_DEMAND, ONE_CELL, THREE_IN_FIVE, TWO_D_AND_ONE, TWO_IN_FOUR,
+    TWOS_IN_SIX, log_of, log_of_kind, problem_of,
 };
 
 const TEXTS: [(&[u8], &[u8]); 11] = [
@@ -332,7 +332,7 @@ fn put_all_cited(rules: &mut RuleList, problem: &Problem, log: &Log) -> Result<(
 
 fn turn_of(alloc: Global, text: &[u8]) -> Result<Option<Turn>, Fail> {
     let problem = problem_of(alloc, text)?;
-    match first_turn(&problem) {
+    match scarcest_turn(&problem) {
         Opening::Turned(turn) => Ok(Some(turn)),
         _ => Ok(None),
     }
@@ -343,6 +343,8 @@ fn turns(rt: HostRuntime) -> Result<(), Fail> {
     assert_eq!(rt; turn_of(rt.alloc(), NO_DEMAND)?, None);
     let turn = Turn { day: 1, x: D };
     assert_eq!(rt; turn_of(rt.alloc(), D_ON_BOTH_DAYS)?, Some(turn));
+    let scarcer = Turn { day: 3, x: D };
+    assert_eq!(rt; turn_of(rt.alloc(), TWO_D_AND_ONE)?, Some(scarcer));
     Ok(())
 }
 

@@ -30,8 +30,7 @@ fn parts_of(
         shifts: vec![in alloc; row]?,
         off: once,
         work: once,
-        pairs: Vec::new(alloc),
-        triples: Vec::new(alloc),
+        sequences: Vec::new(alloc),
     })
 }
 

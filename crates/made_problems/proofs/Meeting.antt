@@ -1,10 +1,10 @@
 -- The hidden roster meets each rule.
-use Rattle.std.proofs.Common.{◌≡◌, ℕ, zero, suc, ◌-◌, ◌*◌, ◌<◌, ◌≤◌, List, [], ◌∷◌, ◌++◌, length, map, true, ◌&&◌, ltb, Some, refl, ap, subst, ◌∙◌, arith}
+use Rattle.std.proofs.Common.{◌≡◌, ℕ, zero, suc, ◌-◌, ◌*◌, ◌<◌, ◌≤◌, List, [], ◌∷◌, length, true, ◌&&◌, ltb, Some, refl, ap, subst, ◌∙◌, arith}
 use Rattle.std.specs.Prelude.{slice_get}
 use Rattle.std.specs.List.{AllByRecursion}
 use Rattle.std.proofs.lemmas.Bool.{and_parts, both_ways}
 use Rattle.std.proofs.lemmas.Option.{same_Some}
-use Rattle.rwsp_terms.specs.Instance.{bounds, bounds_of, of_pair, IsClass}
+use Rattle.rwsp_terms.specs.Instance.{bounds, bounds_of, IsClass}
 use Rattle.rwsp_terms.specs.Window.{window, third_of, TooLong, TooShort}
 use Rattle.rwsp_terms.specs.Roster.{IsRule, MeetsRule, MeetsAll}
 use Rattle.rwsp_terms.specs.declared.data.Symbol.{Symbol}
@@ -16,7 +16,7 @@ use Rattle.rwsp_terms.specs.declared.data.Rule.TheVariants.{Most, Least, Never, 
 use Rattle.rwsp_terms.proofs.Elements.{all_from}
 use Rattle.made_problems.specs.Stints.{IsUsual, AreStints}
 use Rattle.made_problems.specs.Blocks.{roster_of}
-use Rattle.made_problems.specs.Generated.{shifts, pairs, problem_of}
+use Rattle.made_problems.specs.Generated.{shifts, sequences, problem_of}
 use Rattle.made_problems.specs.declared.stint.Stint.{Stint}
 use Rattle.made_problems.proofs.Lengths.{roster_long}
 use Rattle.made_problems.proofs.Usual.{stints_usual}
@@ -40,7 +40,7 @@ class_bounds weeks s Work h = (refl, refl)
 abbrev GoesBack : Sequence → Type 0
 GoesBack q = ((works q.second.number && ltb q.second.number q.first.number) ≡ true) × (third_of q.third ≡ [])
 
-never_back : (k : ℕ) (q : Sequence) → k < 3 → slice_get (map of_pair pairs ++ []) k ≡ Some q → GoesBack q
+never_back : (k : ℕ) (q : Sequence) → k < 3 → slice_get sequences k ≡ Some q → GoesBack q
 never_back zero q less h = subst GoesBack (same_Some _ q h) (refl, refl)
 never_back (suc zero) q less h = subst GoesBack (same_Some _ q h) (refl, refl)
 never_back (suc (suc zero)) q less h = subst GoesBack (same_Some _ q h) (refl, refl)

@@ -1,13 +1,16 @@
 -- Which sequences are forbidden.
-use Rattle.std.proofs.Common.{◌≡◌, ℕ, zero, suc, ◌+◌, ◌-◌, ◌<◌, List, [], ◌∷◌, Bool, true, false, refl, ap, sym, subst, ◌∙◌, arith, inl, inr}
-use Rattle.std.specs.Prelude.{Contains, not, ◌&&◌, ◌||◌, if◌then◌else◌}
+use Rattle.std.proofs.Common.{◌≡◌, ℕ, zero, suc, ◌+◌, ◌-◌, ◌<◌, List, [], ◌∷◌, ◌++◌, take, Option, Some, None, ◌⊎◌, Bool, true, false, refl, ap, sym, subst, ◌∙◌, arith, inl, inr}
+use Rattle.std.specs.Prelude.{Contains, drop, is_some, not, ◌&&◌, ◌||◌, ◌==◌, if◌then◌else◌}
 use Rattle.std.proofs.lemmas.Bool.{eqb-true, and_from, and_parts}
+use Rattle.std.proofs.lemmas.List.{take-append-drop}
 use Rattle.std.proofs.lemmas.List.Elements.{Contains-append_left, Contains-append_right, Contains-append_cases}
 use Rattle.rwsp_terms.specs.declared.data.Symbol.{Symbol}
-use Rattle.rwsp_terms.specs.Instance.{Instance, shift_count, off_symbol, symbol_numbered, IsShift}
+use Rattle.rwsp_terms.specs.declared.data.Sequence.{Sequence}
+use Rattle.rwsp_model.specs.Sequences.{pair_count}
+use Rattle.rwsp_terms.specs.Instance.{Instance, shift_count, off_symbol, symbol_numbered, on_every_day, IsShift}
 use Rattle.made_problems.specs.Times.{is_too_short}
-use Rattle.made_problems.specs.Rested.{shift_at, is_same, has_pair, has_triple, pair_of, triple_of, of_first, of_each_two, rested}
-use Rattle.made_problems.specs.RestLaws.{AreTooClose, PairsAreThose, TriplesAreThose}
+use Rattle.made_problems.specs.Rested.{shift_at, is_same, is_same_third, has_sequence, days_apart, too_close, of_first, of_each_two, rested}
+use Rattle.made_problems.specs.RestLaws.{IsTooClose, SequencesAreThose}
 use Rattle.made_problems.proofs.Pieces.{in_whole, in_piece}
 
 -- a symbol with a number
@@ -27,41 +30,50 @@ kept_is true x z (zero, less, h) = (refl, h)
 kept_is true x z (suc k, less, h) = absurd (omega (arith, less))
 kept_is false x z h = absurd (omega (arith, h.1))
 
--- one that passes a test is in the list
-found_pair : (zs : List (Symbol × Symbol)) (x y : Symbol) → has_pair zs x y ≡ true → Contains zs (x, y)
-found_pair [] x y h = absurd (cc)
-found_pair (z ∷ zs) x y h =
-    elim (is_same z.0 x && is_same z.1 y) as (λ (b : Bool). (is_same z.0 x && is_same z.1 y) ≡ b → (b || has_pair zs x y) ≡ true → Contains (z ∷ zs) (x, y)) [
+-- one that passes the test is in the list
+
+same_third : (x y : Option Symbol) → is_same_third x y ≡ true → x ≡ y
+same_third None None h = refl
+same_third None (Some y) h = absurd (cc)
+same_third (Some x) None h = absurd (cc)
+same_third (Some x) (Some y) h = ap Some (same_symbol x y (eqb-true x.number y.number h))
+
+no_day : (day : Option ℕ) → not (is_some day) ≡ true → day ≡ None
+no_day None h = refl
+no_day (Some day) h = absurd (cc)
+
+found : (qs : List Sequence) (x y : Symbol) (z : Option Symbol) → has_sequence qs (on_every_day x y z) ≡ true → Contains qs (on_every_day x y z)
+found [] x y z h = absurd (cc)
+found (r ∷ qs) x y z h =
+    let same : Bool = is_same r.first x && is_same r.second y && is_same_third r.third z && not (is_some r.day) in
+    elim same as (λ (b : Bool). same ≡ b → (b || has_sequence qs (on_every_day x y z)) ≡ true → Contains (r ∷ qs) (on_every_day x y z)) [
       | true ↦ λ here any.
-          let parts = and_parts (is_same z.0 x) (is_same z.1 y) here in
-          let first = same_symbol z.0 x (eqb-true z.0.number x.number parts.0) in
-          let second = same_symbol z.1 y (eqb-true z.1.number y.number parts.1) in
-          (0, omega arith, ap (λ (a : Symbol). (a, z.1)) first ∙ ap (λ (b : Symbol). (x, b)) second)
+          let parts = and_parts (is_same r.first x && is_same r.second y && is_same_third r.third z) (not (is_some r.day)) here in
+          let front = and_parts (is_same r.first x && is_same r.second y) (is_same_third r.third z) parts.0 in
+          let two = and_parts (is_same r.first x) (is_same r.second y) front.0 in
+          let first = same_symbol r.first x (eqb-true r.first.number x.number two.0) in
+          let second = same_symbol r.second y (eqb-true r.second.number y.number two.1) in (
+            0,
+            omega arith,
+            ap (λ (a : Symbol). record r { first = a }) first ∙ ap (λ (a : Symbol). record r { first = x; second = a }) second
+                ∙ ap (λ (a : Option Symbol). record r { first = x; second = y; third = a }) (same_third r.third z front.1)
+                ∙ ap (λ (a : Option ℕ). record { first = x; second = y; third = z; day = a }) (no_day r.day parts.1),
+          )
       | false ↦ λ here any.
-          let later = found_pair zs x y any in
+          let later = found qs x y z any in
           let less = later.1 in
           (suc later.0, omega (arith, less), later.2)
     ] refl h
 
-found_triple : (zs : List (Symbol × Symbol × Symbol)) (x y : Symbol) → has_triple zs x y ≡ true → Contains zs (x, off_symbol, y)
-found_triple [] x y h = absurd (cc)
-found_triple (z ∷ zs) x y h =
-    elim (is_same z.0 x && is_same z.1 off_symbol && is_same z.2 y) as (λ (b : Bool). (is_same z.0 x && is_same z.1 off_symbol && is_same z.2 y) ≡ b → (b || has_triple zs x y) ≡ true → Contains (z ∷ zs) (x, off_symbol, y)) [
-      | true ↦ λ here any.
-          let parts = and_parts (is_same z.0 x && is_same z.1 off_symbol) (is_same z.2 y) here in
-          let front = and_parts (is_same z.0 x) (is_same z.1 off_symbol) parts.0 in
-          let first = same_symbol z.0 x (eqb-true z.0.number x.number front.0) in
-          let second = same_symbol z.1 off_symbol (eqb-true z.1.number 0 front.1) in
-          let third = same_symbol z.2 y (eqb-true z.2.number y.number parts.1) in
-          (0, omega arith, ap (λ (a : Symbol). (a, z.1, z.2)) first ∙ ap (λ (b : Symbol). (x, b, z.2)) second ∙ ap (λ (b : Symbol). (x, off_symbol, b)) third)
-      | false ↦ λ here any.
-          let later = found_triple zs x y any in
-          let less = later.1 in
-          (suc later.0, omega (arith, less), later.2)
-    ] refl h
+found_apart : (qs : List Sequence) (days : ℕ) (x y : Symbol) → has_sequence qs (days_apart days x y) ≡ true → Contains qs (days_apart days x y)
+found_apart qs days x y =
+    elim (days == 1) as (λ (b : Bool). let q = if b then on_every_day x y None else on_every_day x off_symbol (Some y) in has_sequence qs q ≡ true → Contains qs q) [
+      | true ↦ found qs x y None
+      | false ↦ found qs x off_symbol (Some y)
+    ]
 
 -- what is made of two shifts is among what is made of each two
-pub of_two : {X : Type 0} (P : Instance) (of : Symbol → Symbol → List X) (x y : Symbol) (z : X) → IsShift P x → IsShift P y → Contains (of x y) z → Contains (of_each_two P of) z
+pub of_two : (P : Instance) (of : Symbol → Symbol → List Sequence) (x y : Symbol) (z : Sequence) → IsShift P x → IsShift P y → Contains (of x y) z → Contains (of_each_two P of) z
 of_two P of x y z hx hy h =
     let i = x.number - 1 in
     let j = y.number - 1 in
@@ -77,14 +89,14 @@ of_two P of x y z hx hy h =
     (in_whole (λ k. of (shift_at i) (shift_at k)) 0 (shift_count P) j z less_j (subst (λ (k : ℕ). Contains (of (shift_at i) (shift_at k)) z) ej here)))
 
 -- two shifts of which something is made
-pub record FromTwo {X : Type 0} (P : Instance) (of : Symbol → Symbol → List X) (z : X) : Type 0 where
+pub record FromTwo (P : Instance) (of : Symbol → Symbol → List Sequence) (z : Sequence) : Type 0 where
   pub first : Symbol
   pub second : Symbol
   pub first_is : IsShift P first
   pub second_is : IsShift P second
   pub made : Contains (of first second) z
 
-pub from_two : {X : Type 0} (P : Instance) (of : Symbol → Symbol → List X) (z : X) → Contains (of_each_two P of) z → FromTwo P of z
+pub from_two : (P : Instance) (of : Symbol → Symbol → List Sequence) (z : Sequence) → Contains (of_each_two P of) z → FromTwo P of z
 from_two P of z h =
     let outer = in_piece (of_first P of) 0 (shift_count P) z h in
     let inner = in_piece (λ k. of (shift_at (0 + outer.place)) (shift_at k)) 0 (shift_count P) z outer.there in
@@ -98,74 +110,72 @@ from_two P of z h =
       made = inner.there;
     }
 
-new_pair : (P : Instance) (minutes : ℕ) (x y : Symbol) → Contains (of_each_two P (pair_of P minutes)) (x, y) → AreTooClose P 1 minutes x y
-new_pair P minutes x y h =
-    let two = from_two P (pair_of P minutes) (x, y) h in
-    let is = kept_is (is_too_short P 1 minutes two.first two.second && not (has_pair P.pairs two.first two.second)) (two.first, two.second) (x, y) two.made in
-    let parts = and_parts (is_too_short P 1 minutes two.first two.second) (not (has_pair P.pairs two.first two.second)) is.0 in
-    let same_x : two.first ≡ x = ap (λ (z : Symbol × Symbol). z.0) is.1 in
-    let same_y : two.second ≡ y = ap (λ (z : Symbol × Symbol). z.1) is.1 in (
-      subst (IsShift P) same_x two.first_is,
-      subst (IsShift P) same_y two.second_is,
-      subst (λ (a : Symbol). is_too_short P 1 minutes a y ≡ true) same_x (subst (λ (b : Symbol). is_too_short P 1 minutes two.first b ≡ true) same_y parts.0),
-    )
+pub new_close : (P : Instance) (days minutes : ℕ) (q : Sequence) → Contains (of_each_two P (too_close P days minutes)) q → IsTooClose P days minutes q
+new_close P days minutes q h =
+    let two = from_two P (too_close P days minutes) q h in
+    let is = kept_is (is_too_short P days minutes two.first two.second && not (has_sequence P.sequences (days_apart days two.first two.second))) (days_apart days two.first two.second) q two.made in
+    record {
+      first = two.first;
+      last = two.second;
+      first_is = two.first_is;
+      last_is = two.second_is;
+      short = (and_parts (is_too_short P days minutes two.first two.second) (not (has_sequence P.sequences (days_apart days two.first two.second))) is.0).0;
+      is = sym is.1;
+    }
 
-pub pair_there : (P : Instance) (minutes : ℕ) (x y : Symbol) → AreTooClose P 1 minutes x y → Contains (rested P minutes).pairs (x, y)
-pair_there P minutes x y close =
-    elim (has_pair P.pairs x y) as (λ (b : Bool). has_pair P.pairs x y ≡ b → Contains (rested P minutes).pairs (x, y)) [
-      | true ↦ λ known. Contains-append_left P.pairs (of_each_two P (pair_of P minutes)) (x, y) (found_pair P.pairs x y known)
+close_there : (P : Instance) (days minutes : ℕ) (q : Sequence) → IsTooClose P days minutes q → Contains P.sequences q ⊎ Contains (of_each_two P (too_close P days minutes)) q
+close_there P days minutes q close =
+    let x = close.first in
+    let y = close.last in
+    let z = days_apart days x y in
+    subst (λ (r : Sequence). Contains P.sequences r ⊎ Contains (of_each_two P (too_close P days minutes)) r) (sym close.is)
+    (elim (has_sequence P.sequences z) as (λ (b : Bool). has_sequence P.sequences z ≡ b → Contains P.sequences z ⊎ Contains (of_each_two P (too_close P days minutes)) z) [
+      | true ↦ λ known. inl (found_apart P.sequences days x y known)
       | false ↦ λ new.
-          Contains-append_right P.pairs (of_each_two P (pair_of P minutes)) (x, y)
-          (of_two P (pair_of P minutes) x y (x, y) close.0 close.1
-          (kept (is_too_short P 1 minutes x y && not (has_pair P.pairs x y)) (x, y) (and_from (is_too_short P 1 minutes x y) (not (has_pair P.pairs x y)) close.2 (ap not new))))
-    ] refl
+          inr (of_two P (too_close P days minutes) x y z close.first_is close.last_is
+          (kept (is_too_short P days minutes x y && not (has_sequence P.sequences z)) z (and_from (is_too_short P days minutes x y) (not (has_sequence P.sequences z)) close.short (ap not new))))
+    ] refl)
 
-pub pairs_are_those : PairsAreThose
-pairs_are_those P minutes x y = (
-  λ h. elim (Contains-append_cases P.pairs (of_each_two P (pair_of P minutes)) (x, y) h) [
-    | inl known ↦ inl known
-    | inr new ↦ inr (new_pair P minutes x y new)
+pub sequences_are_those : SequencesAreThose
+sequences_are_those P minutes q = (
+  λ h. elim (Contains-append_cases (pairs ++ close 1) (triples ++ close 2) q h) [
+    | inl front ↦ elim (Contains-append_cases pairs (close 1) q front) [
+      | inl known ↦ inl (subst (λ qs. Contains qs q) whole (Contains-append_left pairs triples q known))
+      | inr new ↦ inr (inl (new_close P 1 minutes q new))
+    ]
+    | inr back ↦ elim (Contains-append_cases triples (close 2) q back) [
+      | inl known ↦ inl (subst (λ qs. Contains qs q) whole (Contains-append_right pairs triples q known))
+      | inr new ↦ inr (inr (new_close P 2 minutes q new))
+    ]
   ],
   λ h. elim h [
-    | inl known ↦ Contains-append_left P.pairs (of_each_two P (pair_of P minutes)) (x, y) known
-    | inr close ↦ pair_there P minutes x y close
+    | inl known ↦ from_file known
+    | inr short ↦ elim short [
+      | inl next ↦ elim (close_there P 1 minutes q next) [
+        | inl known ↦ from_file known
+        | inr new ↦ Contains-append_left (pairs ++ close 1) (triples ++ close 2) q (Contains-append_right pairs (close 1) q new)
+      ]
+      | inr over ↦ elim (close_there P 2 minutes q over) [
+        | inl known ↦ from_file known
+        | inr new ↦ Contains-append_right (pairs ++ close 1) (triples ++ close 2) q (Contains-append_right triples (close 2) q new)
+      ]
+    ]
   ],
-)
+) where
+  pairs : List Sequence
+  pairs = take (pair_count P) P.sequences
 
-new_triple : (P : Instance) (minutes : ℕ) (x y z : Symbol) → Contains (of_each_two P (triple_of P minutes)) (x, y, z) → (y ≡ off_symbol) × AreTooClose P 2 minutes x z
-new_triple P minutes x y z h =
-    let two = from_two P (triple_of P minutes) (x, y, z) h in
-    let is = kept_is (is_too_short P 2 minutes two.first two.second && not (has_triple P.triples two.first two.second)) (two.first, off_symbol, two.second) (x, y, z) two.made in
-    let parts = and_parts (is_too_short P 2 minutes two.first two.second) (not (has_triple P.triples two.first two.second)) is.0 in
-    let same_x : two.first ≡ x = ap (λ (w : Symbol × Symbol × Symbol). w.0) is.1 in
-    let same_y : off_symbol ≡ y = ap (λ (w : Symbol × Symbol × Symbol). w.1) is.1 in
-    let same_z : two.second ≡ z = ap (λ (w : Symbol × Symbol × Symbol). w.2) is.1 in (
-      sym same_y,
-      (
-        subst (IsShift P) same_x two.first_is,
-        subst (IsShift P) same_z two.second_is,
-        subst (λ (a : Symbol). is_too_short P 2 minutes a z ≡ true) same_x (subst (λ (b : Symbol). is_too_short P 2 minutes two.first b ≡ true) same_z parts.0),
-      ),
-    )
+  triples : List Sequence
+  triples = drop (pair_count P) P.sequences
 
-pub triple_there : (P : Instance) (minutes : ℕ) (x z : Symbol) → AreTooClose P 2 minutes x z → Contains (rested P minutes).triples (x, off_symbol, z)
-triple_there P minutes x z close =
-    elim (has_triple P.triples x z) as (λ (b : Bool). has_triple P.triples x z ≡ b → Contains (rested P minutes).triples (x, off_symbol, z)) [
-      | true ↦ λ known. Contains-append_left P.triples (of_each_two P (triple_of P minutes)) (x, off_symbol, z) (found_triple P.triples x z known)
-      | false ↦ λ new.
-          Contains-append_right P.triples (of_each_two P (triple_of P minutes)) (x, off_symbol, z)
-          (of_two P (triple_of P minutes) x z (x, off_symbol, z) close.0 close.1
-          (kept (is_too_short P 2 minutes x z && not (has_triple P.triples x z)) (x, off_symbol, z) (and_from (is_too_short P 2 minutes x z) (not (has_triple P.triples x z)) close.2 (ap not new))))
-    ] refl
+  close : ℕ → List Sequence
+  close days = of_each_two P (too_close P days minutes)
 
-pub triples_are_those : TriplesAreThose
-triples_are_those P minutes x y z = (
-  λ h. elim (Contains-append_cases P.triples (of_each_two P (triple_of P minutes)) (x, y, z) h) [
-    | inl known ↦ inl known
-    | inr new ↦ inr (new_triple P minutes x y z new)
-  ],
-  λ h. elim h [
-    | inl known ↦ Contains-append_left P.triples (of_each_two P (triple_of P minutes)) (x, y, z) known
-    | inr close ↦ subst (λ (w : Symbol). Contains (rested P minutes).triples (x, w, z)) (sym close.0) (triple_there P minutes x z close.1)
-  ],
-)
+  whole : pairs ++ triples ≡ P.sequences
+  whole = take-append-drop (pair_count P) P.sequences
+
+  from_file : Contains P.sequences q → Contains (rested P minutes).sequences q
+  from_file known = elim (Contains-append_cases pairs triples q (subst (λ qs. Contains qs q) (sym whole) known)) [
+    | inl front ↦ Contains-append_left (pairs ++ close 1) (triples ++ close 2) q (Contains-append_left pairs (close 1) q front)
+    | inr back ↦ Contains-append_right (pairs ++ close 1) (triples ++ close 2) q (Contains-append_left triples (close 2) q back)
+  ]

@@ -1,11 +1,12 @@
 -- The problem that a number and a count of weeks give.
-use Rattle.std.specs.Prelude.{◌≡◌, ℕ, ◌*◌, List, [], ◌∷◌, map, codes}
+use Rattle.std.specs.Prelude.{◌≡◌, ℕ, ◌*◌, List, [], ◌∷◌, None, map, codes}
 use Rattle.std.specs.List.{range_with_len}
-use Rattle.rwsp_terms.specs.Instance.{Instance, symbol_numbered}
+use Rattle.rwsp_terms.specs.Instance.{Instance, symbol_numbered, on_every_day}
 use Rattle.rwsp_terms.specs.Roster.{weeks_with}
 use Rattle.rwsp_terms.specs.declared.data.Bounds.{Bounds}
 use Rattle.rwsp_terms.specs.declared.data.ShiftRow.{ShiftRow}
 use Rattle.rwsp_terms.specs.declared.data.Symbol.{Symbol}
+use Rattle.rwsp_terms.specs.declared.data.Sequence.{Sequence}
 use Rattle.made_problems.specs.Stints.{AreStints}
 use Rattle.made_problems.specs.Blocks.{roster_of}
 use Rattle.made_problems.specs.declared.stint.Stint.{Stint}
@@ -22,10 +23,11 @@ abbrev pub shifts : List ShiftRow
 shifts = shift (codes "D") 360 7 ∷ shift (codes "A") 840 6 ∷ shift (codes "N") 1320 5 ∷ []
 
 -- no earlier shift follows a later one
-abbrev pub pairs : List (Symbol × Symbol)
-pairs =
-    (symbol_numbered 3, symbol_numbered 1) ∷ (symbol_numbered 3, symbol_numbered 2) ∷
-    (symbol_numbered 2, symbol_numbered 1) ∷ []
+abbrev pub sequences : List Sequence
+sequences =
+    on_every_day (symbol_numbered 3) (symbol_numbered 1) None ∷
+    on_every_day (symbol_numbered 3) (symbol_numbered 2) None ∷
+    on_every_day (symbol_numbered 2) (symbol_numbered 1) None ∷ []
 
 -- weeks of seven days with this demand, 2 to 4 days off and 4 to 7 days of work in a row
 abbrev pub problem_with : ℕ → List (List Bounds) → Instance
@@ -36,8 +38,7 @@ problem_with weeks demand = record {
   shifts = shifts;
   off = range 2 4;
   work = range 4 7;
-  pairs = pairs;
-  triples = [];
+  sequences = sequences;
 }
 
 -- how many weeks hold the shift on the day

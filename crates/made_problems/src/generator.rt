@@ -1,13 +1,13 @@
 // Problems by their numbers.
 ghost use Rattle.std.specs.Prelude.{◌≡◌, ◌≤◌, IfOk};
 ghost use Rattle.rwsp_model.specs.Parts.{instance_of};
-ghost use Rattle.made_problems.specs.Generated.{shift, shifts, pairs, problem_with, IsGenerated};
+ghost use Rattle.made_problems.specs.Generated.{shift, shifts, sequences, problem_with, IsGenerated};
 
 use crate::counts::demand_of;
 use crate::hidden::{AFTERNOON, DAY, NIGHT, roster_of, stints_of};
 use rwsp_model::{Parts, Problem};
 use rwsp_terms::limits::MOST_WEEKS;
-use rwsp_terms::{Bounds, DemandRow, Name, ShiftRow, Symbol};
+use rwsp_terms::{Bounds, DemandRow, Name, Sequence, ShiftRow};
 use std::alloc::{AllocError, Global};
 
 /// The days of a week.
@@ -51,10 +51,14 @@ fn shifts(alloc: Global) -> Result<Vec<ShiftRow>, AllocError>
     Ok(rows)
 }
 
-fn pairs(alloc: Global) -> Result<Vec<(Symbol, Symbol)>, AllocError>
-    ensures { IfOk result (λ v. v.items ≡ pairs) }
+fn sequences(alloc: Global) -> Result<Vec<Sequence>, AllocError>
+    ensures { IfOk result (λ v. v.items ≡ sequences) }
 {
-    Ok(vec![in alloc; (NIGHT, DAY), (NIGHT, AFTERNOON), (AFTERNOON, DAY)]?)
+    Ok(vec![in alloc;
+        Sequence::on_every_day(NIGHT, DAY, None),
+        Sequence::on_every_day(NIGHT, AFTERNOON, None),
+        Sequence::on_every_day(AFTERNOON, DAY, None),
+    ]?)
 }
 
 fn parts_with(alloc: Global, weeks: u32, demand: Vec<DemandRow>) -> Result<Parts, AllocError>
@@ -67,8 +71,7 @@ fn parts_with(alloc: Global, weeks: u32, demand: Vec<DemandRow>) -> Result<Parts
         shifts: shifts(alloc)?,
         off: OFF,
         work: WORK,
-        pairs: pairs(alloc)?,
-        triples: Vec::new(alloc),
+        sequences: sequences(alloc)?,
     })
 }
 

@@ -1,6 +1,6 @@
 // Laws of the definitions. Each function's contract is the law.
 ghost use Rattle.made_problems.specs.Laws.{StintsAreUsual, HiddenRostersMeet, EachNumberHasOneProblem};
-ghost use Rattle.made_problems.specs.RestLaws.{RostersRest, PairsAreThose, TriplesAreThose};
+ghost use Rattle.made_problems.specs.RestLaws.{RostersRest, SequencesAreThose};
 
 /// Each stint has 4 to 7 days of work and 2 to 4 days off.
 pub fn stints_are_usual()
@@ -24,15 +24,9 @@ pub fn rosters_rest()
     ensures { RostersRest }
 {}
 
-/// A pair is forbidden exactly where the file forbids it, or its shifts are too close.
-#[tactic(auto, using(crate::proofs::Sequences::pairs_are_those))]
-pub fn pairs_are_those()
-    ensures { PairsAreThose }
-{}
-
-/// A triple is forbidden exactly where the file forbids it, or it is two shifts that are too close with a day off
-/// between them.
-#[tactic(auto, using(crate::proofs::Sequences::triples_are_those))]
-pub fn triples_are_those()
-    ensures { TriplesAreThose }
+/// A sequence is forbidden exactly where the file forbids it, or it is of two shifts that are too close, on the next
+/// day or over a day off.
+#[tactic(auto, using(crate::proofs::Sequences::sequences_are_those))]
+pub fn sequences_are_those()
+    ensures { SequencesAreThose }
 {}

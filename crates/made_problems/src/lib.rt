@@ -13,8 +13,8 @@ mod times;
 
 pub use generator::gen_problem;
 pub use laws::{
-    each_number_has_one_problem, hidden_rosters_meet, pairs_are_those, rosters_rest,
-    stints_are_usual, triples_are_those,
+    each_number_has_one_problem, hidden_rosters_meet, rosters_rest, sequences_are_those,
+    stints_are_usual,
 };
 pub use rested::{LeastRest, require_rest};
 pub use times::{DAY_MINUTES, is_too_short, length_of, start_of};

@@ -1,14 +1,13 @@
 // The problem with a least rest.
-ghost use Rattle.std.specs.Prelude.{◌≡◌, ◌+◌, ◌*◌, ◌<◌, ◌≤◌, ◌++◌, length, All, IfOk, OnOk};
+ghost use Rattle.std.specs.Prelude.{◌≡◌, ◌<◌, ◌≤◌, ◌++◌, ◌&&◌, not, is_some, IfOk, OnOk};
 ghost use Rattle.rwsp_terms.specs.Instance.{shift_count, IsShift};
-ghost use Rattle.rwsp_model.specs.Sequences.{IsPairOf, IsTripleOf};
-ghost use Rattle.made_problems.specs.Rested.{shift_at, has_pair, has_triple, pair_of, triple_of, of_first, of_each_two, rested_pairs, rested_triples};
+ghost use Rattle.made_problems.specs.Rested.{shift_at, is_same, is_same_third, has_sequence, days_apart, too_close, of_first, of_each_two};
 ghost use Rattle.made_problems.specs.RestAnswers.{IsRestOf};
 
 use crate::times::is_too_short;
-use rwsp_model::Problem;
-use rwsp_terms::Symbol;
+use rwsp_model::{Problem, count_in};
 use rwsp_terms::limits::{LONGEST_REST, MOST_SEQUENCES, MOST_SHIFTS};
+use rwsp_terms::{Sequence, Symbol};
 use std::alloc::{AllocError, Global};
 
 /// A problem with a least rest between shifts, or why there is none.
@@ -30,129 +29,111 @@ fn shift_at(place: u8) -> Symbol
     Symbol { number: place + 1 }
 }
 
-// Whether the pair is among these.
-fn has_pair(pairs: &[(Symbol, Symbol)], x: Symbol, y: Symbol) -> bool
-    ensures { result ≡ has_pair pairs.now x y }
+fn is_same_third(x: Option<Symbol>, y: Option<Symbol>) -> bool
+    ensures { result ≡ is_same_third x y }
 {
-    pairs
-        .iter()
-        .any(|(a, b)| a.number == x.number && b.number == y.number)
+    match (x, y) {
+        (None, None) => true,
+        (Some(x), Some(y)) => x.number == y.number,
+        _ => false,
+    }
 }
 
-// Whether the triple with a day off in its middle is among these.
-fn has_triple(triples: &[(Symbol, Symbol, Symbol)], x: Symbol, y: Symbol) -> bool
-    ensures { result ≡ has_triple triples.now x y }
+fn is_same(r: &Sequence, q: Sequence) -> bool
+    ensures { result ≡ (is_same r.now.first q.first && is_same r.now.second q.second
+        && is_same_third r.now.third q.third && not (is_some r.now.day)) }
 {
-    triples.iter().any(|(a, b, c)| a.number == x.number && b.number == 0 && c.number == y.number)
+    let front = r.first.number == q.first.number && r.second.number == q.second.number;
+    front && is_same_third(r.third, q.third) && r.day.is_none()
 }
 
-// Appends the pair of two shifts, where it is too short and the file hasn't it.
-fn put_pair(
-    out: &mut Vec<(Symbol, Symbol)>,
+// Whether the sequence, which is of every day, is among these.
+fn has_sequence(sequences: &[Sequence], sequence: Sequence) -> bool
+    ensures { result ≡ has_sequence sequences.now sequence }
+{
+    sequences.iter().any(|other| is_same(other, sequence))
+}
+
+// A shift, and another on the next day, or two days later with a day off between them.
+fn days_apart(days: u32, x: Symbol, y: Symbol) -> Sequence
+    ensures { result ≡ days_apart days x y }
+{
+    if days == 1 {
+        Sequence::on_every_day(x, y, None)
+    } else {
+        Sequence::on_every_day(x, Symbol::OFF, Some(y))
+    }
+}
+
+// Appends the sequence of two shifts so many days apart, where it is too short and the file hasn't it.
+fn put_sequence(
+    out: &mut Vec<Sequence>,
     problem: &Problem,
+    days: u32,
     minutes: u32,
     x: Symbol,
     y: Symbol,
 ) -> Result<(), AllocError>
+    requires days { days ≤ 2 }
     requires minutes { minutes ≤ LONGEST_REST }
     requires x { IsShift problem.now x }
     requires y { IsShift problem.now y }
-    ensures { OnOk result (out.new.items ≡ out.old.items ++ pair_of problem.now minutes x y) }
+    ensures { OnOk result (out.new.items ≡ out.old.items ++ too_close problem.now days minutes x y) }
 {
-    let close = is_too_short(problem, 1, minutes, x, y);
-    let known = has_pair(problem.pairs(), x, y);
+    let sequence = days_apart(days, x, y);
+    let close = is_too_short(problem, days, minutes, x, y);
+    let known = has_sequence(problem.sequences(), sequence);
     if close && !known {
-        out.push((x, y))?;
+        out.push(sequence)?;
     }
     Ok(())
 }
 
-// Appends the triple of two shifts with a day off between them, where it is too short and the file hasn't it.
-fn put_triple(
-    out: &mut Vec<(Symbol, Symbol, Symbol)>,
+// Appends the sequences of a shift and each that may follow.
+fn put_sequences_of(
+    out: &mut Vec<Sequence>,
     problem: &Problem,
-    minutes: u32,
-    x: Symbol,
-    y: Symbol,
-) -> Result<(), AllocError>
-    requires minutes { minutes ≤ LONGEST_REST }
-    requires x { IsShift problem.now x }
-    requires y { IsShift problem.now y }
-    ensures { OnOk result (out.new.items ≡ out.old.items ++ triple_of problem.now minutes x y) }
-{
-    let close = is_too_short(problem, 2, minutes, x, y);
-    let known = has_triple(problem.triples(), x, y);
-    if close && !known {
-        out.push((x, Symbol::OFF, y))?;
-    }
-    Ok(())
-}
-
-// Appends the pairs of a shift and each that may follow.
-fn put_pairs_of(
-    out: &mut Vec<(Symbol, Symbol)>,
-    problem: &Problem,
+    days: u32,
     minutes: u32,
     first: u8,
 ) -> Result<(), AllocError>
-    requires minutes { minutes ≤ LONGEST_REST }
-    requires first { first < shift_count problem.now }
-    ensures { OnOk result (out.new.items ≡ out.old.items ++ of_first problem.now (pair_of problem.now minutes) first) }
-{
-    for second in 0..problem.shifts() {
-        put_pair(out, problem, minutes, shift_at(first), shift_at(second))?;
-    }
-    Ok(())
-}
-
-// Appends the triples of a shift and each that may follow a day off.
-fn put_triples_of(
-    out: &mut Vec<(Symbol, Symbol, Symbol)>,
-    problem: &Problem,
-    minutes: u32,
-    first: u8,
-) -> Result<(), AllocError>
+    requires days { days ≤ 2 }
     requires minutes { minutes ≤ LONGEST_REST }
     requires first { first < shift_count problem.now }
     ensures { OnOk result (
-        out.new.items ≡ out.old.items ++ of_first problem.now (triple_of problem.now minutes) first) }
+        out.new.items ≡ out.old.items ++ of_first problem.now (too_close problem.now days minutes) first) }
 {
     for second in 0..problem.shifts() {
-        put_triple(out, problem, minutes, shift_at(first), shift_at(second))?;
+        put_sequence(
+            out,
+            problem,
+            days,
+            minutes,
+            shift_at(first),
+            shift_at(second),
+        )?;
     }
     Ok(())
 }
 
-// The file's pairs, and behind them those that are too short.
-fn rested_pairs(
+// These sequences, and behind them those that are too short, of shifts so many days apart.
+fn with_close(
     alloc: Global,
     problem: &Problem,
+    days: u32,
     minutes: u32,
-) -> Result<Vec<(Symbol, Symbol)>, AllocError>
-    requires { minutes ≤ LONGEST_REST }
-    ensures { IfOk result (λ v. v.items ≡ rested_pairs problem.now minutes) }
+    known: &[Sequence],
+) -> Result<Vec<Sequence>, AllocError>
+    requires days { days ≤ 2 }
+    requires minutes { minutes ≤ LONGEST_REST }
+    ensures { IfOk result (λ v.
+        v.items ≡ known.now ++ of_each_two problem.now (too_close problem.now days minutes)) }
 {
-    let mut pairs = Vec::from_slice(alloc, problem.pairs())?;
+    let mut sequences = Vec::from_slice(alloc, known)?;
     for first in 0..problem.shifts() {
-        put_pairs_of(&mut pairs, problem, minutes, first)?;
+        put_sequences_of(&mut sequences, problem, days, minutes, first)?;
     }
-    Ok(pairs)
-}
-
-// The file's triples, and behind them those that are too short.
-fn rested_triples(
-    alloc: Global,
-    problem: &Problem,
-    minutes: u32,
-) -> Result<Vec<(Symbol, Symbol, Symbol)>, AllocError>
-    requires { minutes ≤ LONGEST_REST }
-    ensures { IfOk result (λ v. v.items ≡ rested_triples problem.now minutes) }
-{
-    let mut triples = Vec::from_slice(alloc, problem.triples())?;
-    for first in 0..problem.shifts() {
-        put_triples_of(&mut triples, problem, minutes, first)?;
-    }
-    Ok(triples)
+    Ok(sequences)
 }
 
 /// The problem in which each pair of shifts with fewer minutes of rest between them is forbidden, and each with a day
@@ -162,13 +143,16 @@ pub fn require_rest(alloc: Global, problem: &Problem, minutes: u32) -> Result<Le
     ensures { IfOk result (IsRestOf problem.now minutes) }
 {
     problem.prove_limits();
-    let pairs = rested_pairs(alloc, problem, minutes)?;
-    if pairs.len() > MOST_SEQUENCES as usize {
-        return Ok(LeastRest::Pairs(pairs.len() as u32));
+    let known = problem.sequences();
+    let (pairs, triples) = known.split_at(count_in(2, known));
+    let mut sequences = with_close(alloc, problem, 1, minutes, pairs)?;
+    if sequences.len() > MOST_SEQUENCES as usize {
+        return Ok(LeastRest::Pairs(sequences.len() as u32));
     }
-    let triples = rested_triples(alloc, problem, minutes)?;
+    let triples = with_close(alloc, problem, 2, minutes, triples)?;
     if triples.len() > MOST_SEQUENCES as usize {
         return Ok(LeastRest::Triples(triples.len() as u32));
     }
-    Ok(LeastRest::Rested(problem.with_sequences(pairs, triples)?))
+    sequences.extend_from_slice(&triples)?;
+    Ok(LeastRest::Rested(problem.with_sequences(sequences)?))
 }

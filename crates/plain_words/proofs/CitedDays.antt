@@ -1,6 +1,6 @@
 -- The test whether a line of a log rests on the rule of a day.
-use Rattle.std.proofs.Common.{◌≡◌, ℕ, List, length, ap, sym, ◌∙◌, subst, refl, ◌⊎◌, inl, inr, ⊎_elim, Option, Some, Bool, true, false, arith}
-use Rattle.std.specs.Prelude.{Contains, ◌↔◌, ◌==◌, ◌||◌, slice_get}
+use Rattle.std.proofs.Common.{◌≡◌, ℕ, List, ap, sym, ◌∙◌, subst, refl, ◌⊎◌, inl, inr, ⊎_elim, Option, Some, Bool, true, false, arith}
+use Rattle.std.specs.Prelude.{Contains, ◌↔◌, ◌==◌, ◌||◌}
 use Rattle.std.specs.List.{list_any}
 use Rattle.std.proofs.lemmas.Bool.{eqb-true}
 use Rattle.std.proofs.lemmas.List.Folds.{Any-from_list_any, list_any_at}
@@ -11,13 +11,12 @@ use Rattle.rwsp_terms.specs.declared.data.Weight.{Weight}
 use Rattle.rwsp_terms.specs.Instance.{Instance, IsDay}
 use Rattle.rwsp_terms.specs.Rules.{rule_of}
 use Rattle.rwsp_model.proofs.Numbering.{number_at_place}
-use Rattle.refutation_terms.specs.declared.lines.Line.{Line}
 use Rattle.refutation_terms.specs.declared.lines.Line.TheVariants.{Split, Closing, Unfinished}
 use Rattle.refutation_terms.specs.declared.lines.Leaf.{Leaf}
 use Rattle.refutation_terms.specs.declared.lines.Leaf.TheVariants as Leaves
 use Rattle.refutation_terms.specs.declared.lines.WordClaim.TheVariants.{Dead, Light}
 use Rattle.refutation_terms.specs.Leaves.{LeafFits, LeafCites}
-use Rattle.refutation_log.specs.Cited.{IsCited, IsWeighedDayRule}
+use Rattle.refutation_log.specs.Cited.{IsWeighedDayRule}
 use Rattle.refutation_log.proofs.CitedRules.{TellsCited, window_cited, listed_cited, weighed_cited, read_at}
 use Rattle.plain_words.specs.LogTold.{day_number, is_on, cites_day}
 use Rattle.plain_words.specs.Laws.{CitedDaysAreFound}

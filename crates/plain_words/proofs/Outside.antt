@@ -1,13 +1,13 @@
 -- Days whose demand a roster doesn't meet.
-use Rattle.std.proofs.Common.{◌≡◌, ℕ, zero, suc, ◌+◌, ◌-◌, ◌<◌, ◌≤◌, ◌≤ℤ◌, List, Bool, true, false, cond, refl, ap, sym, ◌∙◌, arith}
-use Rattle.std.specs.Prelude.{Option, Some, None, ◌&&◌, not, pos}
+use Rattle.std.proofs.Common.{◌≡◌, ℕ, zero, suc, ◌+◌, ◌<◌, ◌≤◌, ◌≤ℤ◌, List, Bool, true, false, cond, refl, ap, sym, ◌∙◌, arith}
+use Rattle.std.specs.Prelude.{Option, Some, None, ◌&&◌, pos}
 use Rattle.std.specs.Int.Signed.{le_z}
 use Rattle.std.specs.List.{find, range_with_len}
 use Rattle.std.proofs.lemmas.Bool.{and_parts, not-false}
 use Rattle.rwsp_terms.specs.declared.data.Symbol.{Symbol}
 use Rattle.rwsp_terms.specs.Instance.{Instance, shift_count, least, greatest}
 use Rattle.rwsp_terms.specs.Roster.{weeks_with, MeetsDay}
-use Rattle.plain_words.specs.Told.{is_outside, or_off, first_outside}
+use Rattle.plain_words.specs.Told.{is_outside, or_off}
 use Rattle.plain_words.specs.Laws.{BrokenDaysAreTold}
 use Rattle.plain_words.proofs.Misfits.{is_at_most}
 

@@ -1,6 +1,6 @@
 -- What is said of a refutation names its rules and its leaves that count.
-use Rattle.std.proofs.Common.{◌≡◌, ℕ, zero, suc, ◌+◌, ◌==◌, List, [], ◌∷◌, ◌++◌, map, refl, ap, sym, ◌∙◌, subst, arith, Option, Some, None, Bool, true, false}
-use Rattle.std.specs.Prelude.{Contains, slice_get, ◌||◌, ◌&&◌, if◌then◌else◌}
+use Rattle.std.proofs.Common.{◌≡◌, ℕ, zero, suc, ◌+◌, ◌==◌, List, [], ◌∷◌, ◌++◌, map, refl, ap, ◌∙◌, subst, arith, Option, Some, None, Bool, true, false}
+use Rattle.std.specs.Prelude.{Contains, slice_get, ◌||◌, if◌then◌else◌}
 use Rattle.std.specs.List.{flat_map, list_any, range_with_len}
 use Rattle.std.proofs.lemmas.Bool.{and_parts}
 use Rattle.rwsp_terms.specs.declared.data.Symbol.{Symbol}
@@ -11,7 +11,6 @@ use Rattle.refutation_terms.specs.declared.lines.Line.TheVariants.{Closing}
 use Rattle.refutation_terms.specs.declared.lines.Leaf.TheVariants.{Blocks}
 use Rattle.refutation_terms.specs.declared.lines.Opening.{Opening}
 use Rattle.refutation_terms.specs.declared.lines.Opening.TheVariants.{Full, Turned, Given}
-use Rattle.refutation_terms.specs.Log.{Log}
 use Rattle.plain_words.specs.declared.reason.Rosters.{Rosters}
 use Rattle.plain_words.specs.declared.pieces.TheConstants.{COUNTING}
 use Rattle.plain_words.specs.Counting.{is_misfit}

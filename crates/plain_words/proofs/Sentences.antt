@@ -1,5 +1,5 @@
 -- Which statements are made about a problem.
-use Rattle.std.proofs.Common.{◌≡◌, ℕ, zero, suc, ◌+◌, ◌<◌, ◌≤◌, List, [], ◌∷◌, ◌++◌, length, map, Option, Some, None, Bool, true, false, cond, refl, ap, sym, subst, ◌∙◌, arith, inl, inr}
+use Rattle.std.proofs.Common.{◌≡◌, ℕ, zero, suc, ◌+◌, ◌<◌, ◌≤◌, List, [], ◌∷◌, ◌++◌, length, map, Option, Some, None, Bool, true, false, cond, refl, ap, subst, ◌∙◌, arith, inl, inr}
 use Rattle.std.specs.Prelude.{Contains, filter, ◌||◌}
 use Rattle.std.specs.List.{flat_map, list_any, range_with_len}
 use Rattle.std.proofs.lemmas.Bool.{false≢true, both_ways}
@@ -9,14 +9,14 @@ use Rattle.std.proofs.lemmas.List.Elements.{filter-append, Contains-append_left,
 use Rattle.rwsp_terms.specs.declared.data.Class.{Class}
 use Rattle.rwsp_terms.specs.declared.data.Class.TheVariants.{Shift, Off, Work}
 use Rattle.rwsp_terms.specs.declared.data.Symbol.{Symbol}
-use Rattle.rwsp_terms.specs.Instance.{Instance, sequences, shift_count, symbol_numbered}
+use Rattle.rwsp_terms.specs.Instance.{Instance, shift_count, symbol_numbered}
 use Rattle.rwsp_terms.specs.Rules.{rules}
 use Rattle.refutation_terms.specs.BlocksLeaf.{BlocksHold}
 use Rattle.rwsp_file.specs.declared.long_numbers.LongNumber.{LongNumber}
 use Rattle.plain_words.specs.declared.part.Part.{Part}
 use Rattle.plain_words.specs.declared.problem.Telling.TheVariants.{WithCounts}
 use Rattle.plain_words.specs.Statements.{Statement, Says, Named, Counted, said_if}
-use Rattle.plain_words.specs.Sentences.{size_statement, hours_statement, crossed_blocks, long_blocks, shift_slips, twice_at, earlier, sequence_slips, crossed_slips, large_slips, demand_slips, full_slips, day_slips, slips, numeric_name, counted_at, counted, slip_statements, rule_statements, problem_statements}
+use Rattle.plain_words.specs.Sentences.{size_statement, hours_statement, crossed_blocks, long_blocks, shift_slips, twice_at, earlier, sequence_slips, crossed_slips, large_slips, demand_slips, full_slips, day_slips, slips, numeric_name, counted_at, counted, slip_statements, rule_statements}
 use Rattle.plain_words.specs.Counting.{is_misfit}
 use Rattle.plain_words.specs.Laws.{says_rule, RulesAreSaidOnce, CountedAreLeaves}
 use Rattle.plain_words.proofs.Misfits.{misfits_are_leaves}
@@ -64,7 +64,7 @@ shift_none q misses P x = both_none q (crossed_blocks P (Shift (symbol_numbered 
 slips_none : (q : Statement → Bool) → Misses q → (P : Instance) (is_sized : Bool) → filter q (slips P is_sized) ≡ []
 slips_none q misses P is_sized =
     let shifts = pieces_none q (shift_slips P) 1 (shift_count P) (shift_none q misses P) in
-    let twice = pieces_none q (sequence_slips P) 0 (length (sequences P)) (λ k. twice_none q misses P k (earlier P k)) in
+    let twice = pieces_none q (sequence_slips P) 0 (length P.sequences) (λ k. twice_none q misses P k (earlier P k)) in
     let days = pieces_none q (day_slips P is_sized) 1 P.days (day_none q misses P is_sized) in
     let blocks = both_none q _ _ (both_none q _ _ shifts (blocks_none q misses P Off)) (blocks_none q misses P Work) in
     both_none q _ _ (both_none q _ _ blocks twice) days

@@ -9,7 +9,7 @@ use Rattle.rwsp_terms.specs.declared.data.Class.{Class}
 use Rattle.rwsp_terms.specs.declared.data.Class.TheVariants.{Shift, Off, Work}
 use Rattle.rwsp_terms.specs.declared.data.Rule.{Rule}
 use Rattle.rwsp_terms.specs.declared.data.Rule.TheVariants.{Most, Least, Never, Day}
-use Rattle.rwsp_terms.specs.Instance.{Instance, bounds, sequences, shift_count, shift_demand, column_least, column_greatest}
+use Rattle.rwsp_terms.specs.Instance.{Instance, bounds, shift_count, shift_demand, column_least, column_greatest}
 use Rattle.plain_words.specs.Words.{days_words, weeks_words, range_words, shift_words, symbol_words}
 use Rattle.plain_words.specs.Fixed.{fixed}
 use Rattle.plain_words.specs.declared.pieces.TheConstants.{AT_LEAST, AT_MOST, BLANK, COLON, COMMA, DAYS_OFF, DAY_FRONT, DAY_OFF, DOTS, FOR_OFF, IN_A_ROW, IS_CROSSED, NEEDS, NEVER, OF, OF_WORK, ON_DAY, THEN}
@@ -92,7 +92,7 @@ day_words P j = fixed DAY_FRONT.now ++ decimal j ++ fixed COLON.now ++ demand_wo
 unfoldable pub rule_words : Instance → Rule → List ℕ
 rule_words P (Most c) = most_words P c
 rule_words P (Least c) = least_words P c
-rule_words P (Never k) = sequence_in_words P (slice_get (sequences P) k)
+rule_words P (Never k) = sequence_in_words P (slice_get P.sequences k)
 rule_words P (Day j) = day_words P j
 
 unfoldable pub rule_in_words : Instance → Option Rule → List ℕ

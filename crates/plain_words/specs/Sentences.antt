@@ -9,7 +9,7 @@ use Rattle.rwsp_terms.specs.declared.data.Class.{Class}
 use Rattle.rwsp_terms.specs.declared.data.Class.TheVariants as Classes
 use Rattle.rwsp_terms.specs.declared.data.Rule.{Rule}
 use Rattle.rwsp_terms.specs.declared.data.Rule.TheVariants.{Most, Least, Never, Day}
-use Rattle.rwsp_terms.specs.Instance.{Instance, bounds, sequences, shift_count, shift_demand, column_least, symbol_numbered}
+use Rattle.rwsp_terms.specs.Instance.{Instance, bounds, shift_count, shift_demand, column_least, symbol_numbered}
 use Rattle.rwsp_terms.specs.Rules.{rules}
 use Rattle.rwsp_model.specs.RuleNumbers.{place_of}
 use Rattle.rwsp_file.specs.declared.long_numbers.LongNumber.{LongNumber}
@@ -107,7 +107,7 @@ are_same x y = false
 
 -- the sequences at two places are one
 abbrev pub stands_at : Instance → (k i : ℕ) → Bool
-stands_at P k i = are_same (slice_get (sequences P) k) (slice_get (sequences P) i)
+stands_at P k i = are_same (slice_get P.sequences k) (slice_get P.sequences i)
 
 -- the first earlier place of the sequence at place k
 abbrev pub earlier : Instance → (k : ℕ) → Option ℕ
@@ -153,7 +153,7 @@ day_slips P is_sized j =
 abbrev pub slips : Instance → (is_sized : Bool) → List Statement
 slips P is_sized =
     flat_map (shift_slips P) (range_with_len 1 (shift_count P)) ++ crossed_blocks P Classes.Off
-    ++ crossed_blocks P Classes.Work ++ flat_map (sequence_slips P) (range_with_len 0 (length (sequences P)))
+    ++ crossed_blocks P Classes.Work ++ flat_map (sequence_slips P) (range_with_len 0 (length P.sequences))
     ++ flat_map (day_slips P is_sized) (range_with_len 1 P.days)
 
 -- The whole.

@@ -2,7 +2,7 @@
 #![tactic(auto, unfolding(crate::specs::Counting::misfit_words, crate::specs::Counting::no_block_words, crate::specs::Counting::made_words, crate::specs::Counting::rounds_words, crate::specs::Counting::unlike_words, crate::specs::Counting::turns_words, crate::specs::Counting::off_misfit_words, crate::specs::Counting::counted_words), using(crate::proofs::Joined::sum_more))]
 
 ghost use Rattle.std.specs.Prelude.{◌≡◌, ◌+◌, ◌*◌, ◌<◌, ◌≤◌, ◌++◌, nat_lt, OnOk};
-ghost use Rattle.rwsp_terms.specs.Instance.{cells, shift_count, IsClass, IsDay, IsSymbol};
+ghost use Rattle.rwsp_terms.specs.Instance.{cells, IsClass, IsDay, IsSymbol};
 ghost use Rattle.rwsp_terms.specs.declared.data.Class.TheVariants.{Off, Work};
 ghost use Rattle.plain_words.specs.Counting.{is_misfit, lengths, asked_on, IsAsked, days_asked, days_of, rounds, room_for, are_few, all_days, misfit_words, no_block_words, blocks_for, made_words, rounds_words, unlike_words, turns_words, off_misfit_words, counted_words};
 

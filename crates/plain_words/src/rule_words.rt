@@ -4,7 +4,7 @@
 ghost use Rattle.std.specs.Prelude.{◌≡◌, ◌++◌, ◌+◌, ◌-◌, ◌*◌, ◌<◌, ◌≤◌, IfSome, OnOk, Some};
 ghost use Rattle.std.specs.List.{flat_map, range_with_len};
 ghost use Rattle.rwsp_terms.specs.declared.limits.TheConstants.{MOST_WEEKS, MOST_SHIFTS};
-ghost use Rattle.rwsp_terms.specs.Instance.{bounds, shift_count, column_least, column_greatest, IsClass, IsDay};
+ghost use Rattle.rwsp_terms.specs.Instance.{bounds, shift_count, column_least, IsClass, IsDay};
 ghost use Rattle.rwsp_terms.specs.Roster.{IsRule};
 ghost use Rattle.rwsp_terms.specs.Rules.{rule_of};
 ghost use Rattle.rwsp_model.specs.RuleNumbers.{place_of};

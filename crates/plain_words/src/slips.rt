@@ -3,7 +3,7 @@
 
 ghost use Rattle.std.specs.Prelude.{◌≡◌, ◌+◌, ◌<◌, ◌≤◌, ◌∷◌, [], ◌++◌, length, IfSome, OnOk};
 ghost use Rattle.std.specs.List.{flat_map, range_with_len};
-ghost use Rattle.rwsp_terms.specs.Instance.{sequences, shift_count, IsClass, IsDay};
+ghost use Rattle.rwsp_terms.specs.Instance.{shift_count, IsClass, IsDay};
 ghost use Rattle.plain_words.specs.Statements.{lines};
 ghost use Rattle.plain_words.specs.Sentences.{crossed_blocks, long_blocks, shift_slips, twice_by, is_same, stands_at, earlier, sequence_slips, is_large, demand_slips, day_slips, slips};
 
@@ -76,8 +76,8 @@ fn is_same(x: Sequence, y: Sequence) -> bool
 
 // Whether the sequences at two places are one.
 fn stands_at(problem: &Problem, place: u32, earlier: u32) -> bool
-    requires place { place < length (sequences problem.now) }
-    requires earlier { earlier < length (sequences problem.now) }
+    requires place { place < length problem.now.sequences }
+    requires earlier { earlier < length problem.now.sequences }
     ensures { result ≡ stands_at problem.now place earlier }
 {
     is_same(problem.sequence(place), problem.sequence(earlier))
@@ -86,7 +86,7 @@ fn stands_at(problem: &Problem, place: u32, earlier: u32) -> bool
 // The first earlier place of the sequence at a place.
 #[tactic(auto, using(crate::proofs::Joined::none_found))]
 fn earlier(problem: &Problem, place: u32) -> Option<u32>
-    requires { place < length (sequences problem.now) }
+    requires { place < length problem.now.sequences }
     ensures value { result ≡ earlier problem.now place }
     ensures before { IfSome result (λ i. i < place) }
 {
@@ -108,7 +108,7 @@ fn put_twice(out: &mut Vec<u8>, by: &Teller, first: u32, second: u32) -> Done
 
 // Appends that the sequence at a place stands earlier too, where it does.
 fn put_sequence_slips(out: &mut Vec<u8>, by: &Teller, place: u32) -> Done
-    requires { place < length (sequences by.now.problem.now) }
+    requires { place < length by.now.problem.now.sequences }
     ensures { OnOk result (out.new.items ≡ out.old.items ++ lines by.now (sequence_slips by.now.problem.now place)) }
 {
     match earlier(by.problem, place) {
@@ -123,7 +123,7 @@ fn put_sequence_slips(out: &mut Vec<u8>, by: &Teller, place: u32) -> Done
 // Appends which sequences stand twice. It costs a step for each two of them.
 fn put_all_sequence_slips(out: &mut Vec<u8>, by: &Teller) -> Done
     ensures { OnOk result (out.new.items ≡ out.old.items ++ lines by.now
-        (flat_map (sequence_slips by.now.problem.now) (range_with_len 0 (length (sequences by.now.problem.now))))) }
+        (flat_map (sequence_slips by.now.problem.now) (range_with_len 0 (length by.now.problem.now.sequences)))) }
 {
     for place in 0..by.problem.sequence_count() {
         put_sequence_slips(out, by, place)?;

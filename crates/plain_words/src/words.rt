@@ -6,7 +6,7 @@ ghost use Rattle.std.specs.List.{list_all};
 ghost use Rattle.rwsp_terms.specs.Instance.{name_numbered};
 ghost use Rattle.plain_words.specs.Words.{count_words, days_words, weeks_words, range_words, is_of_number, is_like_words, name_words, shift_words, symbol_words};
 
-use crate::pieces::{DAY, DAY_OFF, DAYS, Done, QUOTE, TO, WEEK, WEEKS, put};
+use crate::pieces::{DAY, DAYS, Done, QUOTE, TO, WEEK, WEEKS, put};
 use rwsp_model::Problem;
 use rwsp_terms::{Bounds, Symbol};
 use rwsp_text::put_number;

@@ -304,7 +304,7 @@ fn refused_problems(rt: HostRuntime) -> Result<(), Fail> {
 }
 
 const USAGE: &str =
-    "usage: rwsp plan FILE [--budget B] | check FILE LOG [--workers N] | verify FILE ROSTER | reduce FILE LOG | show FILE | trial NUMBER WEEKS | best FILE [--budget B] | check-free FILE LOG | staff FILE LOW HIGH [--budget B] | check-staff FILE TEXT | crew FILE ROSTER DATE DAYS [EMPLOYEE] | mend FILE [--budget B] | fill FILE CELLS [--budget B] | check-fill FILE LOG | rest FILE MINUTES | page FILE ROSTER | ics FILE ROSTER DATE DAYS EMPLOYEE | on FILE ROSTER START DATE | roster FILE ANSWER | explain FILE\n";
+    "usage: rwsp plan FILE [--budget B] [--seed S] | check FILE LOG [--workers N] | verify FILE ROSTER | reduce FILE LOG | show FILE | trial NUMBER WEEKS | best FILE [--budget B] | check-free FILE LOG | staff FILE LOW HIGH [--budget B] | check-staff FILE TEXT | crew FILE ROSTER DATE DAYS [EMPLOYEE | --csv] | mend FILE [--budget B] | fill FILE CELLS [--budget B] | check-fill FILE LOG | rest FILE MINUTES | page FILE ROSTER | ics FILE ROSTER DATE DAYS EMPLOYEE | on FILE ROSTER START DATE | roster FILE ANSWER | explain FILE\n";
 
 // A file that isn't held can't be read; behind a refused problem it isn't looked for.
 #[test]

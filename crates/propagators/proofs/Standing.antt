@@ -1,23 +1,12 @@
 -- What follows from the domains that are counted: for callers.
-use Rattle.std.proofs.Common.{◌≡◌, ◌∙◌, ℕ, List, [], get_or, ap, sym, subst, get_or-set_other, Bool, true, false, None}
+use Rattle.std.proofs.Common.{ℕ, Bool, true, false, None}
 use Rattle.rwsp_terms.specs.declared.data.Symbol.{Symbol}
 use Rattle.rwsp_terms.specs.Instance.{Instance}
 use Rattle.refutation_terms.specs.Word.{Domains}
 use Rattle.refutation_terms.specs.Log.{Holds}
 use Rattle.refutation_terms.specs.declared.lines.Line.TheVariants.{Closing}
 use Rattle.refutation_terms.specs.declared.lines.Leaf.TheVariants.{Day}
-use Rattle.domain_store.specs.Store.{Store, changed}
-use Rattle.propagators.specs.Counted.{Counted, StandsFor, DiffersAtMostAt}
 use Rattle.propagators.specs.Overruns.{Misses, IsWithinDemand}
-
--- one change makes domains differ at its position alone
-pub differs_where_changed : (C : Counted) (S T : Store) (p : ℕ) (s : List ℕ) → StandsFor C S → T ≡ changed S p s → DiffersAtMostAt C T p
-differs_where_changed C S T p s stands change =
-    let P : Store → Type 0 = λ U. DiffersAtMostAt C U p in
-    subst P (sym change) (record {
-      shape = record { days = stands.days; weeks = stands.weeks; shifts = stands.shifts };
-      others = λ q other. ap (λ sets. get_or sets q []) stands.sets ∙ sym (get_or-set_other S.sets p q s [] other);
-    })
 
 -- an overrun is a leaf that holds
 pub holds_where_overrun : (P : Instance) (D : Domains) (j : ℕ) (x : Symbol) (over : Bool) → Misses P D j x.number over → Holds P None D (Closing (Day j x over))

@@ -1,5 +1,5 @@
 -- The marks of a cycle in which no position has a symbol.
-use Rattle.std.proofs.Common.{◌≡◌, ◌≢◌, ◌⊎◌, inl, inr, ℕ, zero, suc, ◌+◌, ◌-◌, ◌*◌, ◌/◌, ◌%◌, ◌^◌, ◌<◌, ◌≤◌, List, [], length, get_or, set, replicate, refl, ap, sym, ◌∙◌, subst, arith, false, IsTrue, Option, Some, None, get_or-set_same, get_or-set_other}
+use Rattle.std.proofs.Common.{◌≡◌, ◌≢◌, ◌⊎◌, inl, inr, ℕ, zero, suc, ◌+◌, ◌-◌, ◌*◌, ◌%◌, ◌^◌, ◌<◌, ◌≤◌, List, [], length, get_or, set, replicate, refl, ap, sym, ◌∙◌, subst, arith, false, IsTrue, Option, Some, None, get_or-set_same, get_or-set_other}
 use Rattle.std.specs.Prelude.{◌↔◌}
 use Rattle.std.proofs.lemmas.Bool.{cases_lt}
 use Rattle.std.proofs.lemmas.List.{length-set, length-replicate, get_or-replicate, get_or_past}
@@ -41,10 +41,6 @@ fits_into A width a room = record {
       let moves = (a.stepped s.from s.symbol s.to).0 (Contains-get_or A.steps k d less) in
       omega (arith, (a.inside s.from s.symbol.number s.to moves).1, room);
 }
-
--- words for so many states
-pub room_for_all : (states words : ℕ) → words ≡ states / WORD_BITS + 1 → states ≤ WORD_BITS * words
-room_for_all states words is = omega (arith, is)
 
 -- rows without marks
 

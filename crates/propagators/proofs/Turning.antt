@@ -187,13 +187,6 @@ one_known C D S p same now differs within long =
 pub same_positions : (C : KnownCycle) (S : Store) → BelongsTo C.problem S → IsStore S → length C.sets ≡ cells C.problem → length C.sets ≡ length S.sets
 same_positions C S belongs is long = long ∙ ap (λ w. w * C.problem.days) (sym belongs.weeks) ∙ ap (λ d. S.weeks * d) (sym belongs.days) ∙ sym is.long
 
--- a position has a day in the second turn
-pub second_day : {A : RuleAutomaton} {sets front back : List (List ℕ)} (c : IsCycle A sets front back) (rows : List (List ℕ)) (p n : ℕ) → p < length sets → n ≡ length sets → (length rows ≡ length front) ⊎ (length rows ≡ length back) → p + n + 1 < length rows
-second_day c rows p n within all long = elim long [
-  | inl e ↦ omega (arith, e, within, all, c.long, c.front_long)
-  | inr e ↦ omega (arith, e, within, all, c.long, c.back_long)
-]
-
 -- what is said of steps, domains and a day as they are read
 pub as_read : (P : List Step → List (List ℕ) → ℕ → Type 0) (steps now : List Step) (sets read : List (List ℕ)) (day there : ℕ) → now ≡ steps → read ≡ sets → day ≡ there → P now read day → P steps sets there
 as_read P steps now sets read day there is are same h =

@@ -7,6 +7,7 @@ use Rattle.rwsp_terms.specs.Instance.{cells}
 use Rattle.clean_words.specs.declared.step.Step.{Step}
 use Rattle.clean_words.specs.Moves.{Moves, move_at, after, lead}
 use Rattle.clean_words.specs.Automata.{RuleAutomaton, IsAutomaton}
+use Rattle.clean_words.proofs.Leading.{lead_nowhere}
 use Rattle.propagators.specs.declared.marks.Way.TheVariants.{On, Back}
 use Rattle.propagators.specs.Marks.{is_marked, row_at, has_on, IsJoined}
 use Rattle.propagators.specs.KeptCycle.{IsCycle, HasJoiningStep}
@@ -39,10 +40,6 @@ held_back H i (x ∷ u) v h = let e : i + 1 + length u ≡ i + length (x ∷ u) 
 lead_both : (m : Moves) (s : Option ℕ) (u v : List Symbol) → lead m s (u ++ v) ≡ lead m (lead m s u) v
 lead_both m s [] v = refl
 lead_both m s (x ∷ u) v = lead_both m (after m s x) u v
-
-lead_nowhere : (m : Moves) (u : List Symbol) → lead m None u ≡ None
-lead_nowhere m [] = refl
-lead_nowhere m (x ∷ u) = lead_nowhere m u
 
 -- a word that leads somewhere begins somewhere
 begins : (m : Moves) (s : Option ℕ) (u : List Symbol) (end : ℕ) → lead m s u ≡ Some end → (t : ℕ) × (s ≡ Some t)

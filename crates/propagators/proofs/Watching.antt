@@ -195,10 +195,6 @@ same_all_taken a b long done = ext_get_or [] a b long (λ q less. done q (omega 
 
 -- where the positions lie that must yet be looked at
 
-false_unless : (b : Bool) → (b ≡ true → b ≡ false) → b ≡ false
-false_unless true f = f refl
-false_unless false f = refl
-
 either_true : (a b c : Bool) → c ≡ (a || b) → c ≡ true → (a ≡ true) ⊎ (b ≡ true)
 either_true true b c e h = inl refl
 either_true false b c e h = inr (sym e ∙ h)
@@ -244,15 +240,3 @@ span_widened pending p first end from to flag lost span is lt here others inside
         ])
   ];
 }
-
--- no more of the positions before p have to be looked at
-pub seen_more : (old new : List Bool) (first p : ℕ) → ((q : ℕ) → get_or new q false ≡ true → get_or old q false ≡ true) → get_or new p false ≡ false
-    → ((q : ℕ) → first ≤ q → q < p → get_or old q false ≡ false) → (q : ℕ) → first ≤ q → q < p + 1 → get_or new q false ≡ false
-seen_more old new first p fewer here seen q from less = elim (cases_eq q p) [
-  | inl same ↦ subst (λ k. get_or new k false ≡ false) (sym same) here
-  | inr other ↦ false_unless (get_or new q false) (λ h. absurd (unlike (get_or old q false) (fewer q h) (seen q from (omega (arith, other, less)))))
-]
-
-pub none_within : (pending : List Bool) (first end p : ℕ) → end ≤ p → ((q : ℕ) → first ≤ q → q < p → get_or pending q false ≡ false)
-    → ((q : ℕ) → get_or pending q false ≡ true → (first ≤ q) × (q < end)) → (q : ℕ) → get_or pending q false ≡ false
-none_within pending first end p le seen kept q = false_unless (get_or pending q false) (λ h. seen q (kept q h).0 (omega (arith, (kept q h).1, le)))

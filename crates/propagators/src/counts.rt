@@ -1,5 +1,5 @@
 // Counts of the symbols of each day under domains.
-ghost use Rattle.std.specs.Prelude.{◌≡◌, ◌+◌, ◌-◌, ◌*◌, ◌<◌, ◌≤◌, IfOk, [], length, replicate, slice_index_or, IsTrue, ◌↔◌};
+ghost use Rattle.std.specs.Prelude.{◌≡◌, ◌+◌, ◌-◌, ◌*◌, ◌<◌, ◌≤◌, IfOk, length};
 ghost use Rattle.rwsp_terms.specs.Instance.{Instance, shift_count};
 ghost use Rattle.refutation_terms.specs.DayLeaf.{fixed, possible};
 ghost use Rattle.domain_store.specs.Store.{Store, domain_at, has_domain, BelongsTo};

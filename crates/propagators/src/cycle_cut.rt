@@ -1,5 +1,5 @@
 // Symbols that no clean word of two turns has.
-ghost use Rattle.std.specs.Prelude.{◌≡◌, ℕ, ◌<◌, ◌≤◌, ◌↔◌, length, IsTrue, MatchOption};
+ghost use Rattle.std.specs.Prelude.{◌≡◌, ℕ, ◌<◌, ◌↔◌, length, IsTrue, MatchOption};
 ghost use Rattle.rwsp_terms.specs.declared.data.Symbol.{Symbol};
 ghost use Rattle.propagators.specs.Known.{KnowsDomains};
 ghost use Rattle.propagators.specs.CycleCuts.{IsUnsupported};

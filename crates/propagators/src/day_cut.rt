@@ -1,5 +1,5 @@
 // Symbols that a day leaf takes away.
-ghost use Rattle.std.specs.Prelude.{◌≡◌, ℕ, ◌+◌, ◌-◌, ◌<◌, length, MatchOption, true, false};
+ghost use Rattle.std.specs.Prelude.{◌≡◌, ◌+◌, ◌-◌, ◌<◌, length, MatchOption, true, false};
 ghost use Rattle.rwsp_terms.specs.Instance.{IsDay, IsSymbol};
 ghost use Rattle.refutation_terms.specs.DayLeaf.{fixed, possible};
 ghost use Rattle.domain_store.specs.Store.{has_domain, BelongsTo};

@@ -1,5 +1,5 @@
 // Sets of states for all places between days.
-ghost use Rattle.std.specs.Prelude.{◌≡◌, ◌≢◌, ◌↔◌, ℕ, ◌+◌, ◌*◌, ◌<◌, ◌≤◌, false, true, length, replicate, slice_set, IfOk, IsTrue};
+ghost use Rattle.std.specs.Prelude.{◌≡◌, ◌≢◌, ℕ, ◌+◌, ◌*◌, ◌<◌, ◌≤◌, false, true, length, replicate, slice_set, IfOk};
 ghost use Rattle.domain_store.specs.Sets.{has_symbol};
 ghost use Rattle.propagators.specs.Marks.{row_at, IsWide, IsPass, MendsFront, MendsBack, FitsInto};
 

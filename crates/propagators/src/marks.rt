@@ -9,7 +9,7 @@ use std::alloc::{AllocError, Global};
 use std::marker::Model;
 
 /// The states that one word of bits is for.
-pub const WORD_BITS: u32 = 64;
+pub const WORD_BITS: usize = 64;
 
 /// Which way words are followed: from the front on, or from the end back.
 #[derive(Clone, Copy)]
@@ -20,7 +20,7 @@ pub enum Way {
 
 impl Way {
     // The state from which the step leads this way.
-    fn here(self, step: &Step) -> u32
+    fn here(self, step: &Step) -> usize
         ensures { result ≡ here_of self step.now }
     {
         match self {
@@ -30,7 +30,7 @@ impl Way {
     }
 
     // The state to which it leads.
-    fn there(self, step: &Step) -> u32
+    fn there(self, step: &Step) -> usize
         ensures { result ≡ there_of self step.now }
     {
         match self {
@@ -72,21 +72,21 @@ impl Marks {
     }
 
     // Whether the state is marked.
-    pub fn has(&self, state: u32) -> bool
+    pub fn has(&self, state: usize) -> bool
         ensures { result ≡ is_marked self.now state }
     {
-        let place = (state / WORD_BITS) as usize;
+        let place = state / WORD_BITS;
         place < self.words.len() && (self.words[place] >> (state % WORD_BITS)) & 1 == 1
     }
 
     // Marks the state.
-    pub fn put(&mut self, state: u32)
+    pub fn put(&mut self, state: usize)
         requires { state < WORD_BITS * length self.old }
         ensures long { length self.new ≡ length self.old }
         ensures marks { (t : ℕ)
             → IsTrue (is_marked self.new t) ↔ (IsTrue (is_marked self.old t) ⊎ (state ≡ t)) }
     {
-        let place = (state / WORD_BITS) as usize;
+        let place = state / WORD_BITS;
         let before = self.words[place];
         self.words[place] = before | (1 << (state % WORD_BITS));
     }

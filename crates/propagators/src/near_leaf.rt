@@ -1,5 +1,5 @@
 // A leaf of words that weigh too little, after an exact test.
-ghost use Rattle.std.specs.Prelude.{◌*◌, ◌<◌, ◌≤◌, ◌+◌, ◌≡◌, IfOk, IfSome, OnOk, Some, None, pos, neg_ℤ, ◌≤ℤ◌};
+ghost use Rattle.std.specs.Prelude.{◌*◌, ◌<◌, ◌≤◌, ◌+◌, IfOk, IfSome, OnOk, Some, None, pos, neg_ℤ, ◌≤ℤ◌};
 ghost use Rattle.rwsp_terms.specs.Instance.{cells, IsDay};
 ghost use Rattle.rwsp_terms.specs.declared.limits.TheConstants.{GREATEST_REWARD, LONGEST_WORD};
 ghost use Rattle.refutation_terms.specs.Ranges.{AreWeightsOf};

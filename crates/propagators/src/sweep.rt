@@ -89,8 +89,8 @@ fn bit(number: u8) -> u16 {
 // A step between two states.
 #[derive(Clone, Copy, Drop)]
 struct Move {
-    from: u32,
-    to: u32,
+    from: usize,
+    to: usize,
 }
 
 // The room for passes over days.
@@ -101,7 +101,7 @@ pub struct Sweep {
     // For each place of a gain the steps that gain it, ascending by the state that they are from.
     moves: Vec<Vec<Move>>,
     // For each place of a gain and each state, where the step leads.
-    ends: Vec<Option<u32>>,
+    ends: Vec<Option<usize>>,
     // What the words from each state to the end weigh at most, on one day and on the next.
     now: Vec<i64>,
     next: Vec<i64>,
@@ -119,7 +119,7 @@ impl Sweep {
         let ends = ends_of(alloc, automaton)?;
         Ok(Sweep {
             steps: automaton.steps().len() as u64,
-            moves: moves_of(alloc, &ends, states as u32)?,
+            moves: moves_of(alloc, &ends, states)?,
             ends,
             now: vec![in alloc; NEVER; states]?,
             next: vec![in alloc; NEVER; states]?,
@@ -208,7 +208,7 @@ impl Sweep {
             if is_off_again && place.ends_weekend(day) {
                 add_one(&mut counts, place.shape.size());
             }
-            state = to as usize;
+            state = to;
         }
         Ok(counts)
     }
@@ -220,7 +220,7 @@ impl Sweep {
     }
 
     // Where the step from a state leads that gains what has this place.
-    fn end_of(&self, place: usize, state: usize) -> Option<u32> {
+    fn end_of(&self, place: usize, state: usize) -> Option<usize> {
         entry_or(&self.ends, place_of(place, state, self.now.len()), None)
     }
 
@@ -242,8 +242,8 @@ struct Choices<'a> {
 fn weigh_moves(moves: &[Move], gain: i64, next: &[i64], now: &mut [i64], choices: Choices<'_>) {
     let Choices { all, row, place } = choices;
     for step in moves {
-        let weight = entry_or(next, step.to as usize, NEVER).wrapping_add(gain);
-        let from = step.from as usize;
+        let weight = entry_or(next, step.to, NEVER).wrapping_add(gain);
+        let from = step.from;
         if weight > entry_or(now, from, NEVER) {
             put(now, from, weight);
             put(all, row.saturating_add(from), place);
@@ -257,11 +257,11 @@ fn place_of(place: usize, state: usize, states: usize) -> usize {
 }
 
 // Where the step from each state leads, for each place of a gain.
-fn ends_of(alloc: Global, automaton: &Automaton) -> Result<Vec<Option<u32>>, AllocError> {
+fn ends_of(alloc: Global, automaton: &Automaton) -> Result<Vec<Option<usize>>, AllocError> {
     let mut ends = Vec::new(alloc);
     automaton.prove_facts();
     for place in 0..PLACES {
-        for state in 0..automaton.states() as u32 {
+        for state in 0..automaton.states() {
             ends.push(end_of(automaton, place, state))?;
         }
     }
@@ -269,7 +269,7 @@ fn ends_of(alloc: Global, automaton: &Automaton) -> Result<Vec<Option<u32>>, All
 }
 
 // Where the step from a state leads that gains what has this place. A day off behind a day off has a place of its own.
-fn end_of(automaton: &Automaton, place: usize, state: u32) -> Option<u32>
+fn end_of(automaton: &Automaton, place: usize, state: usize) -> Option<usize>
     requires place { place < PLACES }
     requires state { state < length automaton.now.moves }
 {
@@ -284,14 +284,14 @@ fn end_of(automaton: &Automaton, place: usize, state: u32) -> Option<u32>
 // The steps for each place of a gain.
 fn moves_of(
     alloc: Global,
-    ends: &[Option<u32>],
-    states: u32,
+    ends: &[Option<usize>],
+    states: usize,
 ) -> Result<Vec<Vec<Move>>, AllocError> {
     let mut all = Vec::new(alloc);
     for place in 0..PLACES {
         let mut moves = Vec::new(alloc);
         for from in 0..states {
-            let number = place_of(place, from as usize, states as usize);
+            let number = place_of(place, from, states);
             if let Some(to) = entry_or(ends, number, None) {
                 moves.push(Move { from, to })?;
             }

@@ -1,5 +1,5 @@
 // The clean words of two turns, kept while domains change.
-ghost use Rattle.std.specs.Prelude.{◌≡◌, ◌↔◌, ℕ, ◌+◌, ◌-◌, ◌*◌, ◌^◌, ◌<◌, ◌≤◌, [], false, true, length, replicate, slice_index_or, slice_set, IfOk, IsTrue};
+ghost use Rattle.std.specs.Prelude.{◌≡◌, ◌↔◌, ℕ, ◌+◌, ◌-◌, ◌*◌, ◌<◌, ◌≤◌, false, true, length, slice_index_or, slice_set, IfOk, IsTrue};
 ghost use Rattle.rwsp_terms.specs.Instance.{cells, shift_count};
 ghost use Rattle.refutation_terms.specs.declared.lines.Line.TheVariants.{Closing};
 ghost use Rattle.refutation_terms.specs.declared.lines.Leaf.TheVariants.{Words};
@@ -83,7 +83,7 @@ impl<'a> Cycle<'a> {
         automaton.problem().prove_limits();
         let cells = automaton.problem().cells();
         let days = 2 * cells as usize;
-        let words = automaton.states() / WORD_BITS as usize + 1;
+        let words = automaton.states() / WORD_BITS + 1;
         let front = first_front(alloc, days, words)?;
         let back = first_back(alloc, days, words)?;
         let sets = KeptSets::empty(alloc, cells)?;

@@ -79,22 +79,6 @@ pub record CutSoFar (P : Instance) (goal : Option ℕ) (counts : Bool) (size : �
   pub each : All (IsJudgeable P) chunks
   pub parts : (o : Opening) → StandsBehind P goal counts o [] all → IsOpenOrDone P goal counts size o all.bytes before chunks rest
 
--- nothing was cut off
-pub cut_none : (P : Instance) (goal : Option ℕ) (counts : Bool) (size : ℕ) (all : Start) (before : List UnreadSplit) (chunks : List Start) → IsJudgeable P all → all.bytes ≢ [] → before ≡ [] → chunks ≡ [] → CutSoFar P goal counts size all before chunks (Some all)
-cut_none P goal counts size all before chunks h some none empty =
-    subst (λ opened. CutSoFar P goal counts size all opened chunks (Some all)) (sym none)
-    (subst (λ cs. CutSoFar P goal counts size all [] cs (Some all)) (sym empty)
-    (record {
-      next = (h, some);
-      short = omega arith;
-      count = inr (omega arith);
-      each = All-nil (IsJudgeable P);
-      parts = λ o st. record {
-        inside = λ lines are. (are, subst (λ ls. StandsBehind P goal counts o ls all) (sym are) st);
-        goes_on = λ more f. f [] refl;
-      };
-    }))
-
 -- a chunk begins where what it was cut off began
 same_place : (P : Instance) (goal : Option ℕ) (counts : Bool) (o : Opening) (earlier : List Line) (old chunk : Start) → chunk.walk ≡ old.walk → chunk.first ≡ old.first → StandsBehind P goal counts o earlier old → StandsBehind P goal counts o earlier chunk
 same_place P goal counts o earlier old chunk e f h = record { state = subst (IsStateOf P o earlier) (sym e) h.state; counted = f ∙ h.counted }
@@ -162,9 +146,6 @@ few_on P goal counts size count bytes start before after old chunk (Some rest) f
           let lines : line_count old.bytes ≡ feeds chunk.bytes + line_count rest.bytes = ap line_count c.2 ∙ lines_of_both chunk.bytes rest.bytes c.4 in
           inr (omega (arith, le, fed, lines))
     ]
-
-pub few_in_all : (P : Instance) (goal : Option ℕ) (counts : Bool) (size : ℕ) (all : Start) (before : List UnreadSplit) (chunks : List Start) → CutSoFar P goal counts size all before chunks None → 1 ≤ size → IsFew (length chunks) size all.bytes
-few_in_all P goal counts size all before chunks so some = elim so.count [ inl done ↦ done.1 | inr le ↦ omega (arith, le, some) ]
 
 short_on : (P : Instance) (goal : Option ℕ) (counts : Bool) (size count : ℕ) (bytes : List ℕ) (start : State) (before after : List UnreadSplit) (old chunk : Start) (rest : Option Start) → count + length old.bytes ≤ length bytes → old.bytes ≢ [] → IsCutOff P goal counts size start before after old chunk rest → count + 1 + length (bytes_left rest) ≤ length bytes
 short_on P goal counts size count bytes start before after old chunk None le some c = let one = some_bytes old.bytes some in omega (arith, le, one)

@@ -10,15 +10,14 @@ use Rattle.refutation_terms.specs.declared.lines.Leaf.TheVariants.{Words}
 use Rattle.refutation_terms.specs.declared.lines.WordClaim.{WordClaim}
 use Rattle.refutation_terms.specs.declared.lines.WordClaim.TheVariants.{Dead, Light}
 use Rattle.refutation_terms.specs.Word.{Domains, AreSame}
-use Rattle.rwsp_terms.specs.Rules.{NamesShortOnly}
 use Rattle.refutation_terms.specs.declared.lines.Opening.TheVariants.{Full}
-use Rattle.refutation_terms.specs.Log.{LineFits, GoalFits, Holds, ListsShortOnly}
+use Rattle.refutation_terms.specs.Log.{LineFits, GoalFits, Holds}
 use Rattle.refutation_terms.specs.Verdict.{Escapes}
 use Rattle.refutation_terms.proofs.Causes.{escaped_not_holding}
 use Rattle.refutation_terms.proofs.SameDomains.{same_holds, turned_round}
 use Rattle.domain_store.specs.Store.{Store, IsStore, BelongsTo, HasDomains, has_domain}
 use Rattle.domain_store.proofs.Idle.{positions_of}
-use Rattle.refutation_checker.specs.LineVerdicts.{HasList, HasNoList, HoldsByWords}
+use Rattle.refutation_checker.specs.LineVerdicts.{HasList, HoldsByWords}
 use Rattle.refutation_checker.specs.LineTexts.{MayStep}
 use Rattle.refutation_checker.proofs.LineJudging.{may_step}
 
@@ -50,15 +49,6 @@ passed_by P goal counts E S (Split p x) some now tests belongs same fits h =
 passed_by P goal counts E S line some now tests belongs same fits h = tt
 
 -- the list of a line
-
-pub its_short_rules : (P : Instance) (line : Line) (list : List ℕ) → HasList line list → ListsShortOnly P line → NamesShortOnly P list
-its_short_rules P (Closing (Words p R claim)) list has short = subst (NamesShortOnly P) has short
-its_short_rules P line list has short = absurd has
-
--- nothing is said by words of a line without one
-pub without_list : (P : Instance) (goal : Option ℕ) (D : Domains) (line : Line) → HasNoList line → HoldsByWords P goal D line
-without_list P goal D (Closing (Words p R claim)) none = absurd none
-without_list P goal D line none = tt
 
 -- a search for a word that escapes the line has found one, or the line holds
 abbrev pub IsAnswered : Instance → Option ℕ → Domains → Line → Result (Option (List Symbol)) AllocError → Type 0

@@ -2,8 +2,7 @@
 use Rattle.std.proofs.Common.{◌≡◌, ℕ, ◌+◌, ◌<◌, List, [], ◌∷◌, ◌++◌, length, refl, sym, ◌∙◌, subst, arith, Option, inr, Bool, true, false}
 use Rattle.rwsp_terms.specs.Instance.{Instance, cells}
 use Rattle.refutation_terms.specs.declared.lines.Line.{Line}
-use Rattle.refutation_terms.specs.declared.lines.Line.TheVariants.{Split, Closing}
-use Rattle.refutation_terms.specs.declared.lines.Leaf.TheVariants.{Words}
+use Rattle.refutation_terms.specs.declared.lines.Line.TheVariants.{Split}
 use Rattle.refutation_terms.specs.declared.lines.Opening.{Opening}
 use Rattle.refutation_terms.specs.declared.lines.Opening.TheVariants.{Full}
 use Rattle.refutation_terms.specs.declared.lines.LogRefusal.{LogRefusal}
@@ -19,20 +18,12 @@ use Rattle.refutation_terms.proofs.LineTables.{spelled_lines_fit}
 use Rattle.domain_store.specs.Store.{Store, BelongsTo, has_domain, IsStore, HasDomains}
 use Rattle.domain_store.specs.States.{State, IsStateOf}
 use Rattle.domain_store.proofs.Idle.{idle_in_store}
-use Rattle.refutation_checker.specs.LineVerdicts.{StandsPlainly, IsPlainlySound, IsIdleSplit, PlainCause, HoldsByWords, IsSoundLine, LineCause}
+use Rattle.refutation_checker.specs.LineVerdicts.{IsIdleSplit, PlainCause, IsSoundLine, LineCause}
 use Rattle.refutation_checker.specs.LineTexts.{Judging, log_of, IsSoundUnder, HasCause, IsLineRead, MayStep}
 
 pub plain_is_cause : (P : Instance) (goal : Option ℕ) (named : List ℕ) (D : Domains) (n : ℕ) (line : Line) (why : LogRefusal) → PlainCause P goal named D n line why → LineCause P goal named D n line why
 plain_is_cause P goal named D n line (Refusals.Escape i w) h = absurd h
 plain_is_cause P goal named D n line why h = h
-
--- a line that holds in both ways holds
-pub holds_in_all : (P : Instance) (goal : Option ℕ) (D : Domains) (line : Line) → StandsPlainly P goal D line → HoldsByWords P goal D line → Holds P goal D line
-holds_in_all P goal D (Closing (Words p R claim)) h k = k
-holds_in_all P goal D line h k = h
-
-pub sound_in_all : (P : Instance) (goal : Option ℕ) (named : List ℕ) (D : Domains) (line : Line) → IsPlainlySound P goal named D line → HoldsByWords P goal D line → IsSoundLine P goal named D line
-sound_in_all P goal named D line h k = record { named_all = h.named_all; short = h.short; holds = holds_in_all P goal D line h.stands k }
 
 -- a line that has a cause isn't sound
 

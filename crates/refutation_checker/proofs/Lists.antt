@@ -82,9 +82,6 @@ least_of cited items list i n e rises inside is below gone =
 abbrev pub Below : (ℕ → ℕ → Type 0) → ℕ → ℕ → Type 0
 Below Asks i k = (m : ℕ) × (m < i) × Asks m k
 
-pub none_below : (Asks : ℕ → ℕ → Type 0) (list : List ℕ) → IsLeastOutside (Below Asks 0) list None
-none_below Asks list = λ k h. absurd (omega (arith, h.1))
-
 pub more_below : (Asks : ℕ → ℕ → Type 0) (i : ℕ) (list : List ℕ) (a b : Option ℕ) → IsLeastOutside (Below Asks i) list a → IsLeastOutside (Asks i) list b → IsLeastOutside (Below Asks (i + 1)) list (lesser a b)
 more_below Asks i list a b f g =
     same_outside (λ k. Below Asks i k ⊎ Asks i k) (Below Asks (i + 1)) list (lesser a b)

@@ -1,6 +1,6 @@
 -- The lines of a log, judged one after the other.
 use Rattle.std.proofs.Common.{◌≡◌, ℕ, suc, ◌+◌, ◌<◌, List, [], ◌∷◌, ◌++◌, length, take, drop, refl, ap, sym, ◌∙◌, subst, arith, Option, Some, None, Result, Ok, Err, inl, inr, true, false, append_assoc, Bool, IsTrue, ◌&&◌, not}
-use Rattle.std.specs.Prelude.{MatchOption, IfOk, slice_get, Contains, codes, is_some, ◌↔◌}
+use Rattle.std.specs.Prelude.{MatchOption, IfOk, slice_get, codes, is_some, ◌↔◌}
 use Rattle.std.specs.List.{join_with_byte, flat_map}
 use Rattle.std.specs.Fmt.{decimal}
 use Rattle.std.specs.declared.alloc.AllocError.{AllocError}
@@ -10,10 +10,8 @@ use Rattle.std.proofs.lemmas.Int.{ints}
 use Rattle.std.proofs.lemmas.List.{take_more, take_all, length-take-le, take-append-drop}
 use Rattle.std.proofs.lemmas.List.Concat.{flat_map-append}
 use Rattle.std.proofs.lemmas.Option.{slice_get_within, get_or_from_slice_get}
-use Rattle.rwsp_terms.specs.declared.data.Rule.{Rule}
-use Rattle.rwsp_terms.specs.declared.data.Rule.TheVariants as TheRules
+use Rattle.rwsp_text.proofs.LineLaws.{join_no_feed}
 use Rattle.rwsp_terms.specs.Instance.{Instance, name_of}
-use Rattle.rwsp_terms.specs.Rules.{rule_of, Names}
 use Rattle.rwsp_model.specs.Validity.{KeepsLimits}
 use Rattle.refutation_terms.specs.declared.lines.Line.{Line}
 use Rattle.refutation_terms.specs.declared.lines.Opening.{Opening}
@@ -23,16 +21,16 @@ use Rattle.refutation_terms.specs.declared.lines.LogKind.TheVariants.{WithoutGoa
 use Rattle.refutation_terms.specs.declared.lines.LogRefusal.{LogRefusal}
 use Rattle.refutation_terms.specs.declared.lines.LogRefusal.TheVariants as Refusals
 use Rattle.refutation_terms.specs.Tree.{IsTree, after_trees, lines_in, opening, lines_leave, domains_at}
-use Rattle.refutation_terms.specs.Log.{Log, Fits, Holds, OpeningFits, OpeningCites, GoalFits, Passes}
+use Rattle.refutation_terms.specs.Log.{Log, Fits, Holds, OpeningFits, GoalFits, Passes}
 use Rattle.refutation_terms.specs.Ranges.{AreRules}
 use Rattle.refutation_terms.specs.LogText.{raw, line_text, log_text, header_text, turn_text, raw_fields, lines_text}
 use Rattle.refutation_terms.specs.Verdict.{kind_by, kind_of_log, BeforeTurn, front_text, IsRefused, TurnCause, header_lines}
 use Rattle.refutation_terms.proofs.LineTables.{fitting_lines_are_spelled}
 use Rattle.refutation_terms.proofs.Trees.{part_is_not_whole, tree_is_whole}
 use Rattle.refutation_log.proofs.HeaderTexts.{turn_visible}
-use Rattle.refutation_log.proofs.LineTexts.{small_from}
+use Rattle.refutation_log.proofs.LineTexts.{is_writable}
 use Rattle.rwsp_model.proofs.Names.{symbol_named}
-use Rattle.refutation_log.proofs.OneText.{name_there, feedless_words, body_feedless, has_names}
+use Rattle.refutation_log.proofs.OneText.{name_there, body_feedless, has_names}
 use Rattle.refutation_log.proofs.PrintedTexts.{line_piece, joined_lines}
 use Rattle.domain_store.specs.States.{State, IsStateOf}
 use Rattle.domain_store.proofs.Stack.{read_is_tree}
@@ -46,9 +44,6 @@ use Rattle.refutation_checker.proofs.SoundLines.{sound_joined, HasHeader, passes
 use Rattle.refutation_checker.proofs.HeaderFaults.{refused_at_line}
 
 -- turns
-
-pub day_named : (P : Instance) (named : List ℕ) (t : Turn) (k : ℕ) → rule_of P k ≡ Some (TheRules.Day t.day) → Contains named k → (r : Rule) → OpeningCites (Turned t) r → Names P named r
-day_named P named t k is held r cites = (k, held, is ∙ ap (λ r. Some r) (sym cites))
 
 -- fronts of a tree
 
@@ -152,7 +147,7 @@ turn_line P counts named t rest why limits are fits cause =
       rest = rest;
       no_cause = (refl, are);
       whole = ap (λ h. h ++ rest) (turned_text P named t counts);
-      is_line = inl (join_with_byte 32 words, feedless_words words (turn_visible P name t.day (small_from P limits) (name_there P t.x.number limits fits.1) fits.0), refl);
+      is_line = inl (join_with_byte 32 words, join_no_feed words (turn_visible P name t.day (is_writable P limits) (name_there P t.x.number limits fits.1) fits.0), refl);
       cause = cause;
     })
 

@@ -1,5 +1,5 @@
 -- Walks to where chunks start.
-use Rattle.std.proofs.Common.{◌≡◌, ◌≢◌, ℕ, suc, ◌+◌, ◌-◌, ◌^◌, ◌<◌, ◌≤◌, List, [], ◌∷◌, ◌++◌, length, drop, take, get_or, refl, ap, sym, ◌∙◌, append_assoc, subst, arith, Option, Some, None, inl, inr, Bool, true, false, cond}
+use Rattle.std.proofs.Common.{◌≡◌, ◌≢◌, ℕ, suc, ◌+◌, ◌-◌, ◌^◌, ◌<◌, ◌≤◌, List, [], ◌∷◌, ◌++◌, length, drop, take, get_or, refl, ap, sym, ◌∙◌, append_assoc, subst, arith, Option, Some, None, inl, inr, Bool, true, false}
 use Rattle.std.specs.Prelude.{MatchBool}
 use Rattle.std.proofs.Math.Seq.{drop-cons}
 use Rattle.std.proofs.lemmas.List.{append-nil, drop_all, take_more, take-append-drop, length-take-le, length-drop}
@@ -18,7 +18,8 @@ use Rattle.refutation_log.specs.Refusals.{IsLineRefused}
 use Rattle.refutation_log.specs.declared.refusal.LineRefusal.{LineRefusal}
 use Rattle.refutation_log.specs.declared.refusal.LineRefusal.TheVariants.{Form, Name}
 use Rattle.refutation_log.proofs.LogLines.{some_bytes}
-use Rattle.refutation_log.proofs.OneText.{has_names, one_list, is_writable}
+use Rattle.refutation_log.proofs.LineTexts.{is_writable}
+use Rattle.refutation_log.proofs.OneText.{has_names, one_list}
 use Rattle.refutation_terms.proofs.LineTables.{fitting_lines_are_spelled, spelled_lines_fit}
 use Rattle.domain_store.specs.Splits.{IsFirstSide}
 use Rattle.domain_store.specs.States.{State, IsStateOf}
@@ -90,11 +91,6 @@ entered_somewhere P old new q y in_second entered state goes is =
     let side = some_side in_second in
     (state.0, state.1 ++ Split q y ∷ side.0, entered_state entered _ _ is (goes P state.0 state.1 side.0 state.2 side.1))
 
--- a tree is still open where a split was read and a side was passed
-pub still_part : (whole : Bool) (n before : ℕ) → before ≡ cond whole 0 n + 1 → 2 ≤ before → whole ≡ false
-still_part true n before is some = absurd (omega (arith, is, some))
-still_part false n before is some = refl
-
 -- the first splits were entered
 
 pub record IntoUpTo (P : Instance) (goal : Option ℕ) (counts : Bool) (o : Opening) (lines : List Line) (left : List UnreadSplit) (w : State) : Type 0 where
@@ -108,15 +104,6 @@ pub record IntoSoFar (P : Instance) (goal : Option ℕ) (counts : Bool) (start :
   pub state : (o : Opening) × (lines : List Line) × IsStateOf P o lines w
   pub part : w.whole ≡ false
   pub leads : (o : Opening) (lines : List Line) → IsStateOf P o [] start → EndInside P goal counts before lines → IntoUpTo P goal counts o lines (drop i before) w
-
-pub into_none : (P : Instance) (goal : Option ℕ) (counts : Bool) (start w : State) (before : List UnreadSplit) → w ≡ start → (o : Opening) × (lines : List Line) × IsStateOf P o lines start → start.whole ≡ false → IntoSoFar P goal counts start before 0 w
-into_none P goal counts start w before is state part =
-    subst (IntoSoFar P goal counts start before 0) (sym is)
-    (record {
-      state = state;
-      part = part;
-      leads = λ o lines st h. record { front = []; rest = lines; both = refl; inside = h; state = st };
-    })
 
 left_from : (before : List UnreadSplit) (i : ℕ) (u : UnreadSplit) → i < length before → u ≡ get_or before i u → drop i before ≡ u ∷ drop (i + 1) before
 left_from before i u less is =
@@ -183,11 +170,6 @@ passed_idle P goal counts start before splits after all left count so idle o don
     let up = so.each done lines h fit text in
     let here = idle_in_all P o (done ++ up.done) up.rest (idle o (done ++ up.done) st up.inside) in
     inr (subst (HasIdleSplit P o) (append_assoc done up.done up.rest ∙ ap (λ ls. done ++ ls) (sym up.both)) here)
-
--- all lines were passed, but one of the splits that are open behind them is idle
-pub behind_idle : (P : Instance) (goal : Option ℕ) (counts : Bool) (start : State) (before after : List UnreadSplit) (bytes : List ℕ) (count : ℕ) → ArePassed P goal counts start before after bytes (Some count) → IsInto P goal counts start after None → ArePassed P goal counts start before after bytes None
-behind_idle P goal counts start before after bytes count passed idle o done lines st h fit text =
-    inr (idle o (done ++ lines) st (passed done lines h fit text).1)
 
 -- a chunk was cut off at an end of lines
 pub cut_here : (P : Instance) (goal : Option ℕ) (counts : Bool) (size : ℕ) (start : State) (before after : List UnreadSplit) (all : Start) (w walk : State) (bytes front back : List ℕ) (first end count : ℕ) → record { walk = w; bytes = bytes; first = first } ≡ all

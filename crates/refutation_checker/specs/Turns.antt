@@ -28,7 +28,7 @@ TurnFault P named t (Refusals.Turn i) = (i ≡ 3) × Names P named (TheRules.Day
     × (least P t.x.number t.day <ℤ pos 1)
 TurnFault P named t why = ⊥
 
--- the same where there may be no turn
+-- why a turn is refused, where a log has one
 abbrev pub IsTurnFault : Instance → List ℕ → Opening → LogRefusal → Type 0
 IsTurnFault P named (Turned t) why = TurnFault P named t why
 IsTurnFault P named o why = ⊥

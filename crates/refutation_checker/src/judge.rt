@@ -7,10 +7,10 @@ ghost use Rattle.domain_store.specs.Store.{BelongsTo, has_domain};
 ghost use Rattle.domain_store.specs.States.{IsWalkOf};
 ghost use Rattle.refutation_checker.specs.LineTexts.{HoldsByWordsUnder, EscapesUnder, IsSoundUnder, HasCause, ReadsNext, RefusesNext, PassesNext, HasCauseNext, IsSpellingRefusal};
 
-use crate::kept::automaton_of;
+use crate::kept::{automaton_of, is_kept};
 use crate::line_walk::step;
 use crate::plain_causes::plain_refusal;
-use crate::word_leaves::{escape_of, list_of};
+use crate::word_leaves::{escape_of, holds_plainly, list_of};
 use clean_words::Automaton;
 use domain_store::{Domains, Walk};
 use refutation_log::{LineRefusal, read_line};
@@ -193,6 +193,9 @@ impl<'a> Judge<'a> {
         let Some(list) = list_of(line) else {
             return Ok(None);
         };
+        if !is_kept(&self.automaton, list) && holds_plainly(alloc, self.problem, doms, line)? {
+            return Ok(None);
+        }
         let automaton = automaton_of(alloc, self.problem, self.automaton.take(), list)?;
         let found = escape_of(alloc, &automaton, doms, self.terms, line);
         self.keep(automaton);

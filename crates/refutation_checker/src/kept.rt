@@ -14,6 +14,14 @@ fn is_of(automaton: &Automaton, list: &RuleList) -> bool
     automaton.rules().numbers() == list.numbers()
 }
 
+/// Whether the one that was kept is of this list.
+pub fn is_kept(kept: &Option<Automaton>, list: &RuleList) -> bool {
+    match kept {
+        Some(automaton) => is_of(automaton, list),
+        None => false,
+    }
+}
+
 /// The automaton of the list: the one that was kept, where it is of this list, else a new one.
 pub fn automaton_of(
     alloc: Global,

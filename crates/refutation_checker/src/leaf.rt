@@ -1,5 +1,5 @@
 // What goes by the kind of a leaf: whether it holds by itself, and which rule that it cites isn't named.
-ghost use Rattle.std.specs.Prelude.{◌≡◌, ◌⊎◌, ◌↔◌, ℕ, Bool, Option, Contains, IsTrue, false};
+ghost use Rattle.std.specs.Prelude.{◌⊎◌, ◌↔◌, ℕ, Bool, Option, Contains, IsTrue, false};
 ghost use Rattle.rwsp_terms.specs.Instance.{IsSymbol};
 ghost use Rattle.refutation_terms.specs.declared.lines.Opening.TheVariants.{Full};
 ghost use Rattle.refutation_terms.specs.declared.lines.Line.TheVariants.{Closing};

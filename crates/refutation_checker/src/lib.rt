@@ -18,6 +18,7 @@ mod outside;
 mod plain_causes;
 mod short_words;
 mod text_chunk;
+mod tried_words;
 mod turn;
 mod unread_splits;
 mod verdict;

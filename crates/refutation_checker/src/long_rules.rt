@@ -1,5 +1,5 @@
 // The rules of a line's list whose windows are too long for layers.
-ghost use Rattle.std.specs.Prelude.{◌≡◌, ◌≤◌, ◌<◌, ◌↔◌, ℕ, length, Bool, Option, IsTrue, MatchOption};
+ghost use Rattle.std.specs.Prelude.{◌≤◌, ◌<◌, ◌↔◌, ℕ, length, Bool, Option, IsTrue, MatchOption};
 ghost use Rattle.rwsp_terms.specs.Rules.{rules, NamesShortOnly};
 ghost use Rattle.rwsp_model.specs.RuleNumbers.{IsShortNumber};
 ghost use Rattle.refutation_terms.specs.Ranges.{AreRules};

@@ -4,7 +4,7 @@ ghost use Rattle.rwsp_terms.specs.Instance.{cells, shift_count};
 ghost use Rattle.rwsp_terms.specs.declared.limits.TheConstants.{LONGEST_WORD};
 ghost use Rattle.refutation_terms.specs.WordsLeaf.{IsDead};
 ghost use Rattle.domain_store.specs.Store.{BelongsTo, has_domain};
-ghost use Rattle.refutation_checker.specs.ShortWords.{AreStates, GoOn, HaveAll};
+ghost use Rattle.refutation_checker.specs.ShortWords.{AreStates, GoOn, HaveAll, by_move};
 
 use clean_words::Automaton;
 use domain_store::Domains;
@@ -48,13 +48,13 @@ fn day_later(
     automaton: &Automaton,
     doms: &Domains,
     position: u32,
-    states: &[u32],
-) -> Result<Vec<u32>, AllocError>
+    states: &[usize],
+) -> Result<Vec<usize>, AllocError>
     requires position { position < length doms.now.sets }
     requires states { AreStates automaton.now states.now }
     ensures states { IfOk result (λ later. AreStates automaton.now later.items) }
-    ensures go_on { IfOk result (λ later. All (λ state. GoOn automaton.now (has_domain doms.now position)
-        (shift_count automaton.now.problem + 1) state later.items) states.now) }
+    ensures go_on { IfOk result (λ later. All (λ state. GoOn (has_domain doms.now position)
+        (shift_count automaton.now.problem + 1) (by_move automaton.now state) later.items) states.now) }
 {
     let mut later = Vec::new(alloc);
     for place in 0..states.len() {
@@ -65,19 +65,19 @@ fn day_later(
 
 // Puts the states where the symbols of the position's domain lead from the state behind others.
 fn put_later(
-    later: &mut Vec<u32>,
+    later: &mut Vec<usize>,
     automaton: &Automaton,
     doms: &Domains,
     position: u32,
-    state: u32,
+    state: usize,
 ) -> Result<(), AllocError>
     requires position { position < length doms.now.sets }
     requires state { state < length automaton.now.moves }
     requires states { AreStates automaton.now later.old.items }
     ensures keeps { OnOk result (HaveAll later.old.items later.new.items) }
     ensures states { OnOk result (AreStates automaton.now later.new.items) }
-    ensures goes_on { OnOk result (GoOn automaton.now (has_domain doms.now position)
-        (shift_count automaton.now.problem + 1) state later.new.items) }
+    ensures goes_on { OnOk result (GoOn (has_domain doms.now position)
+        (shift_count automaton.now.problem + 1) (by_move automaton.now state) later.new.items) }
 {
     automaton.prove_facts();
     for number in 0..automaton.problem().shifts() + 1 {

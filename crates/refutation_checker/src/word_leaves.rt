@@ -1,5 +1,5 @@
 // Leaves that are judged by the words that are clean for their list of rules.
-ghost use Rattle.std.specs.Prelude.{◌<◌, ◌≤◌, IfOk, MatchOption};
+ghost use Rattle.std.specs.Prelude.{◌<◌, ◌≤◌, ℕ, Bool, Option, IfOk, IsTrue, MatchOption};
 ghost use Rattle.rwsp_terms.specs.Instance.{cells};
 ghost use Rattle.rwsp_terms.specs.declared.limits.TheConstants.{LONGEST_WORD};
 ghost use Rattle.refutation_terms.specs.declared.lines.Opening.TheVariants.{Full};
@@ -12,9 +12,11 @@ ghost use Rattle.clean_words.specs.Claims.{IsEscapeFound};
 ghost use Rattle.refutation_checker.specs.LineVerdicts.{HasNoList, HasList, HoldsByWords};
 
 use crate::short_words::is_plainly_dead;
+use crate::tried_words::{Tries, has_no_clean};
 use clean_words::{Automaton, Claim, CleanWords, claim_escape, escape};
 use domain_store::Domains;
 use refutation_terms::{Leaf, Line, Terms, WordClaim};
+use rwsp_model::Problem;
 use rwsp_terms::{RuleList, Word};
 use std::alloc::{AllocError, Global};
 
@@ -25,6 +27,38 @@ pub fn list_of(line: &Line) -> Option<&RuleList>
     match line {
         Line::Closing(Leaf::Words { rules, .. }) => Some(rules),
         _ => None,
+    }
+}
+
+/// Whether it is plain that a leaf holds, with no automaton for its list. Of other lines this says nothing.
+pub fn holds_plainly(
+    alloc: Global,
+    problem: &Problem,
+    doms: &Domains,
+    line: &Line,
+) -> Result<bool, AllocError>
+    requires domains { BelongsTo problem.now doms.now }
+    requires line { (goal : Option ℕ) × (counts : Bool) × LineFits problem.now goal counts line.now }
+    ensures { IfOk result (λ plain. IsTrue plain
+        → (goal : Option ℕ) → HoldsByWords problem.now goal (has_domain doms.now) line.now) }
+{
+    match line {
+        Line::Closing(
+            Leaf::Words {
+                p,
+                rules,
+                claim: WordClaim::Dead { len },
+            },
+        ) => {
+            let tries = Tries {
+                problem,
+                rules,
+                domains: doms,
+                position: *p,
+            };
+            has_no_clean(alloc, tries, *len)
+        }
+        _ => Ok(false),
     }
 }
 

@@ -104,7 +104,7 @@ none_read P words given e = record {
   known = subst (AreKnown P true []) (sym e) (refl, All-nil (IsCellOf P));
 }
 
-both_behind : (done : List NamedCell) (c : NamedCell) (o : Option (List NamedCell)) → ((o >>= (λ later. Some (c ∷ later))) >>= (λ later. Some (done ++ later))) ≡ (o >>= (λ later. Some ((done ++ c ∷ []) ++ later)))
+pub both_behind : {A : Type 0} (done : List A) (c : A) (o : Option (List A)) → ((o >>= (λ later. Some (c ∷ later))) >>= (λ later. Some (done ++ later))) ≡ (o >>= (λ later. Some ((done ++ c ∷ []) ++ later)))
 both_behind done c None = refl
 both_behind done c (Some later) = ap (λ cs. Some cs) (sym (append_assoc done (c ∷ []) later))
 

@@ -142,13 +142,6 @@ adds_cited P Cited A r old new tells = on_ok r (Adds old new A) (Adds old new (I
 pub adds_some_cited : {T E : Type 0} (P : Instance) (Cited : Rule → Type 0) (A : ℕ → Type 0) (r : Result T E) (old new : List ℕ) → TellsCited P Cited A → OnErr r (AddsSome old new A) → OnErr r (AddsSome old new (IsCited P Cited))
 adds_some_cited P Cited A r old new tells = on_err r (AddsSome old new A) (AddsSome old new (IsCited P Cited)) (λ h. some_same old new A (IsCited P Cited) h tells)
 
--- where nothing is cited, nothing is added
-pub adds_none : (P : Instance) (Cited : Rule → Type 0) (old new : List ℕ) → ((r : Rule) → Cited r → ⊥) → new ≡ old → Adds old new (IsCited P Cited)
-adds_none P Cited old new none e k = (
-  λ c. inl (subst (λ R. Contains R k) e c),
-  λ h. ⊎_elim (λ (c : Contains old k). subst (λ R. Contains R k) (sym e) c) (λ (q : IsCited P Cited k). absurd (none q.0 q.2)) h,
-)
-
 -- two kinds of rules that are cited
 pub either_cited : (P : Instance) (A B : Rule → Type 0) (k : ℕ) → (IsCited P A k ⊎ IsCited P B k) ↔ IsCited P (λ r. A r ⊎ B r) k
 either_cited P A B k = (

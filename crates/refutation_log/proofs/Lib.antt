@@ -13,7 +13,7 @@ pub mod HeaderLines
 pub mod OneHeader
 pub mod OneText
 pub mod OneCause
-pub mod NotRefused
 pub mod OneLine
 pub mod TakenCells
 pub mod CellsSpelled
+pub mod Scarcest

@@ -15,7 +15,8 @@ use Rattle.rwsp_model.specs.Validity.{KeepsLimits}
 use Rattle.rwsp_model.specs.Refusals.{MatchAnswer}
 use Rattle.rwsp_model.specs.declared.fail.Fail.{Fail}
 use Rattle.rwsp_model.specs.declared.fail.Fail.TheVariants.{Refused, Memory}
-use Rattle.rwsp_model.proofs.Numbering.{rules_are_many, sequences_are_many}
+use Rattle.rwsp_model.proofs.Numbering.{rules_are_many}
+use Rattle.rwsp_model.proofs.Sequences.{few_sequences}
 use Rattle.refutation_terms.specs.declared.lines.Line.{Line}
 use Rattle.refutation_terms.specs.LogText.{RawLine, RawDead, RawBound, RawFew, RawFree, IsWritten, raw_fields, line_of, WeightsAscend, line_kinds, own_kinds, last_kinds, most_turns, split_kind, window_kind, day_kind, dead_kind, bound_kind, free_kind}
 use Rattle.refutation_terms.specs.Verdict.{Spells}
@@ -29,8 +30,8 @@ use Rattle.refutation_log.specs.Reading.{head_at, free_head_at, rules_in, all_we
 pub is_writable : (P : Instance) → KeepsLimits P → IsWritable P
 is_writable P limits =
     let many = rules_are_many P in
-    let sequences = sequences_are_many P in
-    (omega (arith, limits.few_days), omega (arith, limits.few_weeks), omega (arith, many, sequences, limits.few_shifts, limits.few_days, limits.few_pairs, limits.few_triples))
+    let sequences = few_sequences P.sequences limits.listed in
+    (omega (arith, limits.few_days), omega (arith, limits.few_weeks), omega (arith, many, sequences, limits.few_shifts, limits.few_days))
 
 pub few_turns : (P : Instance) (n : ℕ) → n ≡ most_turns P → n < 10 ^ 9
 few_turns P n e = let le = div-le_self LONGEST_WORD (cells P) in omega (arith, e, le)
@@ -149,6 +150,3 @@ line_answered P goal counts bytes body result k e a =
 
 pub no_feed_no_line : (P : Instance) (goal : Option ℕ) (counts : Bool) (bytes : List ℕ) → ((body : List ℕ) → bytes ≢ body ++ 10 ∷ []) → IsLineRefused P goal counts bytes Form
 no_feed_no_line P goal counts bytes none = λ raw h. none (join_with_byte 32 (raw_fields P raw)) h.spelled
-
-pub small_from : (P : Instance) → KeepsLimits P → IsWritable P
-small_from P limits = is_writable P limits

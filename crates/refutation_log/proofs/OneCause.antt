@@ -25,7 +25,8 @@ use Rattle.refutation_terms.proofs.OneRefusal.{IsAtEndOrLine, refusals_same, who
 use Rattle.refutation_terms.proofs.Unique.{got_seam, version_refutes, rules_refutes, third_is_fine, cause_same}
 use Rattle.refutation_log.specs.ReadLog.{IsReadCause, IsReadSoFar, IsRead, ReadCause, IsUnread}
 use Rattle.refutation_log.specs.Laws.{UnreadTextsHaveOneCause, TextsOfLogsAreRead}
-use Rattle.refutation_log.proofs.OneText.{is_writable, has_names}
+use Rattle.refutation_log.proofs.LineTexts.{is_writable}
+use Rattle.refutation_log.proofs.OneText.{has_names}
 
 -- the line of a turn that fits has none
 turn_fine : (P : Instance) (counts : Bool) (R : List ℕ) (t : Turn) (why : LogRefusal) → KeepsLimits P → OpeningFits P (Turned t) → TurnReason P counts R (turn_text (name_of P t.x) t.day) why → IsReadCause why → ⊥

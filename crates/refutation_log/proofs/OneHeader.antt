@@ -14,7 +14,8 @@ use Rattle.refutation_terms.proofs.Fronts.{goes_on}
 use Rattle.refutation_log.specs.ReadLog.{HasLogsOf, log_with}
 use Rattle.refutation_log.specs.Headers.{BeginsWithHeader}
 use Rattle.refutation_log.specs.Laws.{TextsHaveOneHeader}
-use Rattle.refutation_log.proofs.OneText.{is_writable, has_names}
+use Rattle.refutation_log.proofs.LineTexts.{is_writable}
+use Rattle.refutation_log.proofs.OneText.{has_names}
 use Rattle.refutation_log.proofs.HeaderLines.{goal_fits}
 
 -- the header of a log without lines

@@ -2,8 +2,7 @@
 use Rattle.std.proofs.Common.{◌≡◌, ◌≢◌, ℕ, ◌≤◌, List, [], ◌∷◌, ◌++◌, length, refl, ap, sym, ◌∙◌, subst, append-nil, Option, Bool, false}
 use Rattle.std.specs.List.{join_with_byte}
 use Rattle.std.proofs.lemmas.List.Elements.{All-weaker}
-use Rattle.rwsp_text.specs.Fields.{Words, IsName}
-use Rattle.rwsp_text.specs.Kinds.{AreBlankless}
+use Rattle.rwsp_text.specs.Fields.{IsName}
 use Rattle.rwsp_text.specs.Lines.{HasNoFeed}
 use Rattle.rwsp_text.proofs.LineLaws.{join_no_feed, same_lines}
 use Rattle.rwsp_terms.specs.Instance.{Instance, name_numbered}
@@ -12,10 +11,10 @@ use Rattle.rwsp_model.specs.Validity.{KeepsLimits, breaks_name}
 use Rattle.refutation_terms.specs.declared.lines.Line.{Line}
 use Rattle.refutation_terms.specs.Log.{LineFits}
 use Rattle.refutation_terms.specs.LogText.{raw, raw_fields, lines_text}
-use Rattle.refutation_terms.specs.TextLaws.{HasNames, IsWritable}
+use Rattle.refutation_terms.specs.TextLaws.{HasNames}
 use Rattle.refutation_terms.proofs.Texts.{lines_fields, lines_written, line_words, lines_words, lines_longer}
 use Rattle.refutation_log.specs.Printing.{EachFits}
-use Rattle.refutation_log.proofs.LineTexts as LineTexts
+use Rattle.refutation_log.proofs.LineTexts.{is_writable}
 
 -- the symbol of a name
 
@@ -35,16 +34,10 @@ name_there P n limits le =
 pub has_names : (P : Instance) → KeepsLimits P → HasNames P
 has_names P limits x is = (name_there P x.number limits is, symbol_named P x limits is)
 
-pub is_writable : (P : Instance) → KeepsLimits P → IsWritable P
-is_writable P limits = LineTexts.is_writable P limits
-
 -- texts of lines
 
 abbrev pub body : Instance → Option ℕ → Line → List ℕ
 body P goal line = join_with_byte 32 (raw_fields P (raw P goal line))
-
-pub feedless_words : (ws : Words) → AreBlankless ws → HasNoFeed (join_with_byte 32 ws)
-feedless_words ws h = join_no_feed ws h
 
 pub body_feedless : (P : Instance) (goal : Option ℕ) (counts : Bool) (line : Line) → KeepsLimits P → LineFits P goal counts line → HasNoFeed (body P goal line)
 body_feedless P goal counts line limits f = join_no_feed (raw_fields P (raw P goal line)) (line_words P goal counts line (is_writable P limits) (has_names P limits) f).1

@@ -1,5 +1,5 @@
 -- Reading weights one after another.
-use Rattle.std.proofs.Common.{◌≡◌, ◌≢◌, ℕ, ◌<◌, List, [], ◌∷◌, ◌++◌, length, get_or, refl, ap, sym, ◌∙◌, subst, arith, Option, Some, None, Bool, true, false, append_assoc, length-append}
+use Rattle.std.proofs.Common.{◌≡◌, ◌≢◌, ℕ, ◌<◌, List, [], ◌∷◌, ◌++◌, length, get_or, refl, ap, sym, ◌∙◌, subst, arith, Option, Some, None, Bool, true, false, length-append}
 use Rattle.std.specs.Prelude.{ℤ, AllPairs}
 use Rattle.std.specs.Option.{option_map}
 use Rattle.std.proofs.lemmas.List.{append-nil, get_or_append_left}
@@ -15,6 +15,7 @@ use Rattle.refutation_log.specs.declared.gather.Gathered.TheVariants.{Rising, Fa
 use Rattle.refutation_log.specs.Reading.{named_weight_at, all_weights_at}
 use Rattle.refutation_log.specs.Gathering.{Gives, GivesAll, IsAdded, entry_of}
 use Rattle.rwsp_text.proofs.Words.{same_pairs}
+use Rattle.refutation_log.proofs.CellsRead.{same_bound, both_behind}
 
 abbrev Left : Type 0
 Left = NamedWeight × List (List ℕ)
@@ -133,16 +134,8 @@ gives_more P y e s new g h = gives_more_by P y e s (symbol_of P e.name) new g re
 abbrev pub SoFar : Instance → List (List ℕ) → List (List ℕ) → Gathered → Type 0
 SoFar P first ws s = (done : List NamedWeight) × Gives P done s × (all_weights_at P first ≡ (all_weights_at P ws >>= (λ y. Some (done ++ y))))
 
-bind_same : (o : Option (List NamedWeight)) → o ≡ (o >>= (λ y. Some y))
-bind_same None = refl
-bind_same (Some y) = refl
-
 pub so_far_none : (P : Instance) (first : List (List ℕ)) → SoFar P first first (Rising [])
-so_far_none P first = ([], (refl, λ i j d lt less. absurd (omega (arith, less))), bind_same (all_weights_at P first))
-
-bind_twice : (o : Option (List NamedWeight)) (done : List NamedWeight) (e : NamedWeight) → ((o >>= (λ y. Some (e ∷ y))) >>= (λ y. Some (done ++ y))) ≡ (o >>= (λ y. Some ((done ++ e ∷ []) ++ y)))
-bind_twice None done e = refl
-bind_twice (Some y) done e = ap (λ z. Some z) (sym (append_assoc done (e ∷ []) y))
+so_far_none P first = ([], (refl, λ i j d lt less. absurd (omega (arith, less))), sym (same_bound (all_weights_at P first)))
 
 one_more : (P : Instance) (ws : List (List ℕ)) (e : NamedWeight) (rest : List (List ℕ)) → TakesWeight P ws e rest → all_weights_at P ws ≡ (all_weights_at P rest >>= (λ y. Some (e ∷ y)))
 one_more P ws e rest t =
@@ -152,7 +145,7 @@ pub so_far_more : (P : Instance) (first ws rest : List (List ℕ)) (e : NamedWei
 so_far_more P first ws rest e s new h t added = (
   h.0 ++ e ∷ [],
   gives_more P h.0 e s new h.1 added,
-  h.2 ∙ ap (λ o. o >>= (λ y. Some (h.0 ++ y))) (one_more P ws e rest (weight_taken P ws e rest t)) ∙ bind_twice (all_weights_at P rest) h.0 e,
+  h.2 ∙ ap (λ o. o >>= (λ y. Some (h.0 ++ y))) (one_more P ws e rest (weight_taken P ws e rest t)) ∙ both_behind h.0 e (all_weights_at P rest),
 )
 
 pub so_far_all : (P : Instance) (first ws : List (List ℕ)) (s : Gathered) → SoFar P first ws s → ws ≡ [] → GivesAll P (all_weights_at P first) (Some s)

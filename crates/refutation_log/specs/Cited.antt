@@ -13,7 +13,7 @@ use Rattle.refutation_terms.specs.Ranges.{AreRules, AreWeightsOf}
 abbrev pub Adds : List ℕ → List ℕ → (ℕ → Type 0) → Type 0
 Adds old new IsNew = (k : ℕ) → Contains new k ↔ (Contains old k ⊎ IsNew k)
 
--- and maybe not all of them
+-- the same, but maybe not all of the numbers that are new
 abbrev pub AddsSome : List ℕ → List ℕ → (ℕ → Type 0) → Type 0
 AddsSome old new IsNew = (k : ℕ) → (Contains old k → Contains new k) × (Contains new k → Contains old k ⊎ IsNew k)
 

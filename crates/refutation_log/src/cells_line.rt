@@ -1,5 +1,5 @@
 // The line of a header that gives cells, read and printed.
-ghost use Rattle.std.specs.Prelude.{◌≡◌, ◌++◌, ◌<◌, ◌^◌, All, Some, None, OnOk, MatchOption, map};
+ghost use Rattle.std.specs.Prelude.{◌≡◌, ◌++◌, All, Some, None, OnOk, MatchOption, map};
 ghost use Rattle.std.specs.List.{flat_map};
 ghost use Rattle.rwsp_text.specs.Fields.{cell_fields, cells_at};
 ghost use Rattle.rwsp_text.specs.Lines.{words_of};

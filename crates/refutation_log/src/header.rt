@@ -1,9 +1,7 @@
 // The header of a log's text: its version, the rules that it names, and its turn, its goal or its given cells.
 ghost use Rattle.std.specs.Prelude.{◌≡◌, ◌≤◌, ◌+◌, ◌++◌, Some, IfOk, MatchOption, MatchResult};
-ghost use Rattle.rwsp_terms.specs.Instance.{name_of};
 ghost use Rattle.rwsp_model.specs.Refusals.{MatchAnswer};
 ghost use Rattle.refutation_terms.specs.Ranges.{AreRules};
-ghost use Rattle.refutation_terms.specs.Log.{OpeningFits};
 ghost use Rattle.refutation_terms.specs.LogText.{version_text, rules_text, goal_text};
 ghost use Rattle.refutation_terms.specs.Verdict.{kind_of, header_lines, TurnsTo, VersionCause, RulesCause, GoalCause};
 ghost use Rattle.rwsp_text.specs.Lines.{words_of};

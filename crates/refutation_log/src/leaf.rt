@@ -1,5 +1,5 @@
 // Leaves, kind by kind: how each is copied, how it is printed, and which rules it cites.
-ghost use Rattle.std.specs.Prelude.{◌≡◌, ◌⊎◌, ◌↔◌, ℕ, ◌<◌, ◌++◌, Bool, Option, IfOk, OnOk, OnErr, All, Contains};
+ghost use Rattle.std.specs.Prelude.{◌≡◌, ◌⊎◌, ℕ, ◌<◌, ◌++◌, Bool, Option, IfOk, OnOk, OnErr, All, Contains};
 ghost use Rattle.std.specs.List.{join_with_byte};
 ghost use Rattle.rwsp_terms.specs.declared.data.Rule.{Rule};
 ghost use Rattle.rwsp_terms.specs.Instance.{cells, IsDay, IsSymbol, name_of};

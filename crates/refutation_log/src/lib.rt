@@ -44,4 +44,4 @@ pub use refutation_terms::{
     GivenCell, GivenCells, Leaf, Line, LogKind, LogRefusal, Opening, Terms, Turn, WordClaim,
 };
 pub use rwsp_text::LineReader;
-pub use turn::first_turn;
+pub use turn::scarcest_turn;

@@ -1,5 +1,5 @@
 // Lines of a log's text, read by their fields.
-ghost use Rattle.std.specs.Prelude.{◌≡◌, ◌≢◌, ◌<◌, ◌≤◌, ◌^◌, ◌++◌, ◌∷◌, ℕ, List, [], Option, Some, None, MatchOption, IfOk, IfSome, OnOk, All};
+ghost use Rattle.std.specs.Prelude.{◌≡◌, ◌≢◌, ◌<◌, ◌^◌, ◌++◌, ◌∷◌, ℕ, List, [], Option, Some, None, MatchOption, IfOk, IfSome, OnOk, All};
 ghost use Rattle.std.specs.List.Sorted.{IsStrictlyIncreasing};
 ghost use Rattle.rwsp_terms.specs.Rules.{rules};
 ghost use Rattle.rwsp_model.specs.Refusals.{MatchAnswer};

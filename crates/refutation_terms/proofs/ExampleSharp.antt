@@ -1,5 +1,5 @@
 -- A spent log, and a sharp one with a turn.
-use Rattle.std.proofs.Common.{◌≡◌, ◌⊎◌, ℕ, zero, suc, ◌<◌, ◌≤◌, List, [], ◌∷◌, length, get_or, refl, ap, ◌∙◌, subst, arith, inl, inr, Option, Some, None, lit<, lit≤, false}
+use Rattle.std.proofs.Common.{◌≡◌, ℕ, zero, suc, ◌<◌, ◌≤◌, List, [], ◌∷◌, length, get_or, refl, ap, ◌∙◌, subst, arith, inr, Option, Some, None, lit<, lit≤, false}
 use Rattle.std.specs.Prelude.{slice_get}
 use Rattle.std.specs.List.{AllByRecursion}
 use Rattle.std.specs.Int.Signed.{le_z_yes}
@@ -16,7 +16,7 @@ use Rattle.refutation_terms.specs.declared.lines.Line.{Line}
 use Rattle.refutation_terms.specs.declared.lines.Line.TheVariants.{Split, Unfinished}
 use Rattle.refutation_terms.specs.Tree.{Leaf, Node}
 use Rattle.refutation_terms.specs.Log.{IsSpent, HoldsAt, LineFits, Cites, ListsShortOnly}
-use Rattle.refutation_terms.specs.Sharp.{IsDemanded, IsFirstTurn, IsUnclosed, IsSharp}
+use Rattle.refutation_terms.specs.Sharp.{IsDemanded, IsNoScarcer, IsScarcestTurn, IsUnclosed, IsSharp}
 use Rattle.refutation_terms.specs.Examples.{one_shift, short_rules, three_of_six, turn_log, open_log, shift_D, blocks_dead, from_to}
 use Rattle.refutation_terms.proofs.Named.{named-IsRule}
 
@@ -67,13 +67,13 @@ no_split (suc k) p x e = cc
 decided : (line : Line) → slice_get (blocks_dead ∷ []) 0 ≡ Some line → IsUnclosed line → ⊥
 decided line e h = let same : line ≡ blocks_dead = cc in subst IsUnclosed same h
 
-first_turn : IsFirstTurn three_of_six turn_log.opening
-first_turn = (((lit< tt, lit≤ tt), (lit< tt, lit≤ tt), le_z_yes tt), first)
+scarcest : IsScarcestTurn three_of_six turn_log.opening
+scarcest = (((lit< tt, lit≤ tt), (lit< tt, lit≤ tt), le_z_yes tt), no_scarcer)
   where
-    first : (j : ℕ) (x : Symbol) → IsDemanded three_of_six j x → (1 < j) ⊎ ((1 ≡ j) × (1 ≤ x.number))
-    first zero x h = let a : 0 < 0 = h.0.0 in absurd (omega (arith, a))
-    first (suc zero) x h = let a : 0 < x.number = h.1.0 in inr (refl, omega (arith, a))
-    first (suc (suc j)) x h = inl (omega arith)
+    no_scarcer : (j : ℕ) (x : Symbol) → IsDemanded three_of_six j x → IsNoScarcer three_of_six (record { day = 1; x = shift_D }) j x
+    no_scarcer zero x h = let a : 0 < 0 = h.0.0 in absurd (omega (arith, a))
+    no_scarcer (suc zero) x h = let same = one_shift_is x h.1 in subst (λ z. IsNoScarcer three_of_six (record { day = 1; x = shift_D }) 1 z) same (inr (refl, inr (refl, lit≤ tt)))
+    no_scarcer (suc (suc j)) x h = let a : suc (suc j) ≤ 1 = h.0.1 in absurd (omega (arith, a))
 
 pub turn_log_is_sharp : IsSharp three_of_six turn_log
 turn_log_is_sharp = record {
@@ -81,7 +81,7 @@ turn_log_is_sharp = record {
   all_short = block_rules_are_short 1 6 (from_to 3 3 ∷ []) (from_to 2 2) (lit≤ tt, lit≤ tt);
   splits = λ k p x e. absurd (no_split k p x e);
   top = λ line e h. absurd (decided line e h);
-  turn = first_turn;
+  turn = scarcest;
 }
 
 -- a log that is spent after its one split

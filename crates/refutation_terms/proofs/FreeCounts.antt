@@ -25,10 +25,6 @@ use Rattle.refutation_terms.proofs.Sums.{times_more}
 use Rattle.refutation_terms.proofs.Turning.{count_shift, count_period, cell-within}
 use Rattle.refutation_terms.proofs.Weighing.{window_weighs_enough}
 
-pub turns_some : (n m : ℕ) → 0 < n * m → 0 < m
-turns_some n zero h = let e : n * zero ≡ 0 = omega arith in absurd (omega (arith, h, e))
-turns_some n (suc m) h = omega arith
-
 -- a count over one range and then the next
 count_range : (f : ℕ → Bool) (a m n : ℕ) → count_by f (range_with_len a (m + n)) ≡ count_by f (range_with_len a m) + count_by f (range_with_len (a + m) n)
 count_range f a zero n =

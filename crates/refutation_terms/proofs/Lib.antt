@@ -33,3 +33,4 @@ pub mod Fronts
 pub mod Causes
 pub mod OneRefusal
 pub mod Unique
+pub mod Scarcest

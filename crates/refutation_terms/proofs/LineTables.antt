@@ -337,7 +337,6 @@ weights_read P (e ∷ y) ys h is =
     let w = with_read e (symbol_of P e.name) (weights_of P y) ys is in
     let rest = weights_read P y w.1 h.1 w.3 in
     let named = symbol_of-name P e.name w.0 w.2 in
-    let first : Weight = record { day = e.day; symbol = w.0; value = e.value } in
     let same_first : named_weight P (record { day = e.day; symbol = w.0; value = e.value }) ≡ e = ap (λ n. record { day = e.day; name = n; value = e.value }) named.1 in
     subst (AreRead P (e ∷ y)) w.4 (record {
       same = ap (λ f. f ∷ map (named_weight P) w.1) same_first ∙ ap (λ fs. e ∷ fs) rest.same;

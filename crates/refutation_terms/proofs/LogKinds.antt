@@ -3,8 +3,7 @@ use Rattle.std.proofs.Common.{◌≡◌, ℕ, ◌≤◌, List, refl, sym, subst,
 use Rattle.rwsp_terms.specs.declared.data.Symbol.{Symbol}
 use Rattle.rwsp_terms.specs.Instance.{Instance}
 use Rattle.rwsp_terms.specs.Rules.{Meets}
-use Rattle.refutation_terms.specs.declared.cells.GivenCell.{GivenCell}
-use Rattle.refutation_terms.specs.declared.lines.LogKind.TheVariants.{WithoutGoal, WithGoal, WithCells}
+use Rattle.refutation_terms.specs.declared.lines.LogKind.TheVariants.{WithoutGoal}
 use Rattle.refutation_terms.specs.declared.lines.Opening.{Opening}
 use Rattle.refutation_terms.specs.declared.lines.Opening.TheVariants.{Full, Turned, Given}
 use Rattle.refutation_terms.specs.FreeWeekends.{free_weekends}
@@ -18,22 +17,6 @@ no_goal o None e = refl
 no_goal Full (Some goal) e = absurd (cc)
 no_goal (Turned t) (Some goal) e = absurd (cc)
 no_goal (Given given) (Some goal) e = absurd (cc)
-
-pub no_cells : (o : Opening) (goal : Option ℕ) (given : List GivenCell) → kind_by o goal ≡ WithoutGoal → o ≡ Given given → ⊥
-no_cells o goal given e is = let clash : WithCells ≡ WithoutGoal = subst (λ o. kind_by o goal ≡ WithoutGoal) is e in cc
-
-pub has_cells : (o : Opening) (goal : Option ℕ) → kind_by o goal ≡ WithCells → (given : List GivenCell) × (o ≡ Given given)
-has_cells Full None e = absurd (cc)
-has_cells Full (Some goal) e = absurd (cc)
-has_cells (Turned t) None e = absurd (cc)
-has_cells (Turned t) (Some goal) e = absurd (cc)
-has_cells (Given given) goal e = (given, refl)
-
-pub has_goal : (o : Opening) (goal : Option ℕ) → kind_by o goal ≡ WithGoal → (value : ℕ) × (goal ≡ Some value)
-has_goal Full None e = absurd (cc)
-has_goal (Turned t) None e = absurd (cc)
-has_goal (Given given) goal e = absurd (cc)
-has_goal o (Some goal) e = (goal, refl)
 
 -- each roster has what a log without given cells opens with
 pub holds_plain : (o : Opening) (goal : Option ℕ) (s : List Symbol) → kind_by o goal ≡ WithoutGoal → HoldsOpening o s

@@ -7,7 +7,7 @@ use Rattle.rwsp_terms.specs.declared.data.Class.{Class}
 use Rattle.rwsp_terms.specs.declared.data.Class.TheVariants.{Shift, Off, Work}
 use Rattle.rwsp_terms.specs.declared.data.Rule.{Rule}
 use Rattle.rwsp_terms.specs.declared.data.Rule.TheVariants.{Never, Day}
-use Rattle.rwsp_terms.specs.Instance.{Instance, shift_count, sequences, symbol_numbered, IsClass}
+use Rattle.rwsp_terms.specs.Instance.{Instance, shift_count, symbol_numbered, IsClass}
 use Rattle.rwsp_terms.specs.Roster.{IsRule}
 use Rattle.rwsp_terms.specs.Rules.{rules, rule_of, classes, block_rules, Names, NamesShortOnly, NamesShortRules}
 use Rattle.rwsp_terms.proofs.Elements.{all_joined}
@@ -37,11 +37,11 @@ classes_are P =
 rules_are : (P : Instance) → AllByRecursion (IsRule P) (rules P)
 rules_are P =
     let blocks = flat_map block_rules (classes P) in
-    let nevers = map Never (range_with_len 0 (length (sequences P))) in
+    let nevers = map Never (range_with_len 0 (length P.sequences)) in
     let days = map Day (range_with_len 1 P.days) in
     all_joined (IsRule P) (blocks ++ nevers) days
     (all_joined (IsRule P) blocks nevers (block_rules_are P (classes P) (classes_are P))
-    (all_mapped (IsRule P) Never 0 (length (sequences P)) (λ k le lt. omega (arith, lt))))
+    (all_mapped (IsRule P) Never 0 (length P.sequences) (λ k le lt. omega (arith, lt))))
     (all_mapped (IsRule P) Day 1 P.days (λ k le lt. (omega (arith, le), omega (arith, lt))))
 
 -- what a number stands for is a rule of the instance

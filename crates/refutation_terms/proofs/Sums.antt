@@ -101,10 +101,6 @@ sum_exchange h [] ys = sym (sum_zero (λ k. pos 0) ys (λ x. refl))
 sum_exchange h (x ∷ xs) ys =
     ap (λ z. int_sum_by (λ k. h x k) ys +ℤ z) (sum_exchange h xs ys) ∙ sym (sum_add (λ k. h x k) (λ k. int_sum_by (λ i. h i k) xs) ys)
 
--- the value at a number that a test marks
-marked : (Y : ℕ → ℤ) (m x : ℕ) → ℤ
-marked Y m x = Y x *ℤ pos (cond (m == x) 1 0)
-
 times_one : (v : ℤ) → v *ℤ pos 1 ≡ v
 times_one v = *ℤ_comm v (pos 1) ∙ times_more 0 v ∙ ap (λ z. z +ℤ v) (zero-*ℤ v) ∙ +ℤ_idl v
 

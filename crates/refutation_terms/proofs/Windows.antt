@@ -123,10 +123,6 @@ no_bad-front P r p part after h =
 pub clean-part : (P : Instance) (R : List ℕ) (p : ℕ) (before part after : List Symbol) → Clean P R p (before ++ part ++ after) → Clean P R (p + length before) part
 clean-part P R p before part after h r named = no_bad-part P r p before part after (h r named)
 
--- the front of a clean word is clean
-pub clean-front : (P : Instance) (R : List ℕ) (p : ℕ) (part after : List Symbol) → Clean P R p (part ++ after) → Clean P R p part
-clean-front P R p part after h r named = no_bad-front P r p part after (h r named)
-
 -- a word that is clean for a list is clean for a part of it
 pub clean-fewer : (P : Instance) (R fewer : List ℕ) (p : ℕ) (u : List Symbol) → ((k : ℕ) → Contains fewer k → Contains R k) → Clean P R p u → Clean P fewer p u
 clean-fewer P R fewer p u within h r named = h r (named.0, within named.0 named.1, named.2)

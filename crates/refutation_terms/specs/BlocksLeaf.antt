@@ -72,7 +72,7 @@ block_rules_of (suc x) = block_rules (Shift (symbol_numbered (suc x)))
 abbrev pub IsBlockRule : ℕ → Rule → Type 0
 IsBlockRule x r = Contains (block_rules_of x) r
 
--- it rests on these and on every day
+-- it rests on the lengths of its symbol's blocks, of the day off on those of work too, and on every day
 abbrev pub BlocksCite : Instance → Symbol → Rule → Type 0
 BlocksCite P x r = IsBlockRule x.number r ⊎ ((j : ℕ) × IsDay P j × (r ≡ TheRules.Day j))
 

@@ -34,9 +34,5 @@ pub record IsLeastHeaviestBy (P : Instance) (D : Domains) (p len : ℕ) (R : Lis
   pub heavy : IsHeaviestBy P D p len R weighs u
   pub least : (v : List Symbol) → IsHeaviestBy P D p len R weighs v → ComesFirst u v
 
--- the same by the weights of the days
-abbrev pub IsHeaviest : Instance → Domains → ℕ → ℕ → List ℕ → List Weight → List Symbol → Type 0
-IsHeaviest P D p len R y u = IsHeaviestBy P D p len R (weight P y p) u
-
 abbrev pub IsLeastHeaviest : Instance → Domains → ℕ → ℕ → List ℕ → List Weight → List Symbol → Type 0
 IsLeastHeaviest P D p len R y u = IsLeastHeaviestBy P D p len R (weight P y p) u

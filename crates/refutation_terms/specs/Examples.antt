@@ -25,8 +25,7 @@ one_shift days weeks demand block = record {
   shifts = record { name = codes "D"; start = 360; length = 480; bounds = block } ∷ [];
   off = block;
   work = block;
-  pairs = [];
-  triples = [];
+  sequences = [];
 }
 
 -- the rules on blocks

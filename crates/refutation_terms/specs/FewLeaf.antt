@@ -18,7 +18,7 @@ may_be_free D i = D (i * DAYS_OF_WEEK + SATURDAY) 0 && D (i * DAYS_OF_WEEK + SUN
 abbrev pub HasTooFewFree : Instance → ℕ → Domains → Type 0
 HasTooFewFree P goal D = count_by (may_be_free D) (range_with_len 0 P.weeks) < goal
 
--- so it is where the log has a goal
+-- the log has a goal, and fewer weeks than it can have their weekend off
 abbrev pub FewHolds : Instance → Option ℕ → Domains → Type 0
 FewHolds P None D = ⊥
 FewHolds P (Some goal) D = HasTooFewFree P goal D

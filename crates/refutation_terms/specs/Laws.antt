@@ -12,12 +12,15 @@ use Rattle.rwsp_terms.specs.Rules.{Meets}
 use Rattle.refutation_terms.specs.declared.lines.Line.{Line}
 use Rattle.refutation_terms.specs.declared.lines.Line.TheVariants.{Split}
 use Rattle.refutation_terms.specs.declared.lines.Opening.{Opening}
+use Rattle.refutation_terms.specs.declared.lines.Opening.TheVariants.{Turned}
+use Rattle.refutation_terms.specs.declared.lines.Turn.{Turn}
 use Rattle.refutation_terms.specs.Word.{Domains, AreDomains, Within, turned, Over, Clean, weight, total}
 use Rattle.refutation_terms.specs.FreeWeekends.{is_off_at, free_weekends}
 use Rattle.refutation_terms.specs.Tree.{IsLeaf, IsTree, after_trees, First, Second, side, InFirst, InSecond, narrowed, opening, domains_at, is_idle}
 use Rattle.refutation_terms.specs.Ranges.{HasWeight}
 use Rattle.refutation_terms.specs.BlocksLeaf.{block_count, BlockCountFits, BlocksCite}
 use Rattle.refutation_terms.specs.Log.{Log, OpeningFits, HoldsOpening, Passes, IsSpent}
+use Rattle.refutation_terms.specs.Sharp.{IsScarcestTurn}
 
 -- one leaf line
 abbrev pub IsOneLeaf : List Line → Type 0
@@ -179,6 +182,10 @@ abbrev pub TurnsHaveFreeWeekends : Type 0
 TurnsHaveFreeWeekends =
     (P : Instance) (s : List Symbol) (turns : ℕ) → P.days ≡ DAYS_OF_WEEK → IsRoster P s
     → free_weekends (window s 0 (turns * cells P)) ≡ turns * free_weekends s
+
+-- no two turns are both to the scarcest shift
+abbrev pub ScarcestTurnIsOne : Type 0
+ScarcestTurnIsOne = (P : Instance) (t u : Turn) → IsScarcestTurn P (Turned t) → IsScarcestTurn P (Turned u) → t ≡ u
 
 -- a log that passes is not spent, whatever the budget
 abbrev pub PassingIsNotSpent : Type 0

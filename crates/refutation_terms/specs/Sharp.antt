@@ -1,5 +1,5 @@
 -- When a log is sharp: it splits only where no leaf is at hand, and splits on what is forced where something is.
-use Rattle.std.specs.Prelude.{◌≡◌, ◌⊎◌, ℕ, zero, suc, ◌*◌, ◌<◌, ◌≤◌, List, [], ◌∷◌, ◌++◌, length, slice_get, map, Bool, false, Some, None, ℤ, pos, negsuc, ◌+ℤ◌, ◌-ℤ◌, ◌≤ℤ◌, int_lt, if◌then◌else◌}
+use Rattle.std.specs.Prelude.{◌≡◌, ◌⊎◌, ℕ, zero, suc, ◌*◌, ◌<◌, ◌≤◌, List, [], ◌∷◌, ◌++◌, length, slice_get, map, Bool, false, Some, None, ℤ, pos, negsuc, ◌+ℤ◌, ◌-ℤ◌, ◌≤ℤ◌, ◌<ℤ◌, int_lt, if◌then◌else◌}
 use Rattle.std.specs.List.{range_with_len, flat_map}
 use Rattle.rwsp_terms.specs.declared.data.Symbol.{Symbol}
 use Rattle.rwsp_terms.specs.declared.data.Weight.{Weight}
@@ -13,6 +13,7 @@ use Rattle.refutation_terms.specs.declared.lines.Line.TheVariants.{Split, Closin
 use Rattle.refutation_terms.specs.declared.lines.Leaf.TheVariants.{Window, Day}
 use Rattle.refutation_terms.specs.declared.lines.Opening.{Opening}
 use Rattle.refutation_terms.specs.declared.lines.Opening.TheVariants.{Full, Turned, Given}
+use Rattle.refutation_terms.specs.declared.lines.Turn.{Turn}
 use Rattle.refutation_terms.specs.Word.{Domains, Over, Clean}
 use Rattle.refutation_terms.specs.Ranges.{AreWeightsOf}
 use Rattle.refutation_terms.specs.WordsLeaf.{IsDead, IsTooLight}
@@ -98,14 +99,19 @@ IsUnclosed line = ⊥
 abbrev pub IsDemanded : Instance → ℕ → Symbol → Type 0
 IsDemanded P j x = IsDay P j × IsShift P x × (pos 1 ≤ℤ least P x.number j)
 
--- no shift is demanded, or the turn is to the first that is, on the first day on which one is; or cells are given, with
--- which no week is like another
-abbrev pub IsFirstTurn : Instance → Opening → Type 0
-IsFirstTurn P Full = (j : ℕ) (x : Symbol) → IsDemanded P j x → ⊥
-IsFirstTurn P (Given given) = Unit {0}
-IsFirstTurn P (Turned t) =
-    IsDemanded P t.day t.x
-    × ((j : ℕ) (x : Symbol) → IsDemanded P j x → (t.day < j) ⊎ ((t.day ≡ j) × (t.x.number ≤ x.number)))
+-- another demanded shift is no scarcer than that of the turn: it has a greater least demand on its day, or an equal one
+-- and comes no earlier, by the days and on one day by the numbers of the shifts
+abbrev pub IsNoScarcer : Instance → Turn → ℕ → Symbol → Type 0
+IsNoScarcer P t j x =
+    (least P t.x.number t.day <ℤ least P x.number j)
+    ⊎ ((least P t.x.number t.day ≡ least P x.number j) × ((t.day < j) ⊎ ((t.day ≡ j) × (t.x.number ≤ x.number))))
+
+-- no shift is demanded, or the turn is to one that is, on a day, and to the scarcest: the first of those with the
+-- smallest least demand; or cells are given, with which no week is like another
+abbrev pub IsScarcestTurn : Instance → Opening → Type 0
+IsScarcestTurn P Full = (j : ℕ) (x : Symbol) → IsDemanded P j x → ⊥
+IsScarcestTurn P (Given given) = Unit {0}
+IsScarcestTurn P (Turned t) = IsDemanded P t.day t.x × ((j : ℕ) (x : Symbol) → IsDemanded P j x → IsNoScarcer P t j x)
 
 -- what holds at each split of a sharp log: no window or day leaf holds, two turns aren't dead, and it splits on a
 -- spent symbol where there is one
@@ -122,4 +128,4 @@ pub record IsSharp (P : Instance) (g : Log) : Type 0 where
   pub splits : (k p : ℕ) (x : Symbol) → slice_get g.lines k ≡ Some (Split p x)
       → IsSharpSplit P (domains_at P g.opening g.lines k) short p x
   pub top : (line : Line) → slice_get g.lines 0 ≡ Some line → IsUnclosed line → NoBoundHolds P (opening P g.opening) short
-  pub turn : IsFirstTurn P g.opening
+  pub turn : IsScarcestTurn P g.opening

@@ -12,7 +12,7 @@ pub fn a_log_is_spent()
     ensures three { size odd_log ≡ 3 }
 {}
 
-/// A dead leaf behind a turn to the first shift that is demanded is sharp.
+/// A dead leaf behind a turn to the scarcest shift that is demanded is sharp.
 pub fn a_turn_is_sharp()
     ensures { IsSharp three_of_six turn_log }
 {}

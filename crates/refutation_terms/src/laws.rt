@@ -1,5 +1,5 @@
 // Laws of the definitions. Each function's contract is the law, and specs/Laws.antt states it.
-ghost use Rattle.refutation_terms.specs.Laws.{TreesAreAsSaid, WalksReadTrees, SidesAreAsSaid, DomainsAreAsSaid, IdleIsAsSaid, OverIsAsSaid, DomainsAreNeverEmpty, WindowsAreOver, SidesTakeAll, SidesShareNone, WindowsAreClean, PartsAreClean, FewerRulesAreClean, WindowsWeighEnough, WindowsWeighExactly, TurningKeepsRules, TurningKeepsLists, SomeTurnHasIt, FreeWeekendsAreWeeks, TurnsHaveFreeWeekends, PassingLeavesNoRoster, PassingIsNotSpent, BlockCountsFit};
+ghost use Rattle.refutation_terms.specs.Laws.{TreesAreAsSaid, WalksReadTrees, SidesAreAsSaid, DomainsAreAsSaid, IdleIsAsSaid, OverIsAsSaid, DomainsAreNeverEmpty, WindowsAreOver, SidesTakeAll, SidesShareNone, WindowsAreClean, PartsAreClean, FewerRulesAreClean, WindowsWeighEnough, WindowsWeighExactly, TurningKeepsRules, TurningKeepsLists, SomeTurnHasIt, FreeWeekendsAreWeeks, TurnsHaveFreeWeekends, PassingLeavesNoRoster, ScarcestTurnIsOne, PassingIsNotSpent, BlockCountsFit};
 ghost use Rattle.refutation_terms.specs.TextLaws.{SpelledLinesFit, FittingLinesAreSpelled, TextsAreDistinct, VerdictIsUnique};
 
 /// A log that passes, with a turn, a goal or given cells or without, and a roster that meets the rules that it names,
@@ -49,6 +49,11 @@ pub fn turning_keeps_rules()
     ensures each { TurningKeepsRules }
     ensures lists { TurningKeepsLists }
     ensures some { SomeTurnHasIt }
+{}
+
+/// The turn to the scarcest shift is one.
+pub fn scarcest_turn_is_one()
+    ensures { ScarcestTurnIsOne }
 {}
 
 /// A log that passes is not spent, whatever the budget.

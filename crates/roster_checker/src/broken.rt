@@ -1,5 +1,5 @@
 // The first rule that a roster breaks.
-ghost use Rattle.std.specs.Prelude.{◌≡◌, ◌+◌, ◌-◌, ◌*◌, ◌<◌, ◌≤◌, ◌^◌, length, MatchOption, Some};
+ghost use Rattle.std.specs.Prelude.{◌≡◌, ◌+◌, ◌-◌, ◌<◌, ◌≤◌, length, MatchOption, Some};
 ghost use Rattle.rwsp_terms.specs.Roster.{IsRoster, MeetsAll};
 ghost use Rattle.rwsp_terms.specs.Rules.{rules};
 ghost use Rattle.rwsp_terms.specs.declared.limits.TheConstants.{MOST_CELLS};

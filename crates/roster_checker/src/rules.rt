@@ -1,5 +1,5 @@
 // Where a rule is broken first.
-ghost use Rattle.std.specs.Prelude.{◌≡◌, ◌-◌, ◌*◌, length, MatchOption};
+ghost use Rattle.std.specs.Prelude.{◌-◌, length, MatchOption};
 ghost use Rattle.rwsp_terms.specs.Instance.{IsDay};
 ghost use Rattle.rwsp_terms.specs.Window.{Bad};
 ghost use Rattle.rwsp_terms.specs.Roster.{HasNoWindow, IsRoster, IsRule, MeetsDay, MeetsRule};

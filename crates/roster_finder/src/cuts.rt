@@ -1,5 +1,5 @@
 // Cuts round parts of the steady layer that a fractional roster hardly leaves.
-ghost use Rattle.std.specs.Prelude.{◌≡◌, ◌*◌, ◌<◌, length, All, IfOk, IfSome, OnOk};
+ghost use Rattle.std.specs.Prelude.{◌≡◌, ◌*◌, ◌<◌, length, All, IfOk, OnOk};
 ghost use Rattle.roster_finder.specs.ByStep.{IsByStep};
 ghost use Rattle.roster_finder.specs.Quotas.{IsQuotaOf};
 ghost use Rattle.roster_finder.specs.UsedSteps.{IsUsedOf};

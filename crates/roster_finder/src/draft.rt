@@ -1,5 +1,5 @@
 // Words that are on their way to a roster, with their counters.
-ghost use Rattle.std.specs.Prelude.{◌≡◌, ◌*◌, ◌<◌, ◌≤◌, IfOk};
+ghost use Rattle.std.specs.Prelude.{◌≡◌, ◌*◌, ◌<◌, IfOk};
 ghost use Rattle.roster_finder.specs.Walks.{HaveOneShape, IsWalkOf};
 
 use crate::counters::{Change, Counters};

@@ -142,13 +142,14 @@ impl<'a> Search<'a> {
         setting: Setting<'a>,
         domains: &'a DayDomains,
         cutting_turns: usize,
+        seed: u32,
     ) -> Result<Option<Search<'a>>, AllocError>
         requires { AreDomainsOf setting domains.now }
     {
         if setting.layer.nodes == 0 || setting.layer.step_count() == 0 {
             return Ok(None);
         }
-        let mut random = Random::new();
+        let mut random = Random::new(seed);
         let Some(shares) = Shares::of(setting, &mut random, 0, cutting_turns)? else {
             return Ok(None);
         };
@@ -407,8 +408,8 @@ fn roster_of(problem: &Problem, cells: Vec<Symbol>) -> Option<Roster>
 /// A fractional flow is found first, that is, how often each step of clean words is taken on each weekday in the mean
 /// (G. Dantzig and P. Wolfe's generation of columns, 1960). It is rounded to words that meet the demand nearly; windows
 /// of them are then rewritten, each by the clean word that fits best, until the demand is met. Words are made within
-/// domains: the fewer symbols propagation has left there, the sooner one is a roster. The same problem and domains give
-/// the same answer each time.
+/// domains: the fewer symbols propagation has left there, the sooner one is a roster. The same problem, domains and seed
+/// give the same answer each time.
 #[derive(Drop)]
 pub struct RosterFinder<'a> {
     problem: &'a Problem,
@@ -417,6 +418,8 @@ pub struct RosterFinder<'a> {
     domains: Option<&'a Domains>,
     // No search goes on for longer.
     most: Patience,
+    // Its random numbers are those of this seed.
+    seed: u32,
 }
 
 impl<'a> Model for RosterFinder<'a> {
@@ -441,7 +444,7 @@ impl<'a> RosterFinder<'a> {
 
     /// A search for rosters of the problem within the domains, over the layer of its words; without domains none is
     /// found. No search goes on for longer than `most`, whatever is asked for: a problem that is likely to have no
-    /// roster gets little patience.
+    /// roster gets little patience. The seed is 0.
     pub fn over(
         problem: &'a Problem,
         layer: &'a SteadyLayer,
@@ -457,6 +460,7 @@ impl<'a> RosterFinder<'a> {
             layer,
             domains,
             most,
+            seed: 0,
         }
     }
 
@@ -464,12 +468,31 @@ impl<'a> RosterFinder<'a> {
     pub fn at_most(&self, most: Patience) -> RosterFinder<'a>
         ensures { result ≡ self.now }
     {
-        RosterFinder::over(
-            self.problem,
-            self.layer,
-            self.domains,
-            most.up_to(self.most),
-        )
+        RosterFinder {
+            problem: self.problem,
+            layer: self.layer,
+            domains: self.domains,
+            most: most.up_to(self.most),
+            seed: self.seed,
+        }
+    }
+
+    /// The same search with the random numbers of this seed.
+    pub fn seeded(&self, seed: u32) -> RosterFinder<'a>
+        ensures { result ≡ self.now }
+    {
+        RosterFinder {
+            problem: self.problem,
+            layer: self.layer,
+            domains: self.domains,
+            most: self.most,
+            seed,
+        }
+    }
+
+    /// The seed of its random numbers.
+    pub fn seed(&self) -> u32 {
+        self.seed
     }
 
     /// The layer of the problem's words.
@@ -510,7 +533,8 @@ impl<'a> RosterFinder<'a> {
             demand: &demand,
         };
         let days = DayDomains::of(setting, domains)?;
-        let Some(mut search) = Search::new(setting, &days, self.most.cutting_turns())? else {
+        let turns = self.most.cutting_turns();
+        let Some(mut search) = Search::new(setting, &days, turns, self.seed)? else {
             return Ok(None);
         };
         search.run(self.problem, free, patience.up_to(self.most))

@@ -115,7 +115,7 @@ fn mark_ends(automaton: &Automaton, passed: &[bool], entered: &mut [bool], left:
 {
     for number in 0..automaton.steps().len() {
         let step = move_of(automaton, number);
-        let (from, to) = (step.from as usize, step.to as usize);
+        let (from, to) = (step.from, step.to);
         if passed[from] && passed[to] {
             left[from] = true;
             entered[to] = true;

@@ -1,5 +1,5 @@
 // What the coordinates of words weigh (dual prices): the further a mixture is off in one, the more.
-ghost use Rattle.std.specs.Prelude.{◌≡◌, ◌*◌, ◌<◌, ◌≤◌, ◌≤ℤ◌, pos, length, All, IfOk};
+ghost use Rattle.std.specs.Prelude.{◌≡◌, ◌*◌, ◌≤◌, ◌≤ℤ◌, pos, length, All, IfOk};
 ghost use Rattle.roster_finder.specs.ByStep.{IsByStep};
 ghost use Rattle.roster_finder.specs.Quotas.{ArePricesOf, IsQuotaOf};
 

@@ -1,5 +1,5 @@
 // Steps of which a roster takes a least number.
-ghost use Rattle.std.specs.Prelude.{◌≡◌, ◌<◌, length, All, IfOk};
+ghost use Rattle.std.specs.Prelude.{◌≡◌, All, IfOk};
 ghost use Rattle.roster_finder.specs.ByStep.{IsPlaceWithin};
 
 use crate::cost::plus;

@@ -13,8 +13,11 @@ pub(crate) struct Random {
 }
 
 impl Random {
-    pub fn new() -> Random {
-        Random { state: INCREMENT }
+    /// The generator of this seed. Each seed has numbers of its own.
+    pub fn new(seed: u32) -> Random {
+        Random {
+            state: INCREMENT.wrapping_add(u64::from(seed)),
+        }
     }
 
     // The next number. The generator's states are numbers modulo 2^64, so it wraps; their high bits are the random ones.

@@ -1,5 +1,5 @@
 // How a window of a word is to be rewritten, and which one.
-ghost use Rattle.std.specs.Prelude.{◌≡◌, ◌+◌, ◌*◌, ◌<◌, ◌≤◌, length, IfSome};
+ghost use Rattle.std.specs.Prelude.{◌≡◌, ◌+◌, ◌*◌, ◌<◌, ◌≤◌, IfSome};
 ghost use Rattle.roster_finder.specs.DayDomains.{AreDomainsFor};
 ghost use Rattle.roster_finder.specs.Moves.{IsRewritingOf, IsWindowOf};
 ghost use Rattle.roster_finder.specs.declared.window.TheConstants.{LONGEST_WINDOW};

@@ -1,5 +1,5 @@
 // Start words: closed walks that follow the shares.
-ghost use Rattle.std.specs.Prelude.{◌≡◌, ◌+◌, ◌*◌, ◌<◌, ◌≤◌, length, IfOk, IfSome};
+ghost use Rattle.std.specs.Prelude.{◌≡◌, ◌+◌, ◌<◌, ◌≤◌, length, IfOk, IfSome};
 
 use crate::cost::{minus, plus, times};
 use crate::day_domains::DayDomains;

@@ -116,7 +116,7 @@ impl SteadyLayer {
     }
 
     // The state to which a word leads from a state.
-    fn state_behind(&self, start: u32, word: &[usize]) -> Option<u32>
+    fn state_behind(&self, start: usize, word: &[usize]) -> Option<usize>
         requires start { start < length self.now.automaton.moves }
         requires word { All (IsUnder self.now.symbols) word.now }
         ensures value { result ≡ lead_from self.now.automaton start word.now }
@@ -163,14 +163,14 @@ fn last_symbols(
     let mut last = Numbers::zeros(alloc, nodes.count, symbols)?;
     for number in 0..automaton.steps().len() {
         let step = move_of(automaton, number);
-        if let Some(to) = nodes.at(step.to as usize) {
+        if let Some(to) = nodes.at(step.to) {
             last.set(to, usize::from(step.symbol.number));
         }
     }
     Ok(last)
 }
 
-// The steps between nodes, whose last symbols are given.
+// The steps between nodes, whose last symbols are given; none where there are more than 32 bits can number.
 fn steps_between(
     alloc: Global,
     automaton: &Automaton,
@@ -180,10 +180,13 @@ fn steps_between(
     requires nodes { length nodes.now.numbers.items ≡ length automaton.now.moves }
     requires whole { length last.now.entries.items ≡ nodes.now.count }
     requires below { last.now.below ≡ shift_count automaton.now.problem + 1 }
-    ensures few { IfOk result (λ steps. length steps.items ≤ length automaton.now.steps) }
+    ensures few { IfOk result (λ steps. length steps.items < 2 ^ 32) }
     ensures within { IfOk result (λ steps. All (IsStepWithin nodes.now.count last.now.below) steps.items) }
 {
     let mut steps = Vec::new(alloc);
+    if automaton.steps().len() > u32::MAX as usize {
+        return Ok(steps);
+    }
     for number in 0..automaton.steps().len() {
         if let Some(step) = step_between(automaton, nodes, last, number) {
             steps.push(step)?;
@@ -201,8 +204,8 @@ fn step_between(automaton: &Automaton, nodes: &Nodes, last: &Numbers, number: us
     ensures { IfSome result (IsStepWithin nodes.now.count last.now.below) }
 {
     let step = move_of(automaton, number);
-    let from = nodes.at(step.from as usize)?;
-    let to = nodes.at(step.to as usize)?;
+    let from = nodes.at(step.from)?;
+    let to = nodes.at(step.to)?;
     let symbol = usize::from(step.symbol.number);
     Some(Step {
         from,

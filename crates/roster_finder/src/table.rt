@@ -1,5 +1,5 @@
 // Tables of an exact size: a place outside of one is ruled out by a clause.
-ghost use Rattle.std.specs.Prelude.{◌≡◌, ◌+◌, ◌*◌, ◌<◌, ◌≤◌, length, IfOk};
+ghost use Rattle.std.specs.Prelude.{◌≡◌, ◌+◌, ◌*◌, ◌<◌, length, IfOk};
 
 use std::alloc::{AllocError, Global};
 

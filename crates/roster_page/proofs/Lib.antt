@@ -1,7 +1,6 @@
 pub mod Minutes
 pub mod Taken
 pub mod Least
-pub mod Next
 pub mod Written
 pub mod OnePage
 pub mod ReadBack

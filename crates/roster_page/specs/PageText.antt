@@ -2,8 +2,8 @@
 use Rattle.std.specs.Prelude.{◌≡◌, ℕ, ◌+◌, ◌/◌, List, [], ◌++◌, ◌==◌, ◌&&◌, Bool, Option, Some, None, if◌then◌else◌}
 use Rattle.std.specs.List.{flat_map, range_with_len}
 use Rattle.std.specs.Fmt.{decimal}
-use Rattle.rwsp_terms.specs.declared.data.Bounds.{Bounds}
 use Rattle.rwsp_terms.specs.declared.data.Symbol.{Symbol}
+use Rattle.rwsp_terms.specs.declared.data.Sequence.{Sequence}
 use Rattle.rwsp_terms.specs.declared.data.Class.TheVariants as Classes
 use Rattle.rwsp_terms.specs.declared.limits.TheConstants.{DAYS_OF_WEEK, SATURDAY, SUNDAY}
 use Rattle.rwsp_terms.specs.Instance.{Instance, shift_count, shift_demand, bounds, name_of}
@@ -171,24 +171,22 @@ work_rule P = fixed WORK_TOP.now ++ range_words P.work ++ fixed RULE_END.now
 unfoldable pub symbol_words : Instance → Symbol → List ℕ
 symbol_words P x = if x.number == 0 then fixed DAY_OFF.now else name_text P x
 
-unfoldable pub pair_rule : Instance → Symbol × Symbol → List ℕ
-pair_rule P x =
-    fixed NEVER.now ++ symbol_words P x.0 ++ fixed AND_THEN.now ++ symbol_words P x.1 ++ fixed RULE_END.now
+-- the symbols of a sequence behind its first
+abbrev pub later_words : Instance → Symbol → Option Symbol → List ℕ
+later_words P second None = fixed AND_THEN.now ++ symbol_words P second
+later_words P second (Some third) =
+    fixed THEN.now ++ symbol_words P second ++ fixed AND_THEN.now ++ symbol_words P third
 
-unfoldable pub pair_rules : Instance → List ℕ
-pair_rules P = flat_map (pair_rule P) P.pairs
+unfoldable pub sequence_rule : Instance → Sequence → List ℕ
+sequence_rule P q =
+    fixed NEVER.now ++ symbol_words P q.first ++ later_words P q.second q.third ++ fixed RULE_END.now
 
-unfoldable pub triple_rule : Instance → Symbol × Symbol × Symbol → List ℕ
-triple_rule P x =
-    fixed NEVER.now ++ symbol_words P x.0 ++ fixed THEN.now ++ symbol_words P x.1
-    ++ fixed AND_THEN.now ++ symbol_words P x.2 ++ fixed RULE_END.now
-
-unfoldable pub triple_rules : Instance → List ℕ
-triple_rules P = flat_map (triple_rule P) P.triples
+unfoldable pub sequence_rules : Instance → List ℕ
+sequence_rules P = flat_map (sequence_rule P) P.sequences
 
 unfoldable pub rules_list : Instance → List ℕ
 rules_list P =
-    fixed RULES_TOP.now ++ block_rules P ++ off_rule P ++ work_rule P ++ pair_rules P ++ triple_rules P
+    fixed RULES_TOP.now ++ block_rules P ++ off_rule P ++ work_rule P ++ sequence_rules P
     ++ fixed RULES_END.now
 
 -- the page

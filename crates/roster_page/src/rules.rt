@@ -1,8 +1,8 @@
 // The rules, in words.
 ghost use Rattle.std.specs.Prelude.{◌≡◌, ◌++◌, ◌<◌, OnOk};
 ghost use Rattle.rwsp_terms.specs.Instance.{shift_count, IsSymbol};
-ghost use Rattle.rwsp_model.specs.Sequences.{IsPairOf, IsTripleOf};
-ghost use Rattle.roster_page.specs.PageText.{block_rule, block_rules, off_rule, work_rule, symbol_words, pair_rule, pair_rules, triple_rule, triple_rules, rules_list};
+ghost use Rattle.rwsp_model.specs.Sequences.{IsSequenceOf};
+ghost use Rattle.roster_page.specs.PageText.{block_rule, block_rules, off_rule, work_rule, symbol_words, sequence_rule, sequence_rules, rules_list};
 
 use crate::pieces::{
     AND_THEN, BLOCKS_TOP, COLON, NEVER, OFF_TOP, RULE_END, RULES_END, RULES_TOP, WORK_TOP, put,
@@ -11,7 +11,7 @@ use crate::words::{put_name, shift_at};
 use plain_words::pieces::{DAY_OFF, THEN};
 use plain_words::put_range;
 use rwsp_model::Problem;
-use rwsp_terms::{Class, Symbol};
+use rwsp_terms::{Class, Sequence, Symbol};
 use std::alloc::AllocError;
 
 // Appends the rule of the blocks of a shift, counted from 0.
@@ -71,60 +71,36 @@ fn put_symbol(out: &mut Vec<u8>, problem: &Problem, symbol: Symbol) -> Result<()
     }
 }
 
-#[tactic(auto, unfolding(crate::specs::PageText::pair_rule))]
-fn put_pair_rule(
+#[tactic(auto, unfolding(crate::specs::PageText::sequence_rule))]
+fn put_sequence_rule(
     out: &mut Vec<u8>,
     problem: &Problem,
-    pair: (Symbol, Symbol),
+    sequence: Sequence,
 ) -> Result<(), AllocError>
-    requires { IsPairOf problem.now pair }
-    ensures { OnOk result (out.new.items ≡ out.old.items ++ pair_rule problem.now pair) }
+    requires { IsSequenceOf problem.now sequence }
+    ensures { OnOk result (out.new.items ≡ out.old.items ++ sequence_rule problem.now sequence) }
 {
     put(out, NEVER)?;
-    put_symbol(out, problem, pair.0)?;
-    put(out, AND_THEN)?;
-    put_symbol(out, problem, pair.1)?;
-    put(out, RULE_END)
-}
-
-// Appends the rule of each pair.
-fn put_pair_rules(out: &mut Vec<u8>, problem: &Problem) -> Result<(), AllocError>
-    ensures { OnOk result (out.new.items ≡ out.old.items ++ pair_rules problem.now) }
-{
-    problem.prove_limits();
-    let pairs = problem.pairs();
-    for i in 0..pairs.len() {
-        put_pair_rule(out, problem, pairs[i])?;
+    put_symbol(out, problem, sequence.first)?;
+    if let Some(third) = sequence.third {
+        put(out, THEN)?;
+        put_symbol(out, problem, sequence.second)?;
+        put(out, AND_THEN)?;
+        put_symbol(out, problem, third)?;
+    } else {
+        put(out, AND_THEN)?;
+        put_symbol(out, problem, sequence.second)?;
     }
-    Ok(())
-}
-
-#[tactic(auto, unfolding(crate::specs::PageText::triple_rule))]
-fn put_triple_rule(
-    out: &mut Vec<u8>,
-    problem: &Problem,
-    triple: (Symbol, Symbol, Symbol),
-) -> Result<(), AllocError>
-    requires { IsTripleOf problem.now triple }
-    ensures { OnOk result (out.new.items ≡ out.old.items ++ triple_rule problem.now triple) }
-{
-    put(out, NEVER)?;
-    put_symbol(out, problem, triple.0)?;
-    put(out, THEN)?;
-    put_symbol(out, problem, triple.1)?;
-    put(out, AND_THEN)?;
-    put_symbol(out, problem, triple.2)?;
     put(out, RULE_END)
 }
 
-// Appends the rule of each triple.
-fn put_triple_rules(out: &mut Vec<u8>, problem: &Problem) -> Result<(), AllocError>
-    ensures { OnOk result (out.new.items ≡ out.old.items ++ triple_rules problem.now) }
+// Appends the rule of each forbidden sequence.
+fn put_sequence_rules(out: &mut Vec<u8>, problem: &Problem) -> Result<(), AllocError>
+    ensures { OnOk result (out.new.items ≡ out.old.items ++ sequence_rules problem.now) }
 {
-    problem.prove_limits();
-    let triples = problem.triples();
-    for i in 0..triples.len() {
-        put_triple_rule(out, problem, triples[i])?;
+    let sequences = problem.sequences();
+    for i in 0..sequences.len() {
+        put_sequence_rule(out, problem, sequences[i])?;
     }
     Ok(())
 }
@@ -138,7 +114,6 @@ pub fn put_rules(out: &mut Vec<u8>, problem: &Problem) -> Result<(), AllocError>
     put_block_rules(out, problem)?;
     put_off_rule(out, problem)?;
     put_work_rule(out, problem)?;
-    put_pair_rules(out, problem)?;
-    put_triple_rules(out, problem)?;
+    put_sequence_rules(out, problem)?;
     put(out, RULES_END)
 }

@@ -1,6 +1,6 @@
 -- The log of no given cells whose tree is the first leaf of blocks needs all that it names.
-use Rattle.std.proofs.Common.{◌≡◌, ℕ, zero, suc, ◌≤◌, [], ◌∷◌, List, true, None, Some, refl, ap, sym, subst, arith, ⊎_elim}
-use Rattle.std.specs.Prelude.{◌<◌, length, All, Contains, Bool, Option, slice_get, count_by, map}
+use Rattle.std.proofs.Common.{◌≡◌, ℕ, zero, suc, ◌≤◌, [], ◌∷◌, List, None, Some, refl, ap, sym, subst, arith, ⊎_elim}
+use Rattle.std.specs.Prelude.{◌<◌, length, All, Contains, Option, slice_get, count_by, map}
 use Rattle.rwsp_terms.specs.declared.data.Rule.{Rule}
 use Rattle.rwsp_terms.specs.declared.data.Symbol.{Symbol}
 use Rattle.rwsp_terms.specs.Instance.{Instance}

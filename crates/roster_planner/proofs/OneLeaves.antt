@@ -10,7 +10,7 @@ use Rattle.refutation_terms.specs.declared.lines.Leaf.{Leaf}
 use Rattle.refutation_terms.specs.declared.lines.Opening.{Opening}
 use Rattle.refutation_terms.specs.Log.{Log, Passes, NamesOnlyCited, is_worked, size}
 use Rattle.refutation_terms.specs.declared.lines.LogKind.TheVariants.{WithoutGoal}
-use Rattle.refutation_terms.specs.Sharp.{IsFirstTurn, IsSharp, IsUnclosed}
+use Rattle.refutation_terms.specs.Sharp.{IsScarcestTurn, IsSharp, IsUnclosed}
 use Rattle.refutation_terms.specs.Verdict.{kind_by}
 use Rattle.refutation_log.specs.declared.found.Found.TheVariants.{NoRoster}
 use Rattle.refutation_log.specs.Planned.{IsPlanned}
@@ -37,7 +37,7 @@ no_split g one k p x at = let same = is_the_leaf g one k (Split p x) at in absur
 one_line : (g : Log) → IsOneLeaf g → size g ≤ 1
 one_line g one = subst (λ (lines : List Line). count_by is_worked lines ≤ 1) (sym one.1) (omega arith)
 
-pub one_is_sharp : (P : Instance) (g : Log) → IsOneLeaf g → IsFirstTurn P g.opening → IsSharp P g
+pub one_is_sharp : (P : Instance) (g : Log) → IsOneLeaf g → IsScarcestTurn P g.opening → IsSharp P g
 one_is_sharp P g one first =
     let short = some_short_rules P in
     record {
@@ -71,13 +71,13 @@ if_one_proof P budget goal leaf (Ok g) some lines passes same cited = one_proof 
 if_one_proof P budget goal leaf (Err e) some lines passes same cited = tt
 
 -- one of a search is what a plan finds from its opening
-pub found_at_once : (P : Instance) (start : Opening) (budget : ℕ) (g : Log) → 1 ≤ budget → IsFirstTurn P start → IsPlainProof P start None g → IsFoundFrom P start budget (NoRoster g)
+pub found_at_once : (P : Instance) (start : Opening) (budget : ℕ) (g : Log) → 1 ≤ budget → IsScarcestTurn P start → IsPlainProof P start None g → IsFoundFrom P start budget (NoRoster g)
 found_at_once P start budget g some first h =
     let few = one_line g (h.leaf, h.lines) in
-    (h.passes, omega (arith, few, some), h.is_log, one_is_sharp P g (h.leaf, h.lines) (subst (IsFirstTurn P) (sym h.is_log.same_opening) first))
+    (h.passes, omega (arith, few, some), h.is_log, one_is_sharp P g (h.leaf, h.lines) (subst (IsScarcestTurn P) (sym h.is_log.same_opening) first))
 
 -- and one with the first turn is a plan
-pub one_plan : (P : Instance) (budget : ℕ) (o : Opening) (g : Log) → 1 ≤ budget → IsFirstTurn P o → kind_by o None ≡ WithoutGoal → IsCountedProof P o None g → IsPlanned P budget (NoRoster g)
+pub one_plan : (P : Instance) (budget : ℕ) (o : Opening) (g : Log) → 1 ≤ budget → IsScarcestTurn P o → kind_by o None ≡ WithoutGoal → IsCountedProof P o None g → IsPlanned P budget (NoRoster g)
 one_plan P budget o g some first plain h =
     let few = one_line g h.one_leaf in (
       h.passes,
@@ -85,6 +85,6 @@ one_plan P budget o g some first plain h =
       record {
         of_kind = kind_of_plan o g plain h.same_opening h.same_goal;
         cited = h.cited;
-        sharp = one_is_sharp P g h.one_leaf (subst (IsFirstTurn P) (sym h.same_opening) first);
+        sharp = one_is_sharp P g h.one_leaf (subst (IsScarcestTurn P) (sym h.same_opening) first);
       },
     )

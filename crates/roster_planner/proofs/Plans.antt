@@ -1,18 +1,16 @@
 -- What is found from an opening, as a plan and as what fills in cells.
-use Rattle.std.proofs.Common.{◌≡◌, ℕ, List, false, None, refl, sym, ◌∙◌, subst}
+use Rattle.std.proofs.Common.{◌≡◌, ℕ, false, None, sym, ◌∙◌, subst}
 use Rattle.std.specs.Prelude.{Bool, Option, Result, Ok, Err, IfOk}
 use Rattle.std.specs.declared.alloc.AllocError.{AllocError}
 use Rattle.rwsp_terms.specs.Instance.{Instance}
-use Rattle.refutation_terms.specs.declared.cells.GivenCell.{GivenCell}
 use Rattle.refutation_terms.specs.declared.lines.LogKind.TheVariants.{WithoutGoal}
 use Rattle.refutation_terms.specs.declared.lines.Opening.{Opening}
 use Rattle.refutation_terms.specs.declared.lines.Opening.TheVariants.{Full, Turned, Given}
 use Rattle.refutation_terms.specs.Log.{Log, CountsFit, OpeningFits, IsAllowed}
-use Rattle.refutation_terms.specs.Sharp.{IsFirstTurn, IsSharp}
+use Rattle.refutation_terms.specs.Sharp.{IsScarcestTurn, IsSharp}
 use Rattle.refutation_terms.specs.Verdict.{kind_by, kind_of_log}
 use Rattle.refutation_log.specs.declared.found.Found.{Found}
 use Rattle.refutation_log.specs.declared.found.Found.TheVariants.{Roster, NoRoster, Undecided}
-use Rattle.refutation_log.specs.Filled.{IsFillUndecided}
 use Rattle.refutation_log.specs.Planned.{IsPlannedLog, IsPlanned, IsCounted}
 use Rattle.roster_search.specs.Founds.{IsLogOf}
 use Rattle.roster_planner.specs.FoundFrom.{IsFoundFrom}
@@ -23,7 +21,7 @@ pub counts_either : (start : Opening) → kind_by start None ≡ WithoutGoal →
 counts_either (Given given) e counts = absurd (cc e)
 counts_either start e counts = tt
 
-pub plan_fits : (P : Instance) (start : Opening) → IsFirstTurn P start → kind_by start None ≡ WithoutGoal → OpeningFits P start × IsAllowed P start
+pub plan_fits : (P : Instance) (start : Opening) → IsScarcestTurn P start → kind_by start None ≡ WithoutGoal → OpeningFits P start × IsAllowed P start
 plan_fits P Full first e = (tt, tt)
 plan_fits P (Turned t) first e = ((first.0.0, first.0.1.1), first.0.2)
 plan_fits P (Given given) first e = absurd (cc e)
@@ -45,14 +43,3 @@ if_plan_uncounted P start budget (Ok (Roster s)) e h = tt
 if_plan_uncounted P start budget (Ok (NoRoster g)) e h = h.2.may_count ∙ gives_none start (counts_either start e)
 if_plan_uncounted P start budget (Ok (Undecided g)) e h = h.1.may_count ∙ gives_none start (counts_either start e)
 if_plan_uncounted P start budget (Err x) e h = tt
-
--- behind given cells
-pub fill_undecided : (P : Instance) (given : List GivenCell) (budget : ℕ) (g : Log) → IsFoundFrom P (Given given) budget (Undecided g) → IsFillUndecided P given budget g
-fill_undecided P given budget g h = record {
-  spent = h.0;
-  all_cells = h.1.same_opening;
-  no_goal = h.1.same_goal;
-  may_count = h.1.may_count;
-  cited = h.1.cited;
-  sharp = h.2;
-}

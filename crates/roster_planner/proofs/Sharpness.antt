@@ -15,7 +15,7 @@ use Rattle.refutation_terms.specs.declared.lines.Opening.{Opening}
 use Rattle.refutation_terms.specs.Word.{Domains, AreSame}
 use Rattle.refutation_terms.specs.Tree.{opening, domains_at}
 use Rattle.refutation_terms.specs.Log.{Log}
-use Rattle.refutation_terms.specs.Sharp.{IsFirstTurn, IsSharp, NoBoundHolds, IsUnclosed, HoldsAtTop}
+use Rattle.refutation_terms.specs.Sharp.{IsScarcestTurn, IsSharp, NoBoundHolds, IsUnclosed, HoldsAtTop}
 use Rattle.refutation_terms.proofs.SameDomains.{turned_round}
 use Rattle.domain_store.specs.Store.{Store, has_domain}
 use Rattle.domain_store.specs.Looks.{Closes}
@@ -64,7 +64,7 @@ top_line P start leaves spent R lines (Split p x) limits short reasons forced ne
 top_line P start leaves spent R lines Unfinished limits short reasons forced never at undecided = absurd (never at)
 top_line P start leaves spent R lines line limits short reasons forced never at undecided = absurd undecided
 
-search_log : (P : Instance) (start : Opening) (leaves : Leaves) (spent : Spent) (R : List ℕ) (g : Log) → KeepsLimits P → IsFirstTurn P start → AreShortRules P R → AreReasons P start leaves spent → (slice_get g.lines 0 ≡ Some Unfinished → ⊥) → IsSearchLog P start None leaves spent g → IsSharp P g
+search_log : (P : Instance) (start : Opening) (leaves : Leaves) (spent : Spent) (R : List ℕ) (g : Log) → KeepsLimits P → IsScarcestTurn P start → AreShortRules P R → AreReasons P start leaves spent → (slice_get g.lines 0 ≡ Some Unfinished → ⊥) → IsSearchLog P start None leaves spent g → IsSharp P g
 search_log P start leaves spent R g limits first short reasons never h =
     let same = h.is_log.same_opening in
     record {
@@ -74,10 +74,10 @@ search_log P start leaves spent R g limits first short reasons never h =
           (subst (λ (t : Opening). IsForced P leaves spent (domains_at P t g.lines k) p x) (sym same) (h.splits k p x at));
       top = λ line at undecided. subst (λ (t : Opening). NoBoundHolds P (opening P t) R) (sym same)
           (top_line P start leaves spent R g.lines line limits short reasons (λ p x. h.splits 0 p x) never at undecided);
-      turn = subst (IsFirstTurn P) (sym same) first;
+      turn = subst (IsScarcestTurn P) (sym same) first;
     }
 
-found_from : (P : Instance) (start : Opening) (budget : ℕ) (leaves : Leaves) (spent : Spent) (R : List ℕ) (found : Found) → KeepsLimits P → 1 ≤ budget → IsFirstTurn P start → AreShortRules P R → AreReasons P start leaves spent → IsFound P start None budget leaves spent found → (HasSpentBudget found → budget + 1 < 2 * (shift_count P + 1) ^ cells P) → IsFoundFrom P start budget found
+found_from : (P : Instance) (start : Opening) (budget : ℕ) (leaves : Leaves) (spent : Spent) (R : List ℕ) (found : Found) → KeepsLimits P → 1 ≤ budget → IsScarcestTurn P start → AreShortRules P R → AreReasons P start leaves spent → IsFound P start None budget leaves spent found → (HasSpentBudget found → budget + 1 < 2 * (shift_count P + 1) ^ cells P) → IsFoundFrom P start budget found
 found_from P start budget leaves spent R (Roster s) limits some first short reasons h few = h
 found_from P start budget leaves spent R (NoRoster g) limits some first short reasons h few =
     (h.0, h.1, h.2.is_log, search_log P start leaves spent R g limits first short reasons (λ at. h.0.holds 0 Unfinished at) h.2)
@@ -85,6 +85,6 @@ found_from P start budget leaves spent R (Undecided g) limits some first short r
     (h.0, h.1.is_log, search_log P start leaves spent R g limits first short reasons (λ at. h.0.holds 0 Unfinished (omega (arith, some)) at) h.1, few tt)
 
 -- the same of what a search gives
-pub if_found_from : (P : Instance) (start copied : Opening) (budget : ℕ) (leaves : Leaves) (spent : Spent) (R : List ℕ) (r : Result Found AllocError) → KeepsLimits P → 1 ≤ budget → IsFirstTurn P start → AreShortRules P R → AreReasons P start leaves spent → copied ≡ start → IfOk r (IsFound P copied None budget leaves spent) → IfOk r (λ found. HasSpentBudget found → budget + 1 < 2 * (shift_count P + 1) ^ cells P) → IfOk r (IsFoundFrom P start budget)
+pub if_found_from : (P : Instance) (start copied : Opening) (budget : ℕ) (leaves : Leaves) (spent : Spent) (R : List ℕ) (r : Result Found AllocError) → KeepsLimits P → 1 ≤ budget → IsScarcestTurn P start → AreShortRules P R → AreReasons P start leaves spent → copied ≡ start → IfOk r (IsFound P copied None budget leaves spent) → IfOk r (λ found. HasSpentBudget found → budget + 1 < 2 * (shift_count P + 1) ^ cells P) → IfOk r (IsFoundFrom P start budget)
 if_found_from P start copied budget leaves spent R (Ok found) limits some first short reasons same h few = found_from P start budget leaves spent R found limits some first short reasons (subst (λ (o : Opening). IsFound P o None budget leaves spent found) same h) few
 if_found_from P start copied budget leaves spent R (Err e) limits some first short reasons same h few = tt

@@ -1,7 +1,6 @@
 -- What is known where counting blocks leaves no roster.
 use Rattle.std.specs.Prelude.{◌≡◌, ℕ, [], ◌∷◌, true, Option, None}
 use Rattle.rwsp_terms.specs.Instance.{Instance}
-use Rattle.refutation_terms.specs.declared.lines.Line.{Line}
 use Rattle.refutation_terms.specs.declared.lines.Line.TheVariants.{Closing}
 use Rattle.refutation_terms.specs.declared.lines.Leaf.{Leaf}
 use Rattle.refutation_terms.specs.declared.lines.Opening.{Opening}

@@ -1,7 +1,7 @@
 // A search without a goal.
 ghost use Rattle.std.specs.Prelude.{◌≡◌, ◌≤◌, IfOk};
 ghost use Rattle.refutation_terms.specs.Log.{OpeningFits, IsAllowed};
-ghost use Rattle.refutation_terms.specs.Sharp.{IsFirstTurn};
+ghost use Rattle.refutation_terms.specs.Sharp.{IsScarcestTurn};
 ghost use Rattle.domain_store.specs.Cycles.{AreShortRules};
 ghost use Rattle.roster_planner.specs.FoundFrom.{IsFoundFrom};
 
@@ -29,7 +29,7 @@ pub fn search_cases<R: Threads + Sync, G: Gate>(
     requires short { AreShortRules automaton.now.problem automaton.now.rules }
     requires same { finder.now ≡ automaton.now.problem }
     requires opening { let P = automaton.now.problem in
-        OpeningFits P opening.now × IsAllowed P opening.now × IsFirstTurn P opening.now }
+        OpeningFits P opening.now × IsAllowed P opening.now × IsScarcestTurn P opening.now }
     requires budget { (1 ≤ budget) × (budget ≤ GREATEST_BUDGET) }
     ensures { IfOk result (IsFoundFrom automaton.now.problem opening.now budget) }
 {

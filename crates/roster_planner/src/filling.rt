@@ -72,7 +72,8 @@ fn searched<R: Threads + Sync, G: Gate>(
     ensures { IfOk result (IsFoundFrom problem.now (Given given.now) budget) }
 {
     let opening = Opening::Given(given.copy()?);
-    let found = search_plan(rt, alloc, problem, &opening, budget, gate, First::Rosters);
+    let first = First::Rosters(0);
+    let found = search_plan(rt, alloc, problem, &opening, budget, gate, first);
     drop(opening);
     found
 }

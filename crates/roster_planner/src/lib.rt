@@ -5,6 +5,7 @@
 
 mod cases;
 mod counted;
+mod days_off;
 mod effort;
 mod filling;
 mod guide;

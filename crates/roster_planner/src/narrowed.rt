@@ -103,7 +103,7 @@ fn roster_at(
     let Some(narrower) = narrowed_problem(alloc, finder.problem(), end)? else {
         return Ok(None);
     };
-    let found = found_soon(alloc, &narrower, finder.layer());
+    let found = found_soon(alloc, &narrower, finder.layer(), finder.seed());
     drop(narrower);
     match found? {
         Some(roster) => checked(alloc, finder.problem(), &roster),
@@ -111,16 +111,17 @@ fn roster_at(
     }
 }
 
-// A roster of the problem that is found soon over the layer.
-fn found_soon(
+/// A roster of the problem that is found soon over the layer, by the random numbers of the seed.
+pub(crate) fn found_soon(
     alloc: Global,
     problem: &Problem,
     layer: &SteadyLayer,
+    seed: u32,
 ) -> Result<Option<Roster>, AllocError>
     requires { layer.now.symbols ≡ shift_count problem.now + 1 }
 {
     let doms = Domains::new(alloc, problem)?;
-    let finder = RosterFinder::over(problem, layer, Some(&doms), Patience::Short);
+    let finder = RosterFinder::over(problem, layer, Some(&doms), Patience::Short).seeded(seed);
     let found = finder.find(alloc, 0, Patience::Short);
     drop(finder);
     drop(doms);

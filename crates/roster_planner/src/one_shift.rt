@@ -1,6 +1,5 @@
 // A problem with all its shifts made one.
-ghost use Rattle.std.specs.Prelude.{◌≡◌, ◌≤◌, IfOk};
-ghost use Rattle.rwsp_terms.specs.declared.limits.TheConstants.{MOST_WEEKS};
+ghost use Rattle.std.specs.Prelude.{IfOk};
 ghost use Rattle.rwsp_terms.specs.Instance.{IsDay};
 ghost use Rattle.domain_store.specs.Cycles.{AreShortRules};
 ghost use Rattle.roster_planner.specs.OneShift.{HasDaysOf};
@@ -34,8 +33,7 @@ fn joined(alloc: Global, problem: &Problem) -> Result<Problem, AllocError>
     if let Some(shift) = parts.shifts.first_mut() {
         shift.bounds = work;
     }
-    parts.pairs = Vec::new(alloc);
-    parts.triples = Vec::new(alloc);
+    parts.sequences = Vec::new(alloc);
     match Problem::of(parts) {
         Ok(one) => Ok(one),
         Err(_) => problem.copy(),

@@ -4,8 +4,9 @@ ghost use Rattle.std.specs.Option.{IfSome};
 ghost use Rattle.rwsp_terms.specs.Instance.{shift_count};
 ghost use Rattle.refutation_terms.specs.BlocksLeaf.{NoBlocksHold};
 ghost use Rattle.refutation_terms.specs.Log.{OpeningFits, IsAllowed};
-ghost use Rattle.refutation_terms.specs.Sharp.{IsFirstTurn};
+ghost use Rattle.refutation_terms.specs.Sharp.{IsScarcestTurn};
 ghost use Rattle.domain_store.specs.Cycles.{AreShortRules};
+ghost use Rattle.roster_finder.specs.Found.{IsRosterWith};
 ghost use Rattle.refutation_log.specs.Planned.{IsCounted, IsPlanned};
 ghost use Rattle.roster_planner.specs.FoundFrom.{IsFoundFrom};
 ghost use Rattle.roster_search.specs.Guides.{IsWantedBehind};
@@ -13,13 +14,14 @@ ghost use Rattle.roster_search.specs.Guides.{IsWantedBehind};
 use crate::Effort;
 use crate::cases::search_cases;
 use crate::counted::{counted_log, log_at_once};
+use crate::days_off::roster_by_days_off;
 use crate::effort::FEW_LINES;
 use crate::narrowed::narrowed_roster;
 use crate::propagation::domains_behind;
 use crate::rosters::roster_behind;
 use clean_words::{Automaton, Gate, Told};
 use domain_store::Domains;
-use refutation_log::{Found, first_turn};
+use refutation_log::{Found, scarcest_turn};
 use refutation_terms::Opening;
 use roster_finder::{Patience, RosterFinder, SteadyLayer};
 use rwsp_model::{Problem, Roster};
@@ -34,18 +36,21 @@ use std::thread::Threads;
 ///
 /// Each case is looked at for reasons: windows, days, and the words of two turns. Bounds by weights are tried at the
 /// top, shared out among workers, who pass the gate.
+///
+/// Rosters are looked for with the random numbers of the seed.
 pub fn plan_roster<R: Threads + Sync, G: Gate>(
     rt: &R,
     alloc: Global,
     problem: &Problem,
     effort: Effort,
+    seed: u32,
     gate: &G,
 ) -> Result<Found, AllocError>
     requires { (1 ≤ effort.budget) × (effort.budget ≤ GREATEST_BUDGET) }
     ensures planned { IfOk result (IsPlanned problem.now effort.budget) }
     ensures counted { IfOk result (IsCounted problem.now effort.counts) }
 {
-    plan_by(rt, alloc, problem, effort, gate, First::Rosters)
+    plan_by(rt, alloc, problem, effort, gate, First::Rosters(seed))
 }
 
 /// A plan of a problem that is likely to have no roster: reasons come before rosters are looked for, and the finder has
@@ -65,11 +70,21 @@ pub fn plan_refutable<R: Threads + Sync, G: Gate>(
     plan_by(rt, alloc, problem, effort, gate, First::Reasons)
 }
 
-// What a plan looks for before anything else.
+// What a plan looks for before anything else: rosters, by the random numbers of a seed, or reasons.
 #[derive(Clone, Copy)]
 pub(crate) enum First {
-    Rosters,
+    Rosters(u32),
     Reasons,
+}
+
+impl First {
+    // The seed of the random numbers by which rosters are looked for.
+    fn seed(self) -> u32 {
+        match self {
+            First::Rosters(seed) => seed,
+            First::Reasons => 0,
+        }
+    }
 }
 
 // The plan that begins so.
@@ -88,7 +103,7 @@ fn plan_by<R: Threads + Sync, G: Gate>(
     match counted_plan(alloc, problem, effort)? {
         Some(found) => Ok(found),
         None => {
-            let opening = first_turn(problem);
+            let opening = scarcest_turn(problem);
             search_plan(rt, alloc, problem, &opening, effort.budget, gate, first)
         }
     }
@@ -116,7 +131,7 @@ pub(crate) fn plan_over<R: Threads + Sync, G: Gate>(
             let problem = automaton.problem();
             let doms = Domains::new(alloc, problem)?;
             let finder = RosterFinder::over(problem, layer, Some(&doms), Patience::Long);
-            let opening = first_turn(problem);
+            let opening = scarcest_turn(problem);
             rosters_first(rt, alloc, automaton, &finder, &opening, effort.budget, gate)
         }
     }
@@ -136,7 +151,7 @@ fn counted_plan(
     if !effort.counts {
         return Ok(None);
     }
-    match counted_log(alloc, problem, first_turn(problem), None)? {
+    match counted_log(alloc, problem, scarcest_turn(problem), None)? {
         Some(log) => Ok(Some(Found::NoRoster(log))),
         None => Ok(None),
     }
@@ -153,7 +168,7 @@ pub(crate) fn search_plan<R: Threads + Sync, G: Gate>(
     first: First,
 ) -> Result<Found, AllocError>
     requires opening { let P = problem.now in
-        OpeningFits P opening.now × IsAllowed P opening.now × IsFirstTurn P opening.now }
+        OpeningFits P opening.now × IsAllowed P opening.now × IsScarcestTurn P opening.now }
     requires budget { (1 ≤ budget) × (budget ≤ GREATEST_BUDGET) }
     ensures { IfOk result (IsFoundFrom problem.now opening.now budget) }
 {
@@ -179,7 +194,7 @@ fn search_by<R: Threads + Sync, G: Gate>(
 ) -> Result<Found, AllocError>
     requires short { AreShortRules automaton.now.problem automaton.now.rules }
     requires opening { let P = automaton.now.problem in
-        OpeningFits P opening.now × IsAllowed P opening.now × IsFirstTurn P opening.now }
+        OpeningFits P opening.now × IsAllowed P opening.now × IsScarcestTurn P opening.now }
     requires budget { (1 ≤ budget) × (budget ≤ GREATEST_BUDGET) }
     ensures { IfOk result (IsFoundFrom automaton.now.problem opening.now budget) }
 {
@@ -187,8 +202,9 @@ fn search_by<R: Threads + Sync, G: Gate>(
     let doms = domains_behind(alloc, automaton, opening)?;
     let layer = SteadyLayer::of(alloc, problem)?;
     let finder = RosterFinder::over(problem, &layer, doms.as_ref(), Patience::Long);
+    let finder = finder.seeded(first.seed());
     let found = match first {
-        First::Rosters => rosters_first(rt, alloc, automaton, &finder, opening, budget, gate),
+        First::Rosters(_) => rosters_first(rt, alloc, automaton, &finder, opening, budget, gate),
         First::Reasons => reasons_first(rt, alloc, automaton, &finder, opening, budget, gate),
     };
     drop(finder);
@@ -210,7 +226,7 @@ fn rosters_first<R: Threads + Sync, G: Gate>(
     requires short { AreShortRules automaton.now.problem automaton.now.rules }
     requires same { finder.now ≡ automaton.now.problem }
     requires opening { let P = automaton.now.problem in
-        OpeningFits P opening.now × IsAllowed P opening.now × IsFirstTurn P opening.now }
+        OpeningFits P opening.now × IsAllowed P opening.now × IsScarcestTurn P opening.now }
     requires budget { (1 ≤ budget) × (budget ≤ GREATEST_BUDGET) }
     ensures { IfOk result (IsFoundFrom automaton.now.problem opening.now budget) }
 {
@@ -218,7 +234,8 @@ fn rosters_first<R: Threads + Sync, G: Gate>(
         return Ok(Found::Roster(roster));
     }
     let found = search_cases(rt, alloc, automaton, finder, opening, budget, gate)?;
-    or_late(alloc, finder, opening, budget, First::Rosters, found)
+    let first = First::Rosters(finder.seed());
+    or_late(alloc, finder, opening, budget, first, found)
 }
 
 // What a search finds that looks for rosters for a shorter time.
@@ -234,7 +251,7 @@ fn reasons_first<R: Threads + Sync, G: Gate>(
     requires short { AreShortRules automaton.now.problem automaton.now.rules }
     requires same { finder.now ≡ automaton.now.problem }
     requires opening { let P = automaton.now.problem in
-        OpeningFits P opening.now × IsAllowed P opening.now × IsFirstTurn P opening.now }
+        OpeningFits P opening.now × IsAllowed P opening.now × IsScarcestTurn P opening.now }
     requires budget { (1 ≤ budget) × (budget ≤ GREATEST_BUDGET) }
     ensures { IfOk result (IsFoundFrom automaton.now.problem opening.now budget) }
 {
@@ -283,8 +300,8 @@ fn or_late(
     }
 }
 
-// A roster that is looked for with the patience that the search didn't have. One that was patient goes on with narrower
-// demands, where no cells are given.
+// A roster that is looked for with the patience that the search didn't have. One that was patient goes on with less to
+// choose from, where no cells are given.
 fn late_roster(
     alloc: Global,
     finder: &RosterFinder<'_>,
@@ -295,7 +312,7 @@ fn late_roster(
     ensures { IfOk result (λ found. IfSome found (IsWantedBehind finder.now opening.now None)) }
 {
     let patience = match first {
-        First::Rosters => Patience::Middle,
+        First::Rosters(_) => Patience::Middle,
         First::Reasons => Patience::Long,
     };
     let found = roster_behind(alloc, &finder.at_most(patience), opening, patience)?;
@@ -304,6 +321,17 @@ fn late_roster(
     }
     match opening {
         Opening::Given(_) => Ok(None),
-        Opening::Full | Opening::Turned(_) => narrowed_roster(alloc, finder),
+        Opening::Full | Opening::Turned(_) => roster_of_less(alloc, finder),
     }
+}
+
+// A roster that is found where the finder has less to choose: one number of a range of the demand, or the days off.
+fn roster_of_less(alloc: Global, finder: &RosterFinder<'_>) -> Result<Option<Roster>, AllocError>
+    ensures { IfOk result (λ found. IfSome found (IsRosterWith finder.now 0)) }
+{
+    let found = narrowed_roster(alloc, finder)?;
+    if found.is_some() {
+        return Ok(found);
+    }
+    roster_by_days_off(alloc, finder)
 }

@@ -8,12 +8,13 @@ use Rattle.std.proofs.lemmas.List.Folds.{list_any-append, Any-from_list_any, lis
 use Rattle.std.proofs.lemmas.List.Elements.{All-nil, All-cons, All-from_recursion, All-head, All-tail, All-weaker, recursion_from_All, filter-append}
 use Rattle.std.proofs.lemmas.List.FromFn.{length-range_with_len}
 use Rattle.std.proofs.lemmas.List.Splits.{slice_split-cons_yes, slice_split-cons_no, slice_split_none, slice_split_at, length-slice_split}
-use Rattle.std.proofs.lemmas.Bool.{or_parts, ne_eqb, cond-true, cond-false}
+use Rattle.std.proofs.lemmas.Bool.{or_parts, ne_eqb, cond-true, cond-false, eqb-false}
 use Rattle.rwsp_text.specs.Lexemes.{lines_of, words_of_line, has_some}
 use Rattle.rwsp_text.specs.Lines.{HasNoFeed}
 use Rattle.rwsp_text.proofs.JoinedWords.{IsPrinted}
 use Rattle.rwsp_terms.specs.Instance.{Instance, symbol_of, off_name, off_symbol}
 use Rattle.rwsp_terms.specs.declared.data.Symbol.{Symbol}
+use Rattle.rwsp_terms.proofs.Elements.{all_joined}
 use Rattle.roster_print.specs.RosterText.{weeks_of, SpellsRoster}
 use Rattle.roster_print.specs.Refusal.{numbered_weeks, week_refusal, first_refusal, count_refusal, refusal_of_roster}
 use Rattle.roster_print.specs.FirstFailures.{IsName, IsWeek, HasUnknown, HasWrongWidth, EndsWithFeed, BeginsWithFeed, CanGoOn, CannotGoOn, LineFails, CountFails, IsFirstFailure}
@@ -118,13 +119,10 @@ WeekSays P n words (Some (Unknown k)) = (k ≡ n) × HasUnknown P words
 WeekSays P n words (Some (Width k)) = (k ≡ n) × All (IsName P) words × (length words ≢ P.days)
 WeekSays P n words (Some (Weeks k)) = ⊥
 
-not_equal : (a b : ℕ) → (a == b) ≡ false → a ≢ b
-not_equal a b h e = let same : (a == b) ≡ true = eq-eqb a b e in let both : true ≡ false = sym same ∙ h in cc
-
 says_by : (P : Instance) (n : ℕ) (words : List (List ℕ)) (unknown wide : Bool) → list_any (is_unknown P) words ≡ unknown → (length words == P.days) ≡ wide → WeekSays P n words (cond unknown (Some (Unknown n)) (cond wide None (Some (Width n))))
 says_by P n words true wide e w = (refl, unknown_in P words e)
 says_by P n words false true e w = record { days = eqb-true (length words) P.days w; names = All-from_recursion (IsName P) words (names_in P words e) }
-says_by P n words false false e w = (refl, All-from_recursion (IsName P) words (names_in P words e), not_equal (length words) P.days w)
+says_by P n words false false e w = (refl, All-from_recursion (IsName P) words (names_in P words e), eqb-false (length words) P.days w)
 
 week_says : (P : Instance) (n : ℕ) (words : List (List ℕ)) (o : Option RosterRefusal) → week_refusal P (symbol_of P) (n, words) ≡ o → WeekSays P n words o
 week_says P n words o e = subst (WeekSays P n words) e (says_by P n words (list_any (is_unknown P) words) (length words == P.days) refl refl)
@@ -157,7 +155,7 @@ first_by b bytes f false e = record {
   line = b ∷ f.line;
   others = f.others;
   cut = slice_split-cons_no is_feed b bytes e ∙ ap (onto_first b) f.cut;
-  unbroken = All-cons (λ b. b ≢ 10) b f.line (not_equal b 10 e) f.unbroken;
+  unbroken = All-cons (λ b. b ≢ 10) b f.line (eqb-false b 10 e) f.unbroken;
   splits = splits_more b bytes f.line f.others f.splits;
 }
 
@@ -373,10 +371,6 @@ are_weeks : (P : Instance) (lines : List (List ℕ)) → AllByRecursion (IsGood 
 are_weeks P [] h = tt
 are_weeks P (line ∷ lines) h = are_weeks_by P line (filter has_some (map words_of_line lines)) h.0 (are_weeks P lines h.1) (has_some (words_of_line line)) refl
 
-all_joined : {X : Type 0} (Q : X → Type 0) (xs ys : List X) → AllByRecursion Q xs → AllByRecursion Q ys → AllByRecursion Q (xs ++ ys)
-all_joined Q [] ys h k = k
-all_joined Q (x ∷ xs) ys h k = (h.0, all_joined Q xs ys h.1 k)
-
 -- weeks of days off
 
 abbrev days_off : Instance → List (List ℕ)
@@ -479,7 +473,7 @@ count_by_equal : (P : Instance) (n : ℕ) (why : RosterRefusal) (b : Bool) → (
 count_by_equal P n why true e h = absurd (cc)
 count_by_equal P n why false e h =
     let same : Weeks n ≡ why = cc in
-    subst (CountSays P n) same (refl, not_equal n P.weeks e)
+    subst (CountSays P n) same (refl, eqb-false n P.weeks e)
 
 count_is_first : (P : Instance) (bytes : List ℕ) (why : RosterRefusal) → 1 ≤ P.days → first_refusal P (symbol_of P) (numbered_weeks bytes) ≡ None → CountSays P (length (weeks_of bytes)) why → IsFirstFailure P bytes why
 count_is_first P bytes (Unknown k) days none says = absurd says

@@ -1,6 +1,6 @@
 -- What printing appends, step by step.
 use Rattle.std.proofs.Common.{◌≡◌, ℕ, suc, ◌+◌, ◌-◌, ◌*◌, ◌<◌, ◌≤◌, List, [], ◌∷◌, ◌++◌, length, get_or, take, drop, ap, sym, ◌∙◌, arith, append_assoc, false}
-use Rattle.std.specs.Prelude.{map, All, slice_range, ◌==◌, Some, None}
+use Rattle.std.specs.Prelude.{map, All, slice_range, ◌==◌}
 use Rattle.std.specs.List.{flat_map, range_with_len, join_with_byte}
 use Rattle.std.proofs.lemmas.List.{take_more, flat_map_more, take_all}
 use Rattle.std.proofs.lemmas.List.Elements.{All-take, All-drop}
@@ -10,8 +10,6 @@ use Rattle.rwsp_terms.specs.Instance.{Instance, name_of, IsSymbol, off_symbol}
 use Rattle.rwsp_terms.specs.declared.data.Symbol.{Symbol}
 use Rattle.rwsp_terms.proofs.Counting.{range_more}
 use Rattle.roster_print.specs.RosterText.{week_at, week_text}
-use Rattle.rwsp_terms.specs.declared.data.Sequence.{Sequence}
-use Rattle.rwsp_terms.specs.Window.{symbols_of, third_of}
 
 -- one symbol more of those that were appended after blanks: a blank, and then the name
 pub name_more : (P : Instance) (symbols : List Symbol) (i : ℕ) (old out blank name new : List ℕ) → i < length symbols → out ≡ old ++ flat_map (λ x. 32 ∷ name_of P x) (take i symbols) → blank ≡ out ++ 32 ∷ [] → name ≡ name_of P (get_or symbols i off_symbol) → new ≡ blank ++ name → new ≡ old ++ flat_map (λ x. 32 ∷ name_of P x) (take (i + 1) symbols)
@@ -60,10 +58,3 @@ print_more P s k days out new e inv step =
     let long : k * days + days - k * days ≡ P.days = omega (arith, e) in
     let cut : slice_range s (k * days) (k * days + days) ≡ week_at P s k = ap (λ n. take n (drop (k * days) s)) long ∙ ap (λ n. take P.days (drop (k * n) s)) e in
     step ∙ ap (λ w. out ++ week_text P w) cut ∙ week_more (λ i. week_text P (week_at P s i)) k out inv
-
--- the symbols of a sequence, as they are listed
-pub two_of : (P : Instance) (q : Sequence) (old new : List ℕ) → q.third ≡ None → new ≡ old ++ flat_map (λ x. 32 ∷ name_of P x) (q.first ∷ q.second ∷ []) → new ≡ old ++ flat_map (λ x. 32 ∷ name_of P x) (symbols_of q)
-two_of P q old new none e = e ∙ ap (λ t. old ++ flat_map (λ x. 32 ∷ name_of P x) (q.first ∷ q.second ∷ third_of t)) (sym none)
-
-pub three_of : (P : Instance) (q : Sequence) (z : Symbol) (old new : List ℕ) → q.third ≡ Some z → new ≡ old ++ flat_map (λ x. 32 ∷ name_of P x) (q.first ∷ q.second ∷ z ∷ []) → new ≡ old ++ flat_map (λ x. 32 ∷ name_of P x) (symbols_of q)
-three_of P q z old new some e = e ∙ ap (λ t. old ++ flat_map (λ x. 32 ∷ name_of P x) (q.first ∷ q.second ∷ third_of t)) (sym some)

@@ -172,14 +172,6 @@ pub record Progress {A : Type 0} (P : Instance) (said : List ℕ → Option A) (
   pub few_weeks : weeks < line
   pub few_lines : line + length left ≤ length bytes + 1
 
-pub begins : {A : Type 0} (P : Instance) (said : List ℕ → Option A) (bytes left : List ℕ) (cells : List A) → cells ≡ [] → left ≡ bytes → Progress P said bytes cells 0 1 left
-begins P said bytes left cells none all =
-    subst (Progress P said bytes cells 0 1) (sym all) (record {
-      on = record { refusal = refl; names = ap (λ c. map Some c ++ map said (flat_map (λ week. week.1) (numbered_weeks bytes))) none; count = omega arith };
-      few_weeks = omega arith;
-      few_lines = omega arith;
-    })
-
 pub shorter : (line rest bytes : List ℕ) → IsFirst line rest bytes → length rest < length bytes
 shorter [] rest bytes l = absurd (l.some refl)
 shorter (b ∷ line) rest bytes l = let long : length bytes ≡ length ((b ∷ line) ++ rest) = ap (λ t. length t) l.whole in omega (arith, long, length-append (b ∷ line) rest)
@@ -214,21 +206,6 @@ week_refused P said bytes left text rest cells weeks line why r l some refused =
     sym r.on.refusal
     ∙ ap (first_refusal P said) (left_is text rest left line l ∙ cond-true (has_some (words_in text)) ((line, words_in text) ∷ next) next some)
     ∙ ap (λ o. option_or o (first_refusal P said next)) refused
-
--- the whole text is read
-pub record WholeRead {A : Type 0} (P : Instance) (said : List ℕ → Option A) (bytes : List ℕ) (cells : List A) (weeks : ℕ) : Type 0 where
-  pub names : map Some cells ≡ map said (flat_map (λ week. week.1) (numbered_weeks bytes))
-  pub count : weeks ≡ length (numbered_weeks bytes)
-  pub accepted : first_refusal P said (numbered_weeks bytes) ≡ None
-
-pub weeks_done : {A : Type 0} (P : Instance) (said : List ℕ → Option A) (bytes left : List ℕ) (cells : List A) (weeks line : ℕ) → Progress P said bytes cells weeks line left → left ≡ [] → WholeRead P said bytes cells weeks
-weeks_done P said bytes left cells weeks line r h =
-    let end = skip P said bytes (weeks_left line left) [] cells cells weeks r.on (ap (weeks_left line) h) refl in
-    record {
-      names = sym (append-nil (map Some cells)) ∙ end.names;
-      count = let same : weeks ≡ weeks + 0 = omega arith in same ∙ end.count;
-      accepted = sym end.refusal;
-    }
 
 -- a refusal that is handed on
 pub refused_again : (T : Type 0) {U : Type 0} (f : Fail RosterRefusal) (r : Result U (Fail RosterRefusal)) (P Q : RosterRefusal → Type 0) → r ≡ Err f → ((why : RosterRefusal) → P why → Q why) → IfRefused {T = T} (Err f) P → IfRefused r Q

@@ -2,7 +2,7 @@
 use Rattle.std.specs.Prelude.{ℕ, List, [], ◌∷◌, ◌++◌, slice_get, Option, Some, None, codes}
 use Rattle.std.specs.List.{flat_map}
 use Rattle.std.specs.Fmt.{decimal}
-use Rattle.rwsp_terms.specs.Instance.{Instance, name_of, sequences}
+use Rattle.rwsp_terms.specs.Instance.{Instance, name_of}
 use Rattle.rwsp_terms.specs.Window.{symbols_of}
 use Rattle.rwsp_terms.specs.declared.data.Class.{Class}
 use Rattle.rwsp_terms.specs.declared.data.Class.TheVariants.{Shift, Off, Work}
@@ -30,5 +30,5 @@ sequence_text P (Some q) = codes "not" ++ flat_map (λ x. 32 ∷ name_of P x) (s
 abbrev pub rule_text : Instance → Rule → List ℕ
 rule_text P (Most c) = codes "max " ++ class_text P c
 rule_text P (Least c) = codes "min " ++ class_text P c
-rule_text P (Never k) = sequence_text P (slice_get (sequences P) k)
+rule_text P (Never k) = sequence_text P (slice_get P.sequences k)
 rule_text P (Day j) = codes "day " ++ decimal j

@@ -7,7 +7,7 @@ ghost use Rattle.rwsp_text.specs.Places.{AreWithin};
 ghost use Rattle.rwsp_terms.specs.declared.data.Symbol.{Symbol};
 ghost use Rattle.rwsp_terms.specs.Roster.{IsRoster};
 ghost use Rattle.rwsp_model.specs.Refusals.{IfRefused};
-ghost use Rattle.roster_print.specs.Said.{open_word, said_of, or_off};
+ghost use Rattle.roster_print.specs.Said.{said_of, or_off};
 ghost use Rattle.roster_print.specs.RosterText.{SpellsRoster, SpellsWeeks};
 ghost use Rattle.roster_print.specs.Refusal.{refusal_of_roster, refusal_of_weeks, week_refusal, first_refusal, numbered_weeks};
 ghost use Rattle.roster_print.specs.Reading.{words_at, words_in, AppendsSaid};

@@ -2,7 +2,7 @@
 ghost use Rattle.std.specs.Prelude.{◌≡◌, ◌<◌, ◌∷◌, ◌++◌, All, length, slice_get, IfOk, OnOk, OnErr};
 ghost use Rattle.std.specs.Fmt.{decimal};
 ghost use Rattle.std.specs.List.{flat_map};
-ghost use Rattle.rwsp_terms.specs.Instance.{name_of, sequences, IsClass, IsSymbol};
+ghost use Rattle.rwsp_terms.specs.Instance.{name_of, IsClass, IsSymbol};
 ghost use Rattle.rwsp_terms.specs.Roster.{IsRule};
 ghost use Rattle.rwsp_terms.specs.Window.{symbols_of};
 ghost use Rattle.roster_print.specs.RuleText.{rule_text, class_text, on_day_text, sequence_text};
@@ -70,9 +70,9 @@ fn put_symbols(text: &mut Vec<u8>, problem: &Problem, sequence: Sequence) -> Res
 
 // The text of the forbidden sequence of a place.
 fn sequence_text(alloc: Global, problem: &Problem, place: u32) -> Result<Vec<u8>, AllocError>
-    requires { place < length (sequences problem.now) }
+    requires { place < length problem.now.sequences }
     ensures { IfOk result (λ text. text.items
-        ≡ sequence_text problem.now (slice_get (sequences problem.now) place)) }
+        ≡ sequence_text problem.now (slice_get problem.now.sequences place)) }
 {
     let sequence = problem.sequence(place);
     let mut text = Vec::from_slice(alloc, b"not")?;

@@ -27,11 +27,6 @@ unweighed_leaf P goal D line h light =
     let stands = unweighed_stands P goal D line light h.fits h.holds in
     record { leaf = h.leaf; fits = stands.0; short = h.short; holds = stands.1 }
 
--- a leaf of the propagator
-pub given_leaf : (P : Instance) (goal : Option ℕ) (leaves : Store → Line → Type 0) (S : Store) (D : Domains) (line : Line) → AreUnweighed goal leaves → leaves S line → IsHoldingLeaf P None D line → IsHoldingLeaf P goal D line
-given_leaf P None leaves S D line light among h = h
-given_leaf P (Some goal) leaves S D line light among h = unweighed_leaf P (Some goal) D line h (light S line among)
-
 -- the leaf of few weeks
 pub few_leaf : (P : Instance) (goal : Option ℕ) (D : Domains) → FewHolds P goal D → IsHoldingLeaf P goal D (Closing Few)
 few_leaf P None D h = absurd h

@@ -1,5 +1,5 @@
 -- A search goes on with a propagator that has the same reasons.
-use Rattle.std.proofs.Common.{◌≡◌, ◌∙◌, ℕ, List, Option, refl, subst, sym}
+use Rattle.std.proofs.Common.{◌≡◌, ◌∙◌, ℕ, List, Option, subst, sym}
 use Rattle.rwsp_terms.specs.Instance.{Instance}
 use Rattle.refutation_terms.specs.declared.lines.Line.{Line}
 use Rattle.refutation_terms.specs.declared.lines.Line.TheVariants.{Closing}
@@ -59,10 +59,6 @@ later_by P served lines symbols v w a b same l = record {
 
 pub next_by : {A : Type 0} (P : Instance) (served : A → Serves) (lines : A → Leaves) (symbols : A → Spent) (v w : A) (a b : Progress) → IsSame served lines symbols v w → IsNextStep P (lines w) (symbols w) a b → IsNextStep P (lines v) (symbols v) a b
 next_by P served lines symbols v w a b same h = record { later = later_by P served lines symbols v w a b same h.later; longer = h.longer }
-
--- the same search later
-pub later_still : (P : Instance) (leaves : Leaves) (spent : Spent) (s : Progress) → IsLater P leaves spent s s
-later_still P leaves spent s = record { same_aim = refl; forced = λ h. h; no_few = λ h. h }
 
 pub later_on : (P : Instance) (leaves : Leaves) (spent : Spent) (a b c : Progress) → IsLater P leaves spent a b → IsLater P leaves spent b c → IsLater P leaves spent a c
 later_on P leaves spent a b c first second = record {

@@ -21,6 +21,7 @@ use Rattle.refutation_terms.proofs.Tests.{both, left_of}
 use Rattle.refutation_terms.proofs.InWords.{there, another}
 use Rattle.refutation_terms.proofs.NeverEmpty.{domains_never_empty}
 use Rattle.refutation_terms.proofs.TreeDomains.{EachLine, EachInOrder, in_tree}
+use Rattle.refutation_terms.proofs.Trees.{tree_has_lines}
 use Rattle.roster_search.specs.Laws.{is_leaf, TreesHaveFewLeaves, SpentBudgetsAreSmall}
 
 -- the product of the first n numbers
@@ -178,10 +179,6 @@ size_small last D q = omega (arith, count_by-le-length (D q) (range_with_len 0 (
 
 -- the lines of a tree
 
-some_lines : (t : Tree) → 0 < length (lines_in t)
-some_lines (Leaf line h) = omega arith
-some_lines (Node p x a b) = omega arith
-
 leaf_passes : (line : Line) → IsLeaf line → is_leaf line ≡ true
 leaf_passes (Split p x) h = absurd h
 leaf_passes line h = refl
@@ -215,7 +212,7 @@ tree_is_small P g tree fits none =
     let t : Tree = tree.0 in
     let D : Domains = opening P g.opening in
     let each : EachLine (IsUseful P) D t = in_tree (IsUseful P) D t (subst (EachInOrder (IsUseful P) D) (sym tree.1) (useful_splits P g fits none)) in
-    let lines : 0 < length g.lines = subst (λ (ls : List Line). 0 < length ls) tree.1 (some_lines t) in
+    let lines : 0 < length g.lines = subst (λ (ls : List Line). 0 < length ls) tree.1 (tree_has_lines t) in
     let few : leaf_count t ≤ product (size_at (shift_count P) D) (cells P) = leaves_are_few P t D each (opening_has_some P g.opening g.lines fits.opening tree lines) in
     let most : product (size_at (shift_count P) D) (cells P) ≤ (shift_count P + 1) ^ cells P = product_most (size_at (shift_count P) D) (shift_count P + 1) (cells P) (size_small (shift_count P) D) in
     omega (arith, few, most)

@@ -1,5 +1,5 @@
 // How much each symbol of a domain is needed on its day.
-ghost use Rattle.std.specs.Prelude.{◌≡◌, ℕ, ◌+◌, ◌<◌, ◌≤◌, length, false, IsTrue, None, MatchOption};
+ghost use Rattle.std.specs.Prelude.{◌≡◌, ◌+◌, ◌<◌, ◌≤◌, length, IsTrue, None, MatchOption};
 ghost use Rattle.rwsp_terms.specs.Instance.{IsSymbol};
 ghost use Rattle.domain_store.specs.Store.{BelongsTo, has_domain};
 ghost use Rattle.roster_search.specs.Guides.{IsEmpty};

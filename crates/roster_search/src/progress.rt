@@ -1,5 +1,5 @@
 // What a search has written so far.
-ghost use Rattle.std.specs.Prelude.{◌≡◌, ◌↔◌, ℕ, ◌+◌, ◌<◌, ◌≤◌, [], ◌∷◌, ◌++◌, length, true, false, IsTrue, Some, None, Contains, IfOk};
+ghost use Rattle.std.specs.Prelude.{◌≡◌, ◌↔◌, ℕ, ◌+◌, ◌<◌, ◌≤◌, [], ◌∷◌, ◌++◌, length, false, IsTrue, Some, Contains, IfOk};
 ghost use Rattle.rwsp_terms.specs.Instance.{Instance, cells};
 ghost use Rattle.refutation_terms.specs.declared.lines.Line.TheVariants.{Split};
 ghost use Rattle.refutation_terms.specs.Word.{AreSame};
@@ -10,7 +10,6 @@ ghost use Rattle.rwsp_terms.specs.declared.data.Rule.{Rule};
 ghost use Rattle.domain_store.specs.Store.{has_domain, IsStore, HasDomains};
 ghost use Rattle.domain_store.specs.Splits.{is_idle_in};
 ghost use Rattle.domain_store.specs.Leaves.{IsHoldingLeaf};
-ghost use Rattle.domain_store.specs.States.{open_trees};
 ghost use Rattle.roster_search.specs.Written.{IsProgress, IsSplitOff, HasRoom};
 
 use crate::Aim;

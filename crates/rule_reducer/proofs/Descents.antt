@@ -48,18 +48,10 @@ descent_goes_on P g h next done n so less at d =
           (strips_on P (reverse (drop (suc k) g.named)) n g h next (subst (λ i. StripsTo P (reverse (drop i g.named)) g h) behind so.strips) d);
     }
 
-pub descent_ends : (P : Instance) (g h : Log) (done : ℕ) → DescentSoFar P g h done → done ≡ length g.named → DescendsTo P g h
-descent_ends P g h done so e =
-    let none : length g.named - done ≡ 0 = omega (arith, e) in
-    subst (λ i. StripsTo P (reverse (drop i g.named)) g h) none so.strips
-
 -- descents from the log on reduce what they began with
 pub record ReducesSoFar (P : Instance) (g h : Log) : Type 0 where
   pub passes : Passes P h
   pub reduces : (end : Log) → IsReduced P h end → IsReduced P g end
-
-pub reducing_begins : (P : Instance) (g h : Log) → h ≡ g → Passes P g → ReducesSoFar P g h
-reducing_begins P g h e passes = record { passes = subst (Passes P) (sym e) passes; reduces = λ end r. subst (λ (x : Log). IsReduced P x end) e r }
 
 pub reducing_goes_on : (P : Instance) (g h next : Log) → ReducesSoFar P g h → DescendsTo P h next → Passes P next → length next.named ≢ length h.named → ReducesSoFar P g next
 reducing_goes_on P g h next so s passes ne = record {

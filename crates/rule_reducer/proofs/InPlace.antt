@@ -1,7 +1,7 @@
 -- A list whose elements are replaced one by one.
 use Rattle.std.proofs.Common.{◌≡◌, ℕ, suc, ◌+◌, ◌-◌, ◌<◌, ◌≤◌, List, [], ◌∷◌, ◌++◌, length, take, drop, map, set, get_or, ap, sym, ◌∙◌, arith, append_assoc, add-one}
 use Rattle.std.proofs.Math.Seq.{drop-cons, set-append_seam}
-use Rattle.std.proofs.lemmas.List.{take_more, length-take-le, map-append, get_or-append_right, take_all, length-map, append-nil}
+use Rattle.std.proofs.lemmas.List.{take_more, length-take-le, map-append, get_or-append_right, length-map}
 
 -- the first i elements are replaced
 abbrev pub replaced : {X : Type 0} → (X → X) → List X → ℕ → List X
@@ -28,12 +28,6 @@ replaced_more f xs i d less =
     ∙ sym (append_assoc front (f x ∷ []) (drop (suc i) xs))
     ∙ ap (λ l. l ++ drop (suc i) xs) (sym (ap (map f) (take_more xs i d less) ∙ map-append f (take i xs) (x ∷ [])))
     ∙ ap (λ k. map f (take (i + 1) xs) ++ drop k xs) (sym (add-one i))
-
-pub replaced_all : {X : Type 0} (f : X → X) (xs : List X) (i : ℕ) → length xs ≤ i → replaced f xs i ≡ map f xs
-replaced_all f xs i all =
-    ap (λ l. map f l ++ drop i xs) (take_all i xs all)
-    ∙ ap (λ l. map f xs ++ l) (Rattle.std.proofs.lemmas.List.drop_all i xs all)
-    ∙ append-nil (map f xs)
 
 -- one element more, as a loop writes it
 pub replaced_step : {X : Type 0} (f : X → X) (xs old : List X) (i : ℕ) (d y : X) → i < length xs → old ≡ replaced f xs i → y ≡ f (get_or old i d) → set old i y ≡ replaced f xs (i + 1)

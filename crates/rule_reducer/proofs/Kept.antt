@@ -1,31 +1,21 @@
 -- Lists of numbers and weights without one number or one day.
-use Rattle.std.proofs.Common.{◌≡◌, ◌≢◌, ℕ, ◌+◌, ◌<◌, ◌≤◌, List, [], ◌∷◌, ◌++◌, length, take, get_or, ap, sym, ◌∙◌, subst, arith, ◌⊎◌, inl, inr, ⊎_elim, Some, Bool, true, false, cond, not, ◌==◌, pos, ℤ, length-take-le, get_or-take}
-use Rattle.std.specs.Prelude.{All, AllPairs, Contains, ◌↔◌}
+use Rattle.std.proofs.Common.{◌≡◌, ◌≢◌, ℕ, ◌+◌, ◌<◌, ◌≤◌, List, [], ◌∷◌, ◌++◌, length, take, get_or, ap, sym, ◌∙◌, subst, arith, ◌⊎◌, inl, inr, ⊎_elim, Some, Bool, true, false, cond, not, ◌==◌, pos, length-take-le, get_or-take}
+use Rattle.std.specs.Prelude.{All, AllPairs, Contains}
 use Rattle.std.specs.List.Sorted.{IsStrictlyIncreasing}
-use Rattle.std.specs.List.{insert, filter}
+use Rattle.std.specs.List.{filter}
+use Rattle.std.proofs.lemmas.Bool.{eq-eqb}
 use Rattle.std.proofs.lemmas.Bool.Decides.{eqb_tells}
 use Rattle.std.proofs.lemmas.List.{get_or_default, take_more, take_all}
-use Rattle.std.proofs.lemmas.List.Edits.{insert_end}
-use Rattle.std.proofs.lemmas.List.Elements.{All-take, All-filter, filter-append}
+use Rattle.std.proofs.lemmas.List.Elements.{All-take, All-filter, All-contains, All-contains_itself, filter_passes, filter-append}
+use Rattle.std.proofs.lemmas.List.Sums.{length-filter, count_by-le-length}
 use Rattle.std.proofs.lemmas.List.Kept.{AllPairs-filter, AllPairs-from_increasing, IsStrictlyIncreasing-filter}
 use Rattle.rwsp_terms.specs.declared.data.Rule.TheVariants.{Day}
 use Rattle.rwsp_terms.specs.declared.data.Weight.{Weight}
-use Rattle.rwsp_terms.specs.Places.{NumberBelongs, EntryBelongs, SetsWeight}
-use Rattle.rwsp_terms.specs.Weights.{AreWeights, ComesBefore, IsWeight, weight_at}
-use Rattle.rwsp_terms.proofs.Ascending.{increasing_from_pairs, insert_increasing, Contains-insert, Contains-cons, Contains-first, Contains-later, inserted}
-use Rattle.rwsp_terms.proofs.SameLists.{same_rule_lists, same_weights, WeighSame}
+use Rattle.rwsp_terms.specs.Weights.{AreWeights, ComesBefore, IsWeight}
+use Rattle.rwsp_terms.proofs.Ascending.{increasing_from_pairs, Contains-cons, Contains-first, Contains-later}
 use Rattle.refutation_terms.specs.Strip.{without_rule, without_day}
 
 -- numbers
-
--- a number that is put behind lower ones
-pub put_last : (old new : List ℕ) (n : ℕ) → IsStrictlyIncreasing old → IsStrictlyIncreasing new → All (λ k. k < n) old → ((k : ℕ) → Contains new k ↔ (Contains old k ⊎ (k ≡ n))) → new ≡ old ++ n ∷ []
-put_last old new n up up' low holds =
-    let belongs : NumberBelongs old (length old) n = (omega arith, (λ k less. low k 0 less), λ k ge less. absurd (omega (arith, ge, less))) in
-    same_rule_lists new (insert old (length old) n) up'
-    (insert_increasing old (length old) n belongs up)
-    (λ k. (λ c. (Contains-insert old (length old) n k).1 ((holds k).0 c), λ c. (holds k).1 ((Contains-insert old (length old) n k).0 c)))
-    ∙ insert_end old n
 
 pub kept_first : (n m : ℕ) (R : List ℕ) → m ≢ n → without_rule n (m ∷ R) ≡ m ∷ without_rule n R
 kept_first n m R ne =
@@ -50,18 +40,12 @@ same_or_not m n =
 
 -- what the shorter list holds
 pub was_listed : (n : ℕ) (R : List ℕ) (k : ℕ) → Contains (without_rule n R) k → Contains R k × (k ≢ n)
-was_listed n [] k c = absurd (omega (arith, c.1))
-was_listed n (m ∷ R) k c =
-    ⊎_elim
-    (λ (e : m ≡ n).
-    let q = was_listed n R k (subst (λ l. Contains l k) (gone_first n m R e) c) in
-    (Contains-later m R k q.0, q.1))
-    (λ (ne : m ≢ n).
-    ⊎_elim
-    (λ (later : Contains (without_rule n R) k). let q = was_listed n R k later in (Contains-later m R k q.0, q.1))
-    (λ (e : k ≡ m). (Contains-first m R k e, λ same. ne (sym e ∙ same)))
-    (Contains-cons m (without_rule n R) k (subst (λ l. Contains l k) (kept_first n m R ne) c)))
-    (same_or_not m n)
+was_listed n R k c =
+    let test : ℕ → Bool = λ m. not (m == n) in
+    let other : not (k == n) ≡ true = All-contains (λ m. test m ≡ true) (without_rule n R) k (filter_passes test R) c in (
+      All-contains (Contains R) (without_rule n R) k (All-filter test (Contains R) R (All-contains_itself R)) c,
+      λ e. let no : not true ≡ true = subst (λ b. not b ≡ true) (eq-eqb k n e) other in cc,
+    )
 
 pub still_listed : (n : ℕ) (R : List ℕ) (k : ℕ) → Contains R k → k ≢ n → Contains (without_rule n R) k
 still_listed n [] k c ne = absurd (omega (arith, c.1))
@@ -78,13 +62,7 @@ still_listed n (m ∷ R) k c ne =
     (Contains-cons m R k c)
 
 pub not_longer : (n : ℕ) (R : List ℕ) → length (without_rule n R) ≤ length R
-not_longer n [] = omega arith
-not_longer n (m ∷ R) =
-    let rest = not_longer n R in
-    ⊎_elim
-    (λ (e : m ≡ n). let l = ap length (gone_first n m R e) in omega (arith, l, rest))
-    (λ (d : m ≢ n). let l = ap length (kept_first n m R d) in omega (arith, l, rest))
-    (same_or_not m n)
+not_longer n R = omega (arith, length-filter (λ m. not (m == n)) R, count_by-le-length (λ m. not (m == n)) R)
 
 pub shorter : (n : ℕ) (R : List ℕ) → Contains R n → length (without_rule n R) < length R
 shorter n [] c = absurd (omega (arith, c.1))
@@ -125,31 +103,6 @@ front_ascends R n i up within =
     (increasing_from_pairs (take i R) (take_pairs (λ x y. x < y) R i within (AllPairs-from_increasing R up)))
 
 -- weights
-
--- a weight that is put behind others
-pub put_weight_last : (old new : List Weight) (e : Weight) → AreWeights old → All (λ (a : Weight). ComesBefore a e) old → IsWeight e → SetsWeight old new e.day e.symbol.number e.value → new ≡ old ++ e ∷ []
-put_weight_last old new e are before some sets =
-    let lacks : EntryBelongs old e.day e.symbol.number (length old) = record {
-      within = omega arith;
-      before = λ k d less. before k d less;
-      after = λ k d ge less. absurd (omega (arith, ge, less));
-    } in
-    let put = inserted old (length old) e are lacks some in
-    same_weights new (insert old (length old) e) sets.weights put.weights (sets_same old new (insert old (length old) e) e.day e.symbol.number e.value sets put)
-    ∙ insert_end old e
-  where
-    sets_same : (old new other : List Weight) (j x : ℕ) (value : ℤ) → SetsWeight old new j x value → SetsWeight old other j x value → WeighSame new other
-    sets_same old new other j x value a b = λ k z.
-        ⊎_elim
-        (λ (e : k ≡ j).
-        ⊎_elim
-        (λ (f : z ≡ x).
-        subst (λ m. weight_at new m z ≡ weight_at other m z) (sym e)
-        (subst (λ m. weight_at new j m ≡ weight_at other j m) (sym f) (a.here ∙ sym b.here)))
-        (λ (ne : z ≢ x). a.elsewhere k z (λ q. ne q.1) ∙ sym (b.elsewhere k z (λ q. ne q.1)))
-        (same_or_not z x))
-        (λ (ne : k ≢ j). a.elsewhere k z (λ q. ne q.0) ∙ sym (b.elsewhere k z (λ q. ne q.0)))
-        (same_or_not k j)
 
 abbrev pub no_weight : Weight
 no_weight = record { day = 0; symbol = record { number = 0 }; value = pos 0 }

@@ -9,9 +9,6 @@ use Rattle.rule_reducer.specs.Leaving.{cell_count, GivesNoMore, LosesCells, IsRo
 use Rattle.rule_reducer.proofs.Needs.{descent_drops}
 use Rattle.rule_reducer.proofs.Leaving.{no_more_on, no_more_self}
 
-pub loses_nothing : (g : Log) → LosesCellsAndRules g g
-loses_nothing g = record { opening = no_more_self g.opening; goal = refl; counts = refl; size = refl }
-
 pub loses_on : (g h k : Log) → LosesCellsAndRules g h → LosesCellsAndRules h k → LosesCellsAndRules g k
 loses_on g h k first later = record {
   opening = no_more_on g.opening h.opening k.opening first.opening later.opening;

@@ -1,6 +1,6 @@
 -- When a log that passes still passes without one rule.
-use Rattle.std.proofs.Common.{◌≡◌, ◌≢◌, ℕ, ◌<◌, ◌≤◌, List, [], ◌∷◌, length, take, get_or, refl, ap, sym, ◌∙◌, subst, inl, inr, ⊎_elim, Some, Option, Bool, IsTrue, true, false, cond, not, ◌==◌}
-use Rattle.std.specs.Prelude.{All, Contains, ◌↔◌, slice_get, MatchBool}
+use Rattle.std.proofs.Common.{◌≡◌, ◌≢◌, ℕ, ◌<◌, ◌≤◌, List, [], ◌∷◌, length, take, get_or, refl, ap, sym, ◌∙◌, subst, inl, inr, ⊎_elim, Some, Option, Bool, true, false, cond, not, ◌==◌}
+use Rattle.std.specs.Prelude.{All, Contains, slice_get, MatchBool}
 use Rattle.std.proofs.lemmas.Bool.Decides.{eqb_tells}
 use Rattle.std.proofs.lemmas.List.{take_all, get_or_default}
 use Rattle.std.proofs.lemmas.List.Elements.{All-filter, All-head, All-tail, All-weaker, filter_passes}
@@ -132,9 +132,6 @@ same_stripped P n goal counts line r is fits none = refl
 
 pub day_none_lost : (r : Rule) (y : List Weight) (j : ℕ) → r ≡ TheRules.Day j → All (λ (e : Weight). e.day ≢ j) y → without_day (Some r) y ≡ y
 day_none_lost r y j is none = subst (λ (z : Rule). without_day (Some z) y ≡ y) (sym is) (none_lost y j none)
-
-pub not_held : (b : Bool) (C : Type 0) → (IsTrue b ↔ C) → b ≡ false → C → ⊥
-not_held b C h e c = let yes : b ≡ true = h.1 c in cc
 
 pub same_light : (P : Instance) (n turns reward : ℕ) (y : List Weight) (r : Rule) (claim : WordClaim) → claim ≡ Light turns reward y → rule_of P n ≡ Some r → without_day (Some r) y ≡ y → strip_claim P n claim ≡ claim
 same_light P n turns reward y r claim e is same =

@@ -1,5 +1,5 @@
 -- Lines that hold without a rule.
-use Rattle.std.specs.Prelude.{◌≡◌, ℕ, List, Bool, MatchBool, length, slice_get, Some}
+use Rattle.std.specs.Prelude.{◌≡◌, ℕ, Bool, MatchBool, length, slice_get, Some}
 use Rattle.rwsp_terms.specs.Instance.{Instance}
 use Rattle.refutation_terms.specs.declared.lines.Line.{Line}
 use Rattle.refutation_terms.specs.Tree.{domains_at}

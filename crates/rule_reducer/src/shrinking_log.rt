@@ -1,9 +1,9 @@
 // A log that loses rules in place.
-ghost use Rattle.std.specs.Prelude.{◌≡◌, ◌≤◌, ℕ, length, map, Option, Some, IfOk, OnOk};
+ghost use Rattle.std.specs.Prelude.{◌≡◌, ◌≤◌, length, Option, Some, OnOk};
 ghost use Rattle.rwsp_terms.specs.Instance.{Instance};
 ghost use Rattle.rwsp_terms.specs.Rules.{rule_of};
 ghost use Rattle.refutation_terms.specs.Tree.{IsTree};
-ghost use Rattle.refutation_terms.specs.Strip.{strip, strip_line};
+ghost use Rattle.refutation_terms.specs.Strip.{strip};
 
 use crate::lists::without;
 use crate::numbered_rule::NumberedRule;

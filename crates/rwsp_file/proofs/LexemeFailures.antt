@@ -5,7 +5,7 @@ use Rattle.rwsp_text.specs.Lexemes.{Lexeme}
 use Rattle.rwsp_terms.specs.Instance.{Instance}
 use Rattle.rwsp_model.proofs.Names.{IsWord}
 use Rattle.rwsp_file.specs.Spelling.{FileField, Spell, SpellsProblem, on_line}
-use Rattle.rwsp_file.specs.Reading.{Unread, ◌>>=◌, next_at, nothing_of}
+use Rattle.rwsp_file.specs.Reading.{Unread, next_at, nothing_of}
 use Rattle.rwsp_file.specs.FirstFailures.{RestsOn, HasFault}
 use Rattle.rwsp_file.specs.declared.misfit.Misfit.{Misfit}
 use Rattle.rwsp_file.specs.declared.misfit.Misfit.TheVariants.{TextEnds, BadWord}

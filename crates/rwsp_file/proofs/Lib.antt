@@ -7,6 +7,7 @@ pub mod FieldReaders
 pub mod RowReader
 pub mod Forms
 pub mod Awaited
+pub mod PairsFirst
 pub mod Parts
 pub mod WordForms
 pub mod Valid

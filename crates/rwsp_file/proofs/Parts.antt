@@ -1,28 +1,36 @@
 -- The parts of a text: each is read as it is awaited, and gives what its fields spell.
-use Rattle.std.proofs.Common.{◌≡◌, ℕ, ◌+◌, ◌≤◌, List, [], ◌∷◌, ◌++◌, length, refl, ap, sym, ◌∙◌, map, arith, append-nil, append_assoc}
-use Rattle.std.specs.List.{flat_map}
+use Rattle.std.proofs.Common.{◌≡◌, ℕ, suc, ◌+◌, ◌≤◌, List, [], ◌∷◌, ◌++◌, length, get_or, Option, Some, None, Ok, refl, ap, sym, subst, ◌∙◌, map, arith, append-nil, append_assoc}
+use Rattle.std.specs.Prelude.{AllPairs}
+use Rattle.std.specs.List.{flat_map, AllByRecursion}
+use Rattle.std.proofs.lemmas.List.{length-take-le}
 use Rattle.std.proofs.lemmas.List.Concat.{flat_map_single}
 use Rattle.std.proofs.lemmas.List.Folds.{flat_map-map}
-use Rattle.rwsp_terms.specs.Instance.{Instance, name_of}
+use Rattle.rwsp_terms.specs.Instance.{Instance, name_of, on_every_day}
 use Rattle.rwsp_terms.specs.declared.data.Bounds.{Bounds}
 use Rattle.rwsp_terms.specs.declared.data.ShiftRow.{ShiftRow}
 use Rattle.rwsp_terms.specs.declared.data.Symbol.{Symbol}
+use Rattle.rwsp_terms.specs.declared.data.Sequence.{Sequence}
+use Rattle.rwsp_terms.specs.Window.{third_of, symbols_of}
 use Rattle.rwsp_model.specs.Validity.{IsSmallRange, AreSmall}
-use Rattle.rwsp_file.specs.Spelling.{FileField, number_fields, bounds_fields, shift_fields, pair_fields, triple_fields, frame_lines, file_fields}
+use Rattle.rwsp_model.specs.Sequences.{part_of, count_in, pair_count, triple_count}
+use Rattle.rwsp_file.specs.Spelling.{FileField, number_fields, name_fields, bounds_fields, shift_fields, sequence_fields, frame_lines, file_fields}
 use Rattle.rwsp_file.specs.Spelling.FileField.{NumberField, DemandField, ShiftField, NameField}
-use Rattle.rwsp_file.specs.Reading.{Unread, limit_of, number_at, weeks_at, size_at, demand_at, demand_row_at, demand_rows_at, shift_rows_at, bounds_at, frame_at, symbol_at, pair_at, triple_at, pairs_at, triples_at, sequences_at, instance_at, instance_from, reading}
+use Rattle.rwsp_file.specs.Reading.{Unread, limit_of, number_at, weeks_at, size_at, demand_at, demand_row_at, demand_rows_at, shift_rows_at, bounds_at, sequence_limit, frame_at, symbol_at, third_at, sequence_at, kind_at, number_in_kind, numbered_at, sequences_at, instance_at, instance_from, reading}
 use Rattle.rwsp_file.specs.declared.fields.Size.{Size}
 use Rattle.rwsp_file.specs.declared.fields.Frame.{Frame}
 use Rattle.rwsp_file.specs.declared.limits.Limit.{Limit}
+use Rattle.rwsp_file.specs.declared.misfit.Kind.{Kind}
+use Rattle.rwsp_file.specs.declared.misfit.Kind.TheVariants.{Pair, Triple}
 use Rattle.rwsp_file.specs.declared.misfit.Place.{Place}
-use Rattle.rwsp_file.specs.declared.misfit.Place.TheVariants.{Days, Shifts, Demand, LeastOff, GreatestOff, LeastWork, GreatestWork, Pairs, Triples, InPair, InTriple}
+use Rattle.rwsp_file.specs.declared.misfit.Place.TheVariants.{Days, Shifts, Demand, LeastOff, GreatestOff, LeastWork, GreatestWork, Sequences, InSequence}
 use Rattle.rwsp_file.specs.FirstFailures.{IsNoLongName}
-use Rattle.rwsp_file.proofs.Readers.{AllAfter}
+use Rattle.rwsp_file.proofs.Readers.{AllAfter, after_at, bind_assoc}
 use Rattle.rwsp_file.proofs.RowReader.{IsGoodRow}
 use Rattle.rwsp_file.proofs.FieldReaders.{AreWeeks}
 use Rattle.rwsp_file.proofs.Forms.{IsOwnPlace, number_form, weeks_form, demand_form, symbol_form, IsNamed}
-use Rattle.rwsp_file.proofs.Awaited.{Awaited, read_on, IsPart, word_part, row_part, no_part, part_like, then_part, many_part, each_part, many_is}
+use Rattle.rwsp_file.proofs.Awaited.{Awaited, read_on, Makes, IsPart, word_part, row_part, no_part, part_like, then_part, many_part, each_part, many_is}
 use Rattle.rwsp_file.proofs.Awaited.Awaited.{End, Word, Row}
+use Rattle.rwsp_file.proofs.PairsFirst.{symbols_in, listed}
 
 -- numbers
 
@@ -108,15 +116,15 @@ least_work = record { place = record { right = refl; none = λ text n. n; beyond
 pub greatest_work : IsBlockPlace GreatestWork
 greatest_work = record { place = record { right = refl; none = λ text n. n; beyond = λ text n h out. (n, h, out) }; alone = λ _. tt }
 
-pub pairs_place : IsOwnPlace Pairs (limit_of 8 0 64)
-pairs_place = record { place = record { right = refl; none = λ text n. n; beyond = λ text n h out. (n, h, out) }; alone = λ _. tt }
+pub count_place : (kind : Kind) → IsOwnPlace (Sequences kind) (sequence_limit kind)
+count_place kind = record { place = record { right = refl; none = λ text n. n; beyond = λ text n h out. (n, h, out) }; alone = λ _. tt }
 
-pub triples_place : IsOwnPlace Triples (limit_of 9 0 64)
-triples_place = record { place = record { right = refl; none = λ text n. n; beyond = λ text n h out. (n, h, out) }; alone = λ _. tt }
+abbrev pub count_part : Kind → (ℕ → Awaited) → Awaited
+count_part kind = Word (number_form (Sequences kind) (sequence_limit kind) (count_place kind))
 
 -- what is awaited behind the bounds of blocks
 abbrev pub counts_part : Bounds → Bounds → (Frame → Awaited) → Awaited
-counts_part off work next = Word (number_form Pairs (limit_of 8 0 64) pairs_place) (λ pairs. Word (number_form Triples (limit_of 9 0 64) triples_place) (λ triples. next (make_frame off work pairs triples)))
+counts_part off work next = count_part Pair (λ pairs. count_part Triple (λ triples. next (make_frame off work pairs triples)))
 
 abbrev pub frame_part : (Frame → Awaited) → Awaited
 frame_part next = bounds_part LeastOff GreatestOff least_off greatest_off (λ off. bounds_part LeastWork GreatestWork least_work greatest_work (λ work. counts_part off work next))
@@ -127,8 +135,8 @@ frame_is =
     part_like (λ z h. record { off = h.0; work = h.1.0; pairs = h.1.1.0.1; triples = h.1.1.1.0.1 }) (λ z h. (h.off, (h.work, ((omega arith, h.pairs), ((omega arith, h.triples), refl))))) (λ z. refl)
     (then_part (λ (z : Frame). z.off) (bounds_is LeastOff GreatestOff least_off greatest_off) (λ off.
     then_part (λ (z : Frame). z.work) (bounds_is LeastWork GreatestWork least_work greatest_work) (λ work.
-    then_part (λ (z : Frame). z.pairs) (number_is Pairs (limit_of 8 0 64) pairs_place) (λ pairs.
-    then_part (λ (z : Frame). z.triples) (number_is Triples (limit_of 9 0 64) triples_place) (λ triples. no_part (make_frame off work pairs triples))
+    then_part (λ (z : Frame). z.pairs) (number_is (Sequences Pair) (sequence_limit Pair) (count_place Pair)) (λ pairs.
+    then_part (λ (z : Frame). z.triples) (number_is (Sequences Triple) (sequence_limit Triple) (count_place Triple)) (λ triples. no_part (make_frame off work pairs triples))
     (λ x z c. ap (λ (q : Frame). q.triples) c)) (λ x z c. ap (λ (q : Frame). q.pairs) c.1)) (λ x z c. ap (λ (q : Frame). q.work) c.1.1)) (λ x z c. ap (λ (q : Frame). q.off) c.1.1.1))
 
 -- the demands of a shift, one for each day
@@ -169,69 +177,77 @@ symbol_is : (awaited : Place) (alone : IsLone awaited) (P : Instance) → IsPart
 unfolding symbol_at
 symbol_is awaited alone P = word_part (symbol_form awaited alone P)
 
-abbrev pub IsPair : Instance → Symbol × Symbol → Type 0
-IsPair P x = IsNamed P x.0 × IsNamed P x.1
+-- the third symbol, where the kind has one
+abbrev IsThird : Instance → Kind → Option Symbol → Type 0
+IsThird P kind x = AllByRecursion (IsNamed P) (third_of x) × (suc (suc (length (third_of x))) ≡ symbols_in kind)
 
-abbrev pub IsTriple : Instance → Symbol × Symbol × Symbol → Type 0
-IsTriple P x = IsNamed P x.0 × IsNamed P x.1 × IsNamed P x.2
+abbrev third_fields : Instance → Option Symbol → List FileField
+third_fields P x = name_fields (map (name_of P) (third_of x))
 
-abbrev pub pair_part : Instance → ℕ → (Symbol × Symbol → Awaited) → Awaited
-pair_part P pair next = Word (symbol_form (InPair pair 1) (λ _. tt) P) (λ x. Word (symbol_form (InPair pair 2) (λ _. tt) P) (λ y. next (x, y)))
+abbrev pub third_part : Instance → Kind → ℕ → (Option Symbol → Awaited) → Awaited
+third_part P Pair number next = next None
+third_part P Triple number next = Word (symbol_form (InSequence Triple number 3) (λ _. tt) P) (λ x. next (Some x))
 
-pub pair_is : (P : Instance) (pair : ℕ) → IsPart (IsPair P) (pair_fields P) (pair_at P.shifts pair) (pair_part P pair)
-unfolding pair_at
-pair_is P pair =
-    part_like (λ z h. (h.0, h.1.0)) (λ z h. (h.0, (h.1, refl))) (λ z. refl)
-    (then_part (λ (z : Symbol × Symbol). z.0) (symbol_is (InPair pair 1) (λ _. tt) P) (λ x.
-    then_part (λ (z : Symbol × Symbol). z.1) (symbol_is (InPair pair 2) (λ _. tt) P) (λ y. no_part (x, y))
-    (λ y z c. ap (λ (q : Symbol × Symbol). q.1) c)) (λ x z c. ap (λ (q : Symbol × Symbol). q.0) c.1))
+pair_only : (P : Instance) (next : Option Symbol → Awaited) (x : Option Symbol) (gs : List FileField) (Q : Instance) → IsThird P Pair x → Makes (next x) gs Q → Makes (next None) (third_fields P x ++ gs) Q
+pair_only P next None gs Q h m = m
+pair_only P next (Some x) gs Q h m = let no = h.1 in absurd (omega (arith, no))
 
-abbrev Three : Type 0
-Three = Symbol × Symbol × Symbol
+triple_only : (P : Instance) (number : ℕ) (next : Option Symbol → Awaited) (x : Option Symbol) (gs : List FileField) (Q : Instance) → IsThird P Triple x → Makes (next x) gs Q → Makes (third_part P Triple number next) (third_fields P x ++ gs) Q
+triple_only P number next None gs Q h m = let no = h.1 in absurd (omega (arith, no))
+triple_only P number next (Some x) gs Q h m = (x, gs, h.0.0, refl, m)
 
-abbrev pub triple_part : Instance → ℕ → (Symbol × Symbol × Symbol → Awaited) → Awaited
-triple_part P triple next =
-    Word (symbol_form (InTriple triple 1) (λ _. tt) P) (λ x. Word (symbol_form (InTriple triple 2) (λ _. tt) P) (λ y. Word (symbol_form (InTriple triple 3) (λ _. tt) P) (λ z. next (x, y, z))))
+pub third_is : (P : Instance) (kind : Kind) (number : ℕ) → IsPart (IsThird P kind) (third_fields P) (third_at P.shifts kind number) (third_part P kind number)
+unfolding third_at
+third_is P Pair number = record { goes = λ next u. refl; found = λ next fs Q m. (None, fs, (tt, refl), refl, m); only = pair_only P }
+third_is P Triple number = record {
+  goes = λ next u.
+      (symbol_is (InSequence Triple number 3) (λ _. tt) P).goes (λ x. next (Some x)) u
+      ∙ sym (bind_assoc (symbol_at (InSequence Triple number 3) P.shifts u) (λ x. Ok (Some x.0, x.1)) (λ p. read_on (next p.0) p.1));
+  found = λ next fs Q m. (Some m.0, m.1, ((m.2, tt), refl), m.3, m.4);
+  only = triple_only P number;
+}
 
-pub triple_is : (P : Instance) (triple : ℕ) → IsPart (IsTriple P) (triple_fields P) (triple_at P.shifts triple) (triple_part P triple)
-unfolding triple_at
-triple_is P triple =
-    part_like (λ t h. (h.0, h.1.0, h.1.1.0)) (λ t h. (h.0, (h.1, (h.2, refl)))) (λ t. refl)
-    (then_part (λ (t : Three). t.0) (symbol_is (InTriple triple 1) (λ _. tt) P) (λ x.
-    then_part (λ (t : Three). t.1) (symbol_is (InTriple triple 2) (λ _. tt) P) (λ y.
-    then_part (λ (t : Three). t.2) (symbol_is (InTriple triple 3) (λ _. tt) P) (λ z. no_part (x, y, z))
-    (λ z t c. ap (λ (q : Three). q.2) c)) (λ y t c. ap (λ (q : Three). q.1) c.1)) (λ x t c. ap (λ (q : Three). q.0) c.1.1))
+-- a sequence of the kind, of symbols of the instance
+abbrev pub IsKnown : Instance → Kind → Sequence → Type 0
+IsKnown P kind q = AllByRecursion (IsNamed P) (symbols_of q) × (part_of q ≡ symbols_in kind) × (q.day ≡ None)
 
--- forbidden sequences
+abbrev pub sequence_part : Instance → Kind → ℕ → (Sequence → Awaited) → Awaited
+sequence_part P kind number next =
+    Word (symbol_form (InSequence kind number 1) (λ _. tt) P) (λ x. Word (symbol_form (InSequence kind number 2) (λ _. tt) P) (λ y. third_part P kind number (λ z. next (on_every_day x y z))))
 
-abbrev Sequences : Type 0
-Sequences = List (Symbol × Symbol) × List (Symbol × Symbol × Symbol)
+pub sequence_is : (P : Instance) (kind : Kind) (number : ℕ) → IsPart (IsKnown P kind) (sequence_fields P) (sequence_at P.shifts kind number) (sequence_part P kind number)
+unfolding sequence_at
+sequence_is P kind number =
+    part_like
+    (λ q h. ((h.0, (h.1.0, h.1.1.0.0)), h.1.1.0.1, ap (λ (o : Sequence). o.day) h.1.1.1))
+    (λ q h. (h.0.0, (h.0.1.0, ((h.0.1.1, h.1), ap (λ (day : Option ℕ). record q { day = day }) h.2))))
+    (λ q. ap (λ (fs : List FileField). NameField (name_of P q.first) ∷ NameField (name_of P q.second) ∷ fs) (append-nil (third_fields P q.third)))
+    (then_part (λ (q : Sequence). q.first) (symbol_is (InSequence kind number 1) (λ _. tt) P) (λ x.
+    then_part (λ (q : Sequence). q.second) (symbol_is (InSequence kind number 2) (λ _. tt) P) (λ y.
+    then_part (λ (q : Sequence). q.third) (third_is P kind number) (λ z. no_part (on_every_day x y z))
+    (λ z q c. ap (λ (o : Sequence). o.third) c)) (λ y q c. ap (λ (o : Sequence). o.second) c.1)) (λ x q c. ap (λ (o : Sequence). o.first) c.1.1))
 
-abbrev pub AreSequences : Instance → Frame → Sequences → Type 0
-AreSequences P frame s = ((length s.0 ≡ frame.pairs) × AllAfter (λ _. IsPair P) [] s.0) × ((length s.1 ≡ frame.triples) × AllAfter (λ _. IsTriple P) [] s.1)
+-- forbidden sequences, the pairs first
 
-abbrev pub pairs_part : Instance → ℕ → (List (Symbol × Symbol) → Awaited) → Awaited
-pairs_part P count next = many_part (each_part (pair_part P)) count [] next
+abbrev pub numbered_part : Instance → (pairs number : ℕ) → (Sequence → Awaited) → Awaited
+numbered_part P pairs number = sequence_part P (kind_at pairs number) (number_in_kind pairs number)
 
-abbrev pub triples_part : Instance → ℕ → (List (Symbol × Symbol × Symbol) → Awaited) → Awaited
-triples_part P count next = many_part (each_part (triple_part P)) count [] next
+pub numbered_is : (P : Instance) (pairs number : ℕ) → IsPart (IsKnown P (kind_at pairs number)) (sequence_fields P) (numbered_at P.shifts pairs number) (numbered_part P pairs number)
+numbered_is P pairs number = sequence_is P (kind_at pairs number) (number_in_kind pairs number)
 
-pairs_is : (P : Instance) (count : ℕ) → IsPart (λ xs. (length xs ≡ count) × AllAfter (λ _. IsPair P) [] xs) (flat_map (pair_fields P)) (pairs_at P.shifts count) (pairs_part P count)
-pairs_is P count = many_is {V = λ _. IsPair P} {F = pair_fields P} (λ earlier. pair_is P (length earlier + 1)) count
+abbrev pub AreKnown : Instance → Frame → List Sequence → Type 0
+AreKnown P frame qs = (length qs ≡ frame.pairs + frame.triples) × AllAfter (λ earlier. IsKnown P (kind_at frame.pairs (length earlier + 1))) [] qs
 
-triples_is : (P : Instance) (count : ℕ) → IsPart (λ xs. (length xs ≡ count) × AllAfter (λ _. IsTriple P) [] xs) (flat_map (triple_fields P)) (triples_at P.shifts count) (triples_part P count)
-triples_is P count = many_is {V = λ _. IsTriple P} {F = triple_fields P} (λ earlier. triple_is P (length earlier + 1)) count
+abbrev pub sequences_part : Instance → Frame → (List Sequence → Awaited) → Awaited
+sequences_part P frame next = many_part (each_part (numbered_part P frame.pairs)) (frame.pairs + frame.triples) [] next
 
-abbrev pub sequences_part : Instance → Frame → (Sequences → Awaited) → Awaited
-sequences_part P frame next = pairs_part P frame.pairs (λ pairs. triples_part P frame.triples (λ triples. next (pairs, triples)))
+pub sequences_is : (P : Instance) (frame : Frame) → IsPart (AreKnown P frame) (flat_map (sequence_fields P)) (sequences_at P.shifts frame) (sequences_part P frame)
+sequences_is P frame = many_is {V = λ earlier. IsKnown P (kind_at frame.pairs (length earlier + 1))} {F = sequence_fields P} (λ earlier. numbered_is P frame.pairs (length earlier + 1)) (frame.pairs + frame.triples)
 
-pub sequences_is : (P : Instance) (frame : Frame) → IsPart (AreSequences P frame) (λ s. flat_map (pair_fields P) s.0 ++ flat_map (triple_fields P) s.1) (sequences_at P.shifts frame) (sequences_part P frame)
-unfolding sequences_at
-sequences_is P frame =
-    part_like (λ s h. (h.0, h.1.0)) (λ s h. (h.0, (h.1, refl))) (λ s. ap (λ (fs : List FileField). flat_map (pair_fields P) s.0 ++ fs) (append-nil (flat_map (triple_fields P) s.1)))
-    (then_part (λ (s : Sequences). s.0) (pairs_is P frame.pairs) (λ pairs.
-    then_part (λ (s : Sequences). s.1) (triples_is P frame.triples) (λ triples. no_part (pairs, triples))
-    (λ x s c. ap (λ (q : Sequences). q.1) c)) (λ x s c. ap (λ (q : Sequences). q.0) c.1))
+-- the pairs stand first, and there are as many of each kind as the frame has
+pub known_listed : (P : Instance) (frame : Frame) (qs : List Sequence) → AreKnown P frame qs → AllPairs (λ a b. part_of a ≤ part_of b) qs × (count_in 2 qs ≡ frame.pairs) × (count_in 3 qs ≡ frame.triples)
+known_listed P frame qs h = listed frame.pairs frame.triples qs h.0 (λ i d less.
+    subst (λ n. part_of (get_or qs i d) ≡ symbols_in (kind_at frame.pairs (n + 1))) (length-take-le i qs (omega (arith, less))) (after_at (λ earlier. IsKnown P (kind_at frame.pairs (length earlier + 1))) [] qs h.1 i d less).1)
 
 -- a whole text
 
@@ -239,10 +255,7 @@ abbrev pub size_of : Instance → Size
 size_of P = make_size P.days P.weeks (length P.shifts)
 
 abbrev pub frame_of : Instance → Frame
-frame_of P = make_frame P.off P.work (length P.pairs) (length P.triples)
-
-abbrev sequences_of : Instance → Sequences
-sequences_of P = (P.pairs, P.triples)
+frame_of P = make_frame P.off P.work (pair_count P) (triple_count P)
 
 -- what reading an instance shows of it
 pub record IsRead (P : Instance) : Type 0 where
@@ -251,12 +264,11 @@ pub record IsRead (P : Instance) : Type 0 where
   pub demand : AllAfter (λ _. IsDemandRow P.days) [] P.demand
   pub shifts : AllAfter IsGoodRow [] P.shifts
   pub frame : IsFrame (frame_of P)
-  pub pairs : AllAfter (λ _. IsPair P) [] P.pairs
-  pub triples : AllAfter (λ _. IsTriple P) [] P.triples
+  pub sequences : AreKnown P (frame_of P) P.sequences
 
 -- an instance of these shifts
 abbrev pub of_shifts : Size → List (List Bounds) → List ShiftRow → Frame → Instance
-of_shifts size demand shifts frame = instance_from size demand shifts frame ([], [])
+of_shifts size demand shifts frame = instance_from size demand shifts frame []
 
 -- what is awaited behind the frame, the shifts, the demand and the size
 abbrev pub behind_frame : (Instance → Awaited) → Size → List (List Bounds) → List ShiftRow → Frame → Awaited
@@ -283,12 +295,9 @@ joined_lines : {X : Type 0} (f : X → List FileField) (xs : List X) (rest : Lis
 joined_lines f [] rest = refl
 joined_lines f (x ∷ xs) rest = ap (λ fs. f x ++ fs) (joined_lines f xs rest) ∙ sym (append_assoc (f x) (flat_map f xs) (flat_map (λ fields. fields) rest))
 
-abbrev pub sequence_fields : Instance → List FileField
-sequence_fields P = flat_map (pair_fields P) P.pairs ++ flat_map (triple_fields P) P.triples
-
 -- the fields behind the size, the demand and the shifts
 abbrev pub fields_from_frame : Instance → List FileField
-fields_from_frame P = frame_fields (frame_of P) ++ sequence_fields P
+fields_from_frame P = frame_fields (frame_of P) ++ flat_map (sequence_fields P) P.sequences
 
 abbrev pub fields_from_shifts : Instance → List FileField
 fields_from_shifts P = map ShiftField P.shifts ++ fields_from_frame P
@@ -299,15 +308,14 @@ fields_from_demand P = flat_map (map DemandField) P.demand ++ fields_from_shifts
 -- the fields of an instance, part by part
 pub fields_in_parts : (P : Instance) → file_fields P ≡ size_fields (size_of P) ++ fields_from_demand P
 fields_in_parts P =
-    let triples = map (triple_fields P) P.triples in
-    let sequences = map (pair_fields P) P.pairs ++ map (triple_fields P) P.triples in
+    let sequences = map (sequence_fields P) P.sequences in
     ap (λ fs. size_fields (size_of P) ++ fs)
     (joined_lines (map DemandField) P.demand (map shift_fields P.shifts ++ (frame_lines P ++ sequences))
     ∙ ap (λ fs. flat_map (map DemandField) P.demand ++ fs)
     (joined_lines shift_fields P.shifts (frame_lines P ++ sequences)
     ∙ ap (λ fs. fs ++ flat_map (λ fields. fields) (frame_lines P ++ sequences)) (flat_map_single ShiftField P.shifts)
     ∙ ap (λ fs. map ShiftField P.shifts ++ (frame_fields (frame_of P) ++ fs))
-    (joined_lines (pair_fields P) P.pairs triples ∙ ap (λ fs. flat_map (pair_fields P) P.pairs ++ fs) (flat_map-map (λ fields. fields) (triple_fields P) P.triples))))
+    (flat_map-map (λ fields. fields) (sequence_fields P) P.sequences)))
 
 pub instance_is : IsPart IsRead file_fields instance_at instance_part
 unfolding instance_at
@@ -319,20 +327,20 @@ instance_is =
       demand = h.1.0.1;
       shifts = h.1.1.0.1;
       frame = h.1.1.1.0;
-      pairs = h.1.1.1.1.0.0.1;
-      triples = h.1.1.1.1.0.1.1;
+      sequences = h.1.1.1.1.0;
     })
-    (λ P r. (r.size, ((r.rows, r.demand), ((refl, r.shifts), (r.frame, (((refl, r.pairs), (refl, r.triples)), refl))))))
-    (λ P. ap (λ (fs : List FileField). size_fields (size_of P) ++ (flat_map (map DemandField) P.demand ++ (map ShiftField P.shifts ++ (frame_fields (frame_of P) ++ fs)))) (append-nil (sequence_fields P)) ∙ sym (fields_in_parts P))
+    (λ P r. (r.size, ((r.rows, r.demand), ((refl, r.shifts), (r.frame, (r.sequences, refl))))))
+    (λ P. ap (λ (fs : List FileField). size_fields (size_of P) ++ (flat_map (map DemandField) P.demand ++ (map ShiftField P.shifts ++ (frame_fields (frame_of P) ++ fs)))) (append-nil (flat_map (sequence_fields P) P.sequences)) ∙ sym (fields_in_parts P))
     (then_part size_of size_is (λ size.
     then_part (λ (P : Instance). P.demand) (demand_rows_is size) (λ demand.
     then_part (λ (P : Instance). P.shifts) (shift_rows_is size.shifts) (λ shifts.
     then_part frame_of frame_is (λ frame.
-    then_part sequences_of (sequences_is (of_shifts size demand shifts frame) frame) (λ s. no_part (instance_from size demand shifts frame s))
-    (λ s P c. ap sequences_of c))
+    then_part (λ (P : Instance). P.sequences) (sequences_is (of_shifts size demand shifts frame) frame) (λ s. no_part (instance_from size demand shifts frame s))
+    (λ s P c. ap (λ (q : Instance). q.sequences) c))
     (λ frame P c.
-    ap (λ (q : Instance). make_frame q.off q.work (length P.pairs) (length P.triples)) c.1
-    ∙ ap (λ n. make_frame frame.off frame.work n (length P.triples)) c.0.0.0 ∙ ap (λ n. make_frame frame.off frame.work frame.pairs n) c.0.1.0))
+    let counts = known_listed (of_shifts size demand shifts frame) frame P.sequences c.0 in
+    ap (λ (q : Instance). make_frame q.off q.work (pair_count P) (triple_count P)) c.1
+    ∙ ap (λ n. make_frame frame.off frame.work n (triple_count P)) counts.1 ∙ ap (λ n. make_frame frame.off frame.work frame.pairs n) counts.2))
     (λ shifts P c. ap (λ (q : Instance). q.shifts) c.1.1)) (λ demand P c. ap (λ (q : Instance). q.demand) c.1.1.1))
     (λ size P c. ap (λ (q : Instance). make_size q.days q.weeks (length P.shifts)) c.1.1.1.1 ∙ ap (make_size size.days size.weeks) c.1.0.0))
 

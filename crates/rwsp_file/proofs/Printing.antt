@@ -13,14 +13,18 @@ use Rattle.rwsp_text.specs.Lexemes.{Lexeme, lexemes_from, words_of_line}
 use Rattle.rwsp_text.proofs.Steps.{IsWordByte}
 use Rattle.rwsp_text.proofs.Printed.{digits_printed, printed_is_read}
 use Rattle.rwsp_text.proofs.JoinedWords.{IsPrinted, printed_word, words_printed, line_printed, length_of_line, length_of_lines}
-use Rattle.rwsp_terms.specs.Instance.{Instance, shift_count, name_numbered}
+use Rattle.rwsp_terms.specs.Instance.{Instance, shift_count, name_numbered, name_of}
+use Rattle.rwsp_terms.specs.Window.{symbols_of}
 use Rattle.rwsp_terms.specs.declared.data.Bounds.{Bounds}
 use Rattle.rwsp_terms.specs.declared.data.ShiftRow.{ShiftRow}
+use Rattle.rwsp_terms.specs.declared.data.Sequence.{Sequence}
 use Rattle.rwsp_terms.proofs.Elements.{all_to, all_joined}
 use Rattle.rwsp_model.specs.Validity.{IsValid, KeepsLimits, IsShiftName, IsSmallRange, AreSmall}
+use Rattle.rwsp_model.specs.Sequences.{IsSequenceOf, part_of, pair_count, triple_count}
+use Rattle.rwsp_model.proofs.Sequences.{two_or_three, counts_are_all}
 use Rattle.rwsp_model.proofs.Limits.{valid_keeps}
 use Rattle.rwsp_model.proofs.Names.{symbol_word}
-use Rattle.rwsp_file.specs.Spelling.{FileField, Spell, number_fields, shift_fields, pair_fields, triple_fields, frame_lines, file_lines, file_fields, IsDemand, IsRow, on_line, past_line, SpellsProblem}
+use Rattle.rwsp_file.specs.Spelling.{FileField, Spell, number_fields, shift_fields, sequence_fields, frame_lines, file_lines, file_fields, IsDemand, IsRow, on_line, past_line, SpellsProblem}
 use Rattle.rwsp_file.specs.Spelling.FileField.{NumberField, DemandField, ShiftField, NameField}
 use Rattle.rwsp_file.specs.Text.{demand_text, line_words, file_line, problem_text}
 use Rattle.rwsp_file.specs.Laws.{CanonicalTextsSpell, CanonicalTextsAreShort}
@@ -179,6 +183,15 @@ fine_demands row few small =
     let long = length-map row DemandField in
     fine (map DemandField row) (all_to IsPlain (map DemandField row) (All-map IsPlain DemandField row small)) (omega (arith, long, few))
 
+fine_sequence : (P : Instance) → KeepsLimits P → (q : Sequence) → IsSequenceOf P q → IsFine (sequence_fields P q)
+fine_sequence P k q known =
+    let names = map (name_of P) (symbols_of q) in
+    let words : All (λ x. IsGoodWord (name_of P x)) (symbols_of q) = λ i d less. good_symbol P k _ (known.0 i d less) in
+    let long = length-map names NameField in
+    let many = length-map (symbols_of q) (name_of P) in
+    let few : part_of q ≤ 3 = elim (two_or_three q) [ inl two ↦ omega (arith, two) | inr three ↦ omega (arith, three) ] in
+    fine (sequence_fields P q) (all_to IsPlain (sequence_fields P q) (All-map IsPlain NameField names (All-map IsGoodWord (name_of P) (symbols_of q) words))) (omega (arith, long, many, few))
+
 mapped_fine : {X : Type 0} (f : X → List FileField) (xs : List X) → All (λ x. IsFine (f x)) xs → AllByRecursion IsFine (map f xs)
 mapped_fine f xs h = all_to IsFine (map f xs) (All-map IsFine f xs h)
 
@@ -187,8 +200,8 @@ lines_fine P k =
     let days : P.days ≤ 10000 = omega (arith, k.few_days) in
     let weeks : P.weeks ≤ 10000 = omega (arith, k.few_weeks) in
     let shifts : length P.shifts ≤ 10000 = omega (arith, k.few_shifts) in
-    let pairs : length P.pairs ≤ 10000 = omega (arith, k.few_pairs) in
-    let triples : length P.triples ≤ 10000 = omega (arith, k.few_triples) in (
+    let pairs : pair_count P ≤ 10000 = omega (arith, k.listed.few_pairs) in
+    let triples : triple_count P ≤ 10000 = omega (arith, k.listed.few_triples) in (
       fine (number_fields (P.days ∷ [])) (days, tt) (omega arith),
       (
         fine (number_fields (P.weeks ∷ [])) (weeks, tt) (omega arith),
@@ -202,11 +215,8 @@ lines_fine P k =
                 (
                   fine (number_fields (P.work.least ∷ P.work.greatest ∷ [])) (k.work.0, (k.work.1, tt)) (omega arith),
                   (
-                    fine (number_fields (length P.pairs ∷ length P.triples ∷ [])) (pairs, (triples, tt)) (omega arith),
-                    all_joined IsFine (map (pair_fields P) P.pairs) _
-                        (mapped_fine (pair_fields P) P.pairs (λ i d less. let x = k.known_pairs i d less in fine (pair_fields P (get_or P.pairs i d)) (good_symbol P k _ x.0, (good_symbol P k _ x.1, tt)) (omega arith)))
-                        (mapped_fine (triple_fields P) P.triples
-                        (λ i d less. let x = k.known_triples i d less in fine (triple_fields P (get_or P.triples i d)) (good_symbol P k _ x.0, (good_symbol P k _ x.1, (good_symbol P k _ x.2, tt))) (omega arith))),
+                    fine (number_fields (pair_count P ∷ triple_count P ∷ [])) (pairs, (triples, tt)) (omega arith),
+                    mapped_fine (sequence_fields P) P.sequences (λ i d less. fine_sequence P k (get_or P.sequences i d) (k.sequences i d less)),
                   ),
                 ),
               )),
@@ -240,18 +250,16 @@ canonical_texts_spell P valid = (canonical_spells P valid, λ Q s. texts_spell_o
 -- how many lines there are
 count_lines : (P : Instance) → KeepsLimits P → length (file_lines P) ≤ 150
 count_lines P k =
-    let triples = map (triple_fields P) P.triples in
-    let pairs = map (pair_fields P) P.pairs in
+    let sequences = map (sequence_fields P) P.sequences in
     let shifts = map shift_fields P.shifts in
     let demands = map (map DemandField) P.demand in
-    let a = length-append demands (shifts ++ (frame_lines P ++ (pairs ++ triples))) in
-    let b = length-append shifts (frame_lines P ++ (pairs ++ triples)) in
-    let c = length-append pairs triples in
+    let a = length-append demands (shifts ++ (frame_lines P ++ sequences)) in
+    let b = length-append shifts (frame_lines P ++ sequences) in
+    let c = counts_are_all P.sequences in
     let d = length-map P.demand (map DemandField) in
     let e = length-map P.shifts shift_fields in
-    let f = length-map P.pairs (pair_fields P) in
-    let g = length-map P.triples (triple_fields P) in
-    omega (arith, a, b, c, d, e, f, g, k.rows, k.few_shifts, k.few_pairs, k.few_triples)
+    let f = length-map P.sequences (sequence_fields P) in
+    omega (arith, a, b, c, d, e, f, k.rows, k.few_shifts, k.listed.few_pairs, k.listed.few_triples)
 
 pub canonical_texts_are_short : CanonicalTextsAreShort
 canonical_texts_are_short P valid =

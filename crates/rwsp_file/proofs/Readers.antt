@@ -1,5 +1,5 @@
 -- Results of reading: what is right is given, and what is given is right.
-use Rattle.std.proofs.Common.{◌≡◌, ℕ, List, [], ◌∷◌, ◌++◌, Bool, true, false, Option, Some, None, Result, Ok, Err, refl, ap, sym, ◌∙◌, subst, inl, inr, ◌⊎◌}
+use Rattle.std.proofs.Common.{◌≡◌, ℕ, zero, suc, ◌<◌, List, [], ◌∷◌, ◌++◌, length, get_or, take, arith, append_assoc, append-nil, Bool, true, false, Option, Some, None, Result, Ok, Err, refl, ap, sym, ◌∙◌, subst, inl, inr, ◌⊎◌}
 use Rattle.std.specs.Prelude.{if◌then◌else◌}
 use Rattle.rwsp_text.specs.Lexemes.{Lexeme}
 use Rattle.rwsp_file.specs.Spelling.{FileField, Spell}
@@ -99,3 +99,15 @@ one_word awaited give u = next_at awaited u >>= (λ w. give w.0 >>= (λ x. Ok (x
 abbrev pub AllAfter : {X : Type 0} → (List X → X → Type 0) → List X → List X → Type 0
 AllAfter V all [] = Unit {0}
 AllAfter V all (x ∷ xs) = V all x × AllAfter V (all ++ x ∷ []) xs
+
+pub after_at : {X : Type 0} (V : List X → X → Type 0) (all xs : List X) → AllAfter V all xs → (i : ℕ) (d : X) → i < length xs → V (all ++ take i xs) (get_or xs i d)
+after_at V all [] h i d less = absurd (omega (arith, less))
+after_at V all (x ∷ xs) h zero d less = subst (λ es. V es x) (sym (append-nil all)) h.0
+after_at V all (x ∷ xs) h (suc n) d less = subst (λ es. V es (get_or xs n d)) (append_assoc all (x ∷ []) (take n xs)) (after_at V (all ++ x ∷ []) xs h.1 n d (omega (arith, less)))
+
+pub after_from : {X : Type 0} (V : List X → X → Type 0) (all xs : List X) → ((i : ℕ) (d : X) → i < length xs → V (all ++ take i xs) (get_or xs i d)) → AllAfter V all xs
+after_from V all [] h = tt
+after_from V all (x ∷ xs) h = (
+  subst (λ es. V es x) (append-nil all) (h 0 x (omega arith)),
+  after_from V (all ++ x ∷ []) xs (λ i d less. subst (λ es. V es (get_or xs i d)) (sym (append_assoc all (x ∷ []) (take i xs))) (h (suc i) d (omega (arith, less)))),
+)

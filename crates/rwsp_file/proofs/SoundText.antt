@@ -1,22 +1,25 @@
 -- All that is awaited of a text can be written, and what a word goes by is so of the instance.
-use Rattle.std.proofs.Common.{◌≡◌, ℕ, zero, suc, ◌+◌, ◌≤◌, List, [], ◌∷◌, ◌++◌, length, Result, refl, ap, sym, ◌∙◌, arith, append_assoc}
+use Rattle.std.proofs.Common.{◌≡◌, ℕ, zero, suc, ◌+◌, ◌≤◌, Option, Some, None, List, [], ◌∷◌, ◌++◌, length, Result, refl, ap, sym, ◌∙◌, arith, append_assoc}
 use Rattle.std.proofs.lemmas.List.{length-append}
-use Rattle.rwsp_terms.specs.Instance.{Instance}
+use Rattle.rwsp_terms.specs.Instance.{Instance, on_every_day}
 use Rattle.rwsp_terms.specs.declared.data.Bounds.{Bounds}
 use Rattle.rwsp_terms.specs.declared.data.ShiftRow.{ShiftRow}
 use Rattle.rwsp_terms.specs.declared.data.Symbol.{Symbol}
+use Rattle.rwsp_terms.specs.declared.data.Sequence.{Sequence}
 use Rattle.rwsp_file.specs.Spelling.{FileField}
-use Rattle.rwsp_file.specs.Reading.{Unread, limit_of, instance_from}
+use Rattle.rwsp_file.specs.Reading.{Unread, limit_of, kind_at, number_in_kind, instance_from}
 use Rattle.rwsp_file.specs.declared.fields.Size.{Size}
 use Rattle.rwsp_file.specs.declared.fields.Frame.{Frame}
 use Rattle.rwsp_file.specs.declared.misfit.Misfit.{Misfit}
+use Rattle.rwsp_file.specs.declared.misfit.Kind.{Kind}
+use Rattle.rwsp_file.specs.declared.misfit.Kind.TheVariants.{Pair, Triple}
 use Rattle.rwsp_file.specs.declared.misfit.Place.{Place}
-use Rattle.rwsp_file.specs.declared.misfit.Place.TheVariants.{Days, Shifts, Demand, LeastOff, GreatestOff, LeastWork, GreatestWork, Pairs, Triples, InPair, InTriple}
+use Rattle.rwsp_file.specs.declared.misfit.Place.TheVariants.{Days, Shifts, Demand, LeastOff, GreatestOff, LeastWork, GreatestWork, Sequences, InSequence}
 use Rattle.rwsp_file.proofs.FieldReaders.{limited_gives}
 use Rattle.rwsp_file.proofs.Forms.{IsOwnPlace, number_form, weeks_form, zero_word, zero_is_word, unit_word, unit_is_word, good_number, good_weeks, good_demand, good_symbol, HasRows, IsAny}
 use Rattle.rwsp_file.proofs.Awaited.{Awaited, Makes, IsSound, IsPart, row_part, many_part, many_found}
 use Rattle.rwsp_file.proofs.Awaited.Awaited.{End, Word, Row}
-use Rattle.rwsp_file.proofs.Parts.{make_size, make_bounds, make_frame, IsBlockPlace, bounds_part, demand_row_part, demand_row_is, demand_rows_part, demand_rows_is, demand_is, shift_rows_is, counts_part, frame_part, frame_is, pair_part, pair_is, triple_part, triple_is, triples_part, sequences_part, sequences_is, of_shifts, behind_frame, behind_shifts, behind_demand, behind_size, whole_text, days_place, shifts_place, least_off, greatest_off, least_work, greatest_work, pairs_place, triples_place}
+use Rattle.rwsp_file.proofs.Parts.{make_size, make_bounds, make_frame, IsBlockPlace, bounds_part, demand_row_part, demand_row_is, demand_rows_part, demand_rows_is, demand_is, shift_rows_is, counts_part, frame_part, frame_is, third_part, third_is, sequence_part, sequence_is, numbered_is, sequences_part, sequences_is, of_shifts, behind_frame, behind_shifts, behind_demand, behind_size, whole_text, days_place, shifts_place, least_off, greatest_off, least_work, greatest_work, count_place, count_part}
 
 -- what comes next makes only instances with Q
 abbrev Shows : {X : Type 0} → (X → Awaited) → (Instance → Type 0) → Type 0
@@ -67,8 +70,8 @@ sound_frame : (next : Frame → Awaited) → ((frame : Frame) → IsSound (next 
 sound_frame next more =
     sound_bounds LeastOff GreatestOff least_off greatest_off (λ off. bounds_part LeastWork GreatestWork least_work greatest_work (λ work. counts_part off work next)) (λ off.
     sound_bounds LeastWork GreatestWork least_work greatest_work (λ work. counts_part off work next) (λ work.
-    sound_from_zero Pairs 8 64 pairs_place (λ pairs. Word (number_form Triples (limit_of 9 0 64) triples_place) (λ triples. next (make_frame off work pairs triples))) (λ pairs.
-    sound_from_zero Triples 9 64 triples_place (λ triples. next (make_frame off work pairs triples)) (λ triples. more (make_frame off work pairs triples)))))
+    sound_from_zero (Sequences Pair) 8 64 (count_place Pair) (λ pairs. count_part Triple (λ triples. next (make_frame off work pairs triples))) (λ pairs.
+    sound_from_zero (Sequences Triple) 9 64 (count_place Triple) (λ triples. next (make_frame off work pairs triples)) (λ triples. more (make_frame off work pairs triples)))))
 
 -- demands
 
@@ -82,29 +85,24 @@ sound_demand_rows size next more =
 
 -- symbols of an instance
 
-sound_pair : (P : Instance) (pair : ℕ) (next : Symbol × Symbol → Awaited) → Shows next (HasRows P.shifts) → ((x : Symbol × Symbol) → IsSound (next x)) → IsSound (pair_part P pair next)
-sound_pair P pair next shows more = (
-  good_symbol (InPair pair 1) P.shifts,
-  λ Q fs m. let f = (pair_is P pair).found next fs Q m in shows f.0 Q f.1 f.4,
-  λ w x e. (good_symbol (InPair pair 2) P.shifts, λ Q fs m. shows (x, m.0) Q m.1 m.4, λ v y h. more (x, y)),
-)
+sound_third : (P : Instance) (kind : Kind) (number : ℕ) (next : Option Symbol → Awaited) → Shows next (HasRows P.shifts) → ((x : Option Symbol) → IsSound (next x)) → IsSound (third_part P kind number next)
+sound_third P Pair number next shows more = more None
+sound_third P Triple number next shows more = (good_symbol (InSequence Triple number 3) P.shifts, λ Q fs m. shows (Some m.0) Q m.1 m.4, λ w x e. more (Some x))
 
-sound_triple : (P : Instance) (triple : ℕ) (next : Symbol × Symbol × Symbol → Awaited) → Shows next (HasRows P.shifts) → ((x : Symbol × Symbol × Symbol) → IsSound (next x)) → IsSound (triple_part P triple next)
-sound_triple P triple next shows more = (
-  good_symbol (InTriple triple 1) P.shifts,
-  λ Q fs m. let f = (triple_is P triple).found next fs Q m in shows f.0 Q f.1 f.4,
+sound_sequence : (P : Instance) (kind : Kind) (number : ℕ) (next : Sequence → Awaited) → Shows next (HasRows P.shifts) → ((q : Sequence) → IsSound (next q)) → IsSound (sequence_part P kind number next)
+sound_sequence P kind number next shows more = (
+  good_symbol (InSequence kind number 1) P.shifts,
+  λ Q fs m. let f = (sequence_is P kind number).found next fs Q m in shows f.0 Q f.1 f.4,
   λ w x e. (
-    good_symbol (InTriple triple 2) P.shifts,
-    λ Q fs m. shows (x, m.0, m.4.0) Q m.4.1 m.4.4,
-    λ v y h. (good_symbol (InTriple triple 3) P.shifts, λ Q fs m. shows (x, y, m.0) Q m.1 m.4, λ u z i. more (x, y, z)),
+    good_symbol (InSequence kind number 2) P.shifts,
+    λ Q fs m. let f = (third_is P kind number).found (λ z. next (on_every_day x m.0 z)) m.1 Q m.4 in shows (on_every_day x m.0 f.0) Q f.1 f.4,
+    λ v y h. sound_third P kind number (λ z. next (on_every_day x y z)) (λ z. shows (on_every_day x y z)) (λ z. more (on_every_day x y z)),
   ),
 )
 
-sound_sequences : (P : Instance) (frame : Frame) (next : List (Symbol × Symbol) × List (Symbol × Symbol × Symbol) → Awaited) → Shows next (HasRows P.shifts) → ((s : List (Symbol × Symbol) × List (Symbol × Symbol × Symbol)) → IsSound (next s)) → IsSound (sequences_part P frame next)
-sound_sequences P frame next shows more =
-    sound_many (λ earlier. pair_is P (length earlier + 1)) (HasRows P.shifts) (λ earlier. sound_pair P (length earlier + 1)) frame.pairs [] (λ pairs. triples_part P frame.triples (λ triples. next (pairs, triples)))
-    (λ pairs Q fs m. let f = many_found (λ earlier. triple_is P (length earlier + 1)) frame.triples [] (λ triples. next (pairs, triples)) fs Q m in shows (pairs, f.0) Q f.1 f.5)
-    (λ pairs. sound_many (λ earlier. triple_is P (length earlier + 1)) (HasRows P.shifts) (λ earlier. sound_triple P (length earlier + 1)) frame.triples [] (λ triples. next (pairs, triples)) (λ triples. shows (pairs, triples)) (λ triples. more (pairs, triples)))
+sound_sequences : (P : Instance) (frame : Frame) (next : List Sequence → Awaited) → Shows next (HasRows P.shifts) → ((s : List Sequence) → IsSound (next s)) → IsSound (sequences_part P frame next)
+sound_sequences P frame next =
+    sound_many (λ earlier. numbered_is P frame.pairs (length earlier + 1)) (HasRows P.shifts) (λ earlier. let n = length earlier + 1 in sound_sequence P (kind_at frame.pairs n) (number_in_kind frame.pairs n)) (frame.pairs + frame.triples) [] next
 
 -- what the end of a text shows of its instance
 

@@ -1,16 +1,16 @@
 -- Steps of printing a canonical text.
-use Rattle.std.proofs.Common.{◌≡◌, ℕ, zero, suc, ◌+◌, ◌-◌, ◌<◌, ◌≤◌, List, [], ◌∷◌, ◌++◌, length, get_or, take, Some, Result, Ok, Err, refl, ap, sym, ◌∙◌, arith, map, append_assoc}
+use Rattle.std.proofs.Common.{◌≡◌, ℕ, zero, suc, ◌+◌, ◌-◌, ◌<◌, ◌≤◌, List, [], ◌∷◌, ◌++◌, length, get_or, take, Result, Ok, Err, refl, ap, sym, ◌∙◌, arith, map, append_assoc}
 use Rattle.std.specs.Prelude.{slice_get}
 use Rattle.std.specs.List.{flat_map, join_with_byte, All}
 use Rattle.std.specs.Result.{OnOk}
 use Rattle.std.proofs.lemmas.List.{take_more, take_all, map_push, flat_map_more, length-map}
 use Rattle.std.proofs.lemmas.List.Elements.{All-get_or}
 use Rattle.std.proofs.lemmas.Option.{slice_get-get_or}
-use Rattle.rwsp_terms.specs.Instance.{Instance, shift_demand, range_in, no_bounds, name_numbered, name_in}
+use Rattle.rwsp_terms.specs.Instance.{Instance, shift_demand, range_in, no_bounds}
 use Rattle.rwsp_terms.specs.declared.data.Bounds.{Bounds}
-use Rattle.rwsp_file.specs.Spelling.{FileField, size_lines, frame_lines, shift_fields, pair_fields, triple_fields}
+use Rattle.rwsp_file.specs.Spelling.{FileField, size_lines, frame_lines, shift_fields, sequence_fields}
 use Rattle.rwsp_file.specs.Spelling.FileField.{DemandField}
-use Rattle.rwsp_file.specs.Text.{line_words, file_line, demand_text, range_at, row_of_demand, row_of_shift, no_shift, problem_text}
+use Rattle.rwsp_file.specs.Text.{line_words, file_line, demand_text, range_at, row_of_demand, problem_text}
 use Rattle.std.proofs.lemmas.Grind.{flat_map-append}
 
 -- one more word of a line
@@ -81,21 +81,10 @@ range_there P k i less =
     let b : i + 1 - 1 ≡ i = omega arith in
     ap (λ n. range_in (slice_get P.demand n) (i + 1 - 1)) a ∙ ap (λ n. range_in (slice_get P.demand k) n) b ∙ ap (λ o. range_in o i) (slice_get-get_or P.demand k [] less)
 
-pub place_at : (k : ℕ) → k + 1 - 1 ≡ k
-place_at k = omega arith
-
-pub name_at : (P : Instance) (k : ℕ) → k < length P.shifts → name_numbered P (k + 1) ≡ (row_of_shift P k).name
-name_at P k less =
-    let next : k + 1 ≡ suc k = omega arith in
-    ap (name_numbered P) next ∙ ap name_in (slice_get-get_or P.shifts k no_shift less)
-
-pub row_of_place : (P : Instance) (k : ℕ) → k < length P.shifts → slice_get P.shifts (k + 1 - 1) ≡ Some (row_of_shift P k)
-row_of_place P k less = ap (slice_get P.shifts) (place_at k) ∙ slice_get-get_or P.shifts k no_shift less
-
 -- the parts of a text, one behind another
-parts : (A B C D E F : List (List FileField)) (a b c d e f : List ℕ) → a ≡ flat_map file_line A → b ≡ a ++ flat_map file_line B → c ≡ b ++ flat_map file_line C → d ≡ c ++ flat_map file_line D → e ≡ d ++ flat_map file_line E → f ≡ e ++ flat_map file_line F → f ≡ flat_map file_line (A ++ (B ++ (C ++ (D ++ (E ++ F)))))
-parts A B C D E F a b c d e f ha hb hc hd he hf = rw (hf, he, hd, hc, hb, ha) (simp (flat_map-append, append_assoc) refl)
+parts : (A B C D E : List (List FileField)) (a b c d e : List ℕ) → a ≡ flat_map file_line A → b ≡ a ++ flat_map file_line B → c ≡ b ++ flat_map file_line C → d ≡ c ++ flat_map file_line D → e ≡ d ++ flat_map file_line E → e ≡ flat_map file_line (A ++ (B ++ (C ++ (D ++ E))))
+parts A B C D E a b c d e ha hb hc hd he = rw (he, hd, hc, hb, ha) (simp (flat_map-append, append_assoc) refl)
 
-pub whole_text : (P : Instance) (a b c d e f : List ℕ) → a ≡ flat_map file_line (size_lines P) → b ≡ a ++ flat_map file_line (map (map DemandField) P.demand) → c ≡ b ++ flat_map file_line (map shift_fields P.shifts) →
-    d ≡ c ++ flat_map file_line (frame_lines P) → e ≡ d ++ flat_map file_line (map (pair_fields P) P.pairs) → f ≡ e ++ flat_map file_line (map (triple_fields P) P.triples) → f ≡ problem_text P
-whole_text P = parts (size_lines P) (map (map DemandField) P.demand) (map shift_fields P.shifts) (frame_lines P) (map (pair_fields P) P.pairs) (map (triple_fields P) P.triples)
+pub whole_text : (P : Instance) (a b c d e : List ℕ) → a ≡ flat_map file_line (size_lines P) → b ≡ a ++ flat_map file_line (map (map DemandField) P.demand) → c ≡ b ++ flat_map file_line (map shift_fields P.shifts) →
+    d ≡ c ++ flat_map file_line (frame_lines P) → e ≡ d ++ flat_map file_line (map (sequence_fields P) P.sequences) → e ≡ problem_text P
+whole_text P = parts (size_lines P) (map (map DemandField) P.demand) (map shift_fields P.shifts) (frame_lines P) (map (sequence_fields P) P.sequences)

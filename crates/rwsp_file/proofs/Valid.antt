@@ -1,5 +1,5 @@
 -- What reading shows of an instance is that it keeps the limits.
-use Rattle.std.proofs.Common.{◌≡◌, ◌≢◌, ℕ, zero, suc, ◌<◌, ◌≤◌, List, [], ◌∷◌, ◌++◌, length, get_or, take, Bool, true, false, not, ◌&&◌, refl, ap, sym, ◌∙◌, arith, nat_le, map, subst, append_assoc, append-nil}
+use Rattle.std.proofs.Common.{◌≡◌, ◌≢◌, ℕ, ◌+◌, ◌<◌, ◌≤◌, List, [], ◌∷◌, ◌++◌, length, get_or, take, Bool, true, false, not, ◌&&◌, refl, ap, sym, ◌∙◌, arith, nat_le, map, subst, inl, inr}
 use Rattle.std.specs.Prelude.{All, AllPairs}
 use Rattle.std.specs.List.{flat_map, list_any, AllByRecursion}
 use Rattle.std.specs.Str.{bytes_eq}
@@ -8,37 +8,27 @@ use Rattle.std.proofs.lemmas.List.{get_or-take, length-take-le, get_or_default}
 use Rattle.std.proofs.lemmas.List.Folds.{list_any_at, list_any_none}
 use Rattle.std.proofs.lemmas.Slice.Eq.{bytes_eq-Decides}
 use Rattle.rwsp_text.specs.Lexemes.{Lexeme}
-use Rattle.rwsp_terms.specs.Instance.{Instance, off_name, shift_count}
+use Rattle.rwsp_terms.specs.Instance.{Instance, off_name, shift_count, IsSymbol}
+use Rattle.rwsp_terms.specs.Window.{symbols_of}
 use Rattle.rwsp_terms.specs.declared.limits.TheConstants.{LONGEST_NAME}
 use Rattle.rwsp_terms.specs.declared.data.ShiftRow.{ShiftRow}
 use Rattle.rwsp_terms.specs.declared.data.Symbol.{Symbol}
-use Rattle.rwsp_terms.proofs.Elements.{all_from}
+use Rattle.rwsp_terms.proofs.Elements.{all_from, all_to}
 use Rattle.rwsp_terms.proofs.SymbolNames.{other_bytes, symbol_only}
 use Rattle.rwsp_model.specs.Validity.{IsValid, KeepsLimits, IsShiftName, IsSmallRange}
+use Rattle.rwsp_model.specs.Sequences.{part_of, pair_count}
+use Rattle.rwsp_model.proofs.Sequences.{counts_are_all, in_part}
 use Rattle.rwsp_model.proofs.Limits.{keeps_valid}
 use Rattle.rwsp_model.proofs.Names.{IsWord}
 use Rattle.rwsp_file.specs.Spelling.{Spell, file_fields}
 use Rattle.rwsp_file.specs.Spelling.FileField.{DemandField, ShiftField}
-use Rattle.rwsp_file.specs.Reading.{is_new_name}
-use Rattle.rwsp_file.proofs.Readers.{AllAfter}
+use Rattle.rwsp_file.specs.Reading.{is_new_name, kind_at}
+use Rattle.rwsp_file.proofs.Readers.{AllAfter, after_at, after_from}
 use Rattle.rwsp_file.proofs.RowReader.{IsGoodRow}
 use Rattle.rwsp_file.proofs.Forms.{IsNamed}
-use Rattle.rwsp_file.proofs.Parts.{IsRead, IsDemandRow, IsPair, IsTriple, size_of, size_fields, fields_in_parts, fields_from_demand, fields_from_shifts, fields_from_frame}
-use Rattle.rwsp_file.proofs.WordForms.{IsWordField, AreWords, names_are_words, all_front, all_mapped}
-
--- lists each of whose elements has something in sight of the earlier ones
-
-after_at : {X : Type 0} (V : List X → X → Type 0) (all xs : List X) → AllAfter V all xs → (i : ℕ) (d : X) → i < length xs → V (all ++ take i xs) (get_or xs i d)
-after_at V all [] h i d less = absurd (omega (arith, less))
-after_at V all (x ∷ xs) h zero d less = subst (λ es. V es x) (sym (append-nil all)) h.0
-after_at V all (x ∷ xs) h (suc n) d less = subst (λ es. V es (get_or xs n d)) (append_assoc all (x ∷ []) (take n xs)) (after_at V (all ++ x ∷ []) xs h.1 n d (omega (arith, less)))
-
-after_from : {X : Type 0} (V : List X → X → Type 0) (all xs : List X) → ((i : ℕ) (d : X) → i < length xs → V (all ++ take i xs) (get_or xs i d)) → AllAfter V all xs
-after_from V all [] h = tt
-after_from V all (x ∷ xs) h = (
-  subst (λ es. V es x) (append-nil all) (h 0 x (omega arith)),
-  after_from V (all ++ x ∷ []) xs (λ i d less. subst (λ es. V es (get_or xs i d)) (sym (append_assoc all (x ∷ []) (take i xs))) (h (suc i) d (omega (arith, less)))),
-)
+use Rattle.rwsp_file.proofs.PairsFirst.{symbols_in, in_pairs, in_triples}
+use Rattle.rwsp_file.proofs.Parts.{IsRead, IsDemandRow, IsKnown, known_listed, frame_of, size_of, size_fields, fields_in_parts, fields_from_demand, fields_from_shifts, fields_from_frame}
+use Rattle.rwsp_file.proofs.WordForms.{IsWordField, AreWords, all_weaker, names_are_words, all_front, all_mapped}
 
 -- a new name, in plain words
 no_other : (name : List ℕ) (earlier : List ShiftRow) → is_new_name earlier name ≡ true → (length name ≤ 32) × (name ≢ off_name) × (list_any (λ row. bytes_eq name row.name) earlier ≡ false)
@@ -78,8 +68,10 @@ pub read_valid : (P : Instance) → IsRead P → All (λ (row : ShiftRow). IsWor
 read_valid P r words = keeps_valid P (record {
   rows = r.rows;
   long_rows = λ i d less. (after_at (λ _. IsDemandRow P.days) [] P.demand r.demand i d less).0;
-  known_pairs = λ i d less. let x = after_at (λ _. IsPair P) [] P.pairs r.pairs i d less in (x.0.0, x.1.0);
-  known_triples = λ i d less. let x = after_at (λ _. IsTriple P) [] P.triples r.triples i d less in (x.0.0, x.1.0, x.2.0);
+  sequences = λ i d less.
+      let q = get_or P.sequences i d in
+      let known = after_at (λ earlier. IsKnown P (kind_at (pair_count P) (length earlier + 1))) [] P.sequences r.sequences.1 i d less in
+      (all_from (IsSymbol P) (symbols_of q) (all_weaker (IsNamed P) (IsSymbol P) (λ x named. named.0) (symbols_of q) known.0), known.2);
   some_days = r.size.days.0;
   few_days = r.size.days.1;
   some_weeks = r.size.weeks.0.0;
@@ -92,8 +84,7 @@ read_valid P r words = keeps_valid P (record {
   blocks = λ i d less. (good_row i d less).blocks;
   off = r.frame.off;
   work = r.frame.work;
-  few_pairs = r.frame.pairs;
-  few_triples = r.frame.triples;
+  listed = record { ordered = (known_listed P (frame_of P) P.sequences r.sequences).0; few_pairs = r.frame.pairs; few_triples = r.frame.triples };
   names = λ i d less. record {
     some = (words i d less).some;
     few = (no_other (get_or P.shifts i d).name (take i P.shifts) (good_row i d less).name).0;
@@ -130,9 +121,19 @@ keeps_read P k = record {
   rows = k.rows;
   demand = after_from (λ _. IsDemandRow P.days) [] P.demand (λ i d less. (k.long_rows i d less, after_from (λ _. IsSmallRange) [] (get_or P.demand i d) (k.demand i d less)));
   shifts = after_from IsGoodRow [] P.shifts (λ i d less. record { name = new_name P.shifts i d less (k.names i d less) k.distinct; times = k.times i d less; blocks = k.blocks i d less });
-  frame = record { off = k.off; work = k.work; pairs = k.few_pairs; triples = k.few_triples };
-  pairs = after_from (λ _. IsPair P) [] P.pairs (λ i d less. let x = k.known_pairs i d less in (named P k _ x.0, named P k _ x.1));
-  triples = after_from (λ _. IsTriple P) [] P.triples (λ i d less. let x = k.known_triples i d less in (named P k _ x.0, named P k _ x.1, named P k _ x.2));
+  frame = record { off = k.off; work = k.work; pairs = k.listed.few_pairs; triples = k.listed.few_triples };
+  sequences = (
+    sym (counts_are_all P.sequences),
+    after_from (λ earlier. IsKnown P (kind_at (pair_count P) (length earlier + 1))) [] P.sequences (λ i d less.
+        let q = get_or P.sequences i d in
+        let known = k.sequences i d less in
+        let long : length (take i P.sequences) ≡ i = length-take-le i P.sequences (omega (arith, less)) in
+        let kind : part_of q ≡ symbols_in (kind_at (pair_count P) (i + 1)) = elim (in_part P.sequences k.listed.ordered i d less) [
+          | inl first ↦ first.1 ∙ sym (in_pairs (pair_count P) i first.0)
+          | inr later ↦ later.1 ∙ sym (in_triples (pair_count P) i later.0)
+        ] in
+        (all_to (IsNamed P) (symbols_of q) (λ j e within. named P k _ (known.0 j e within)), subst (λ n. part_of q ≡ symbols_in (kind_at (pair_count P) (n + 1))) (sym long) kind, known.1)),
+  );
 }
 
 -- the names of an instance whose fields are spelled by words are words

@@ -2,14 +2,14 @@
 use Rattle.std.specs.Prelude.{◌≡◌, ◌≢◌, ℕ, ◌+◌, ◌*◌, ◌<◌, ◌≤◌, List, [], ◌∷◌, ◌++◌, length, ◌⊎◌, Some, None, IsTrue, ◌||◌, ◌==◌}
 use Rattle.rwsp_text.specs.Lexemes.{Lexeme, lexemes, lexemes_from, last_line, is_space}
 use Rattle.rwsp_text.specs.Numbers.{number_of}
-use Rattle.rwsp_terms.specs.declared.limits.TheConstants.{MOST_DAYS, MOST_WEEKS, MOST_CELLS, MOST_SHIFTS, GREATEST_BOUND, MOST_SEQUENCES, LONGEST_NAME}
+use Rattle.rwsp_terms.specs.declared.limits.TheConstants.{MOST_DAYS, MOST_WEEKS, MOST_CELLS, MOST_SHIFTS, GREATEST_BOUND, LONGEST_NAME}
 use Rattle.rwsp_terms.specs.declared.data.Bounds.{Bounds}
 use Rattle.rwsp_terms.specs.Instance.{Instance, off_name, name_numbered, shift_count, symbol_of}
 use Rattle.rwsp_file.specs.Spelling.{SpellsProblem, IsDemand, on_line}
-use Rattle.rwsp_file.specs.Reading.{first_misfit, limit_of}
+use Rattle.rwsp_file.specs.Reading.{first_misfit, limit_of, sequence_limit}
 use Rattle.rwsp_file.specs.declared.limits.Limit.{Limit}
 use Rattle.rwsp_file.specs.declared.misfit.Place.{Place}
-use Rattle.rwsp_file.specs.declared.misfit.Place.TheVariants.{Days, Weeks, Shifts, Demand, ShiftName, Start, Minutes, LeastBlock, Pairs, Triples}
+use Rattle.rwsp_file.specs.declared.misfit.Place.TheVariants.{Days, Weeks, Shifts, Demand, ShiftName, Start, Minutes, LeastBlock, Sequences}
 use Rattle.rwsp_file.specs.declared.misfit.Fault.{Fault}
 use Rattle.rwsp_file.specs.declared.misfit.Fault.TheVariants.{NoNumber, Beyond, TooManyDays, WordCount, LongName, OffName, TakenName, NoSymbol, NotEnd}
 use Rattle.rwsp_file.specs.declared.misfit.Misfit.{Misfit}
@@ -65,8 +65,7 @@ limit_at Shifts = limit_of 4 1 MOST_SHIFTS
 limit_at (Demand shift day) = limit_of 5 0 MOST_WEEKS
 limit_at (Start shift) = limit_of 6 0 GREATEST_BOUND
 limit_at (Minutes shift) = limit_of 6 0 GREATEST_BOUND
-limit_at Pairs = limit_of 8 0 MOST_SEQUENCES
-limit_at Triples = limit_of 9 0 MOST_SEQUENCES
+limit_at (Sequences kind) = sequence_limit kind
 limit_at awaited = limit_of 7 0 GREATEST_BOUND
 
 -- the number is not within the limit

@@ -6,10 +6,10 @@ use Rattle.std.specs.Char.{is_ascii_digit}
 use Rattle.std.specs.Str.{bytes_eq}
 use Rattle.rwsp_text.specs.Lexemes.{Lexeme}
 use Rattle.rwsp_text.specs.Numbers.{number_of}
-use Rattle.rwsp_terms.specs.declared.limits.TheConstants.{MOST_SEQUENCES}
 use Rattle.rwsp_file.specs.declared.fields.Size.{Size}
+use Rattle.rwsp_file.specs.declared.misfit.Kind.TheVariants.{Pair, Triple}
 use Rattle.rwsp_file.specs.declared.misfit.Place.{Place}
-use Rattle.rwsp_file.specs.declared.misfit.Place.TheVariants.{Days, Weeks, Shifts, Demand, ShiftLine, Start, LeastOff, GreatestOff, LeastWork, GreatestWork, Pairs, Triples, InPair, InTriple}
+use Rattle.rwsp_file.specs.declared.misfit.Place.TheVariants.{Days, Weeks, Shifts, Demand, ShiftLine, Start, LeastOff, GreatestOff, LeastWork, GreatestWork, Sequences, InSequence}
 use Rattle.rwsp_file.specs.declared.misfit.Fault.{Fault}
 use Rattle.rwsp_file.specs.declared.misfit.Fault.TheVariants.{NoNumber, WordCount, NoSymbol, NotEnd}
 use Rattle.rwsp_file.specs.declared.misfit.Misfit.{Misfit}
@@ -17,7 +17,7 @@ use Rattle.rwsp_file.specs.declared.misfit.Misfit.TheVariants.{TextEnds, BadWord
 use Rattle.rwsp_file.specs.declared.likely.Counts.{Counts}
 use Rattle.rwsp_file.specs.declared.likely.Cause.{Cause}
 use Rattle.rwsp_file.specs.declared.likely.Cause.TheVariants.{ByteOrderMark, Utf16, NoPlainText, NoBreakSpace, Commas, Clock, Colon, RangeForm, DecimalPoint, OtherLength, MissingRow, NoComment, SizesFirst, TwoWordName, FrameNumbers, Announced, NoWords}
-use Rattle.rwsp_file.specs.Reading.{Unread, ◌>>=◌, is_dot, limit_of, limited, next_at, number_at, bounds_at, size_at, demand_rows_at, shift_rows_at}
+use Rattle.rwsp_file.specs.Reading.{Unread, ◌>>=◌, is_dot, sequence_limit, limited, next_at, count_at, bounds_at, size_at, demand_rows_at, shift_rows_at}
 
 -- the first of two causes that is there
 abbrev pub or_cause : Option Cause → Option Cause → Option Cause
@@ -156,9 +156,9 @@ counts_at u = do
   shifts ← shifts_skipped u
   off ← bounds_at LeastOff GreatestOff shifts.1
   work ← bounds_at LeastWork GreatestWork off.1
-  w ← next_at Pairs work.1
-  pairs ← limited Pairs (limit_of 8 0 MOST_SEQUENCES) w.0
-  triples ← number_at Triples (limit_of 9 0 MOST_SEQUENCES) w.1
+  w ← next_at (Sequences Pair) work.1
+  pairs ← limited (Sequences Pair) (sequence_limit Pair) w.0
+  triples ← count_at Triple w.1
   Ok (record { line = w.0.line; pairs = pairs; triples = triples.0 })
 
 abbrev pub announced : Result Counts Misfit → Option Cause
@@ -180,8 +180,7 @@ own_cause u LeastOff w = Some FrameNumbers
 own_cause u GreatestOff w = Some FrameNumbers
 own_cause u LeastWork w = Some FrameNumbers
 own_cause u GreatestWork w = Some FrameNumbers
-own_cause u Pairs w = Some FrameNumbers
-own_cause u Triples w = Some FrameNumbers
+own_cause u (Sequences kind) w = Some FrameNumbers
 own_cause u awaited w = None
 
 -- what a word shows that should be a number, by its place
@@ -193,8 +192,7 @@ place_cause u awaited w =
 -- what is likely where the text ends too early
 abbrev pub end_cause : Unread → Place → Option Cause
 end_cause u Days = Some NoWords
-end_cause u (InPair pair symbol) = announced (counts_at u)
-end_cause u (InTriple triple symbol) = announced (counts_at u)
+end_cause u (InSequence kind number symbol) = announced (counts_at u)
 end_cause u awaited = None
 
 -- what is likely where a word is refused

@@ -1,15 +1,16 @@
 -- Reading the lexemes of a text one after another, up to the first failure.
-use Rattle.std.specs.Prelude.{ℕ, zero, suc, ◌*◌, List, [], ◌∷◌, ◌++◌, length, Option, Some, None, Result, Ok, Err, Bool, not, ◌&&◌, ◌==◌, nat_le, if◌then◌else◌, position, unwrap_or, ◌+◌}
+use Rattle.std.specs.Prelude.{ℕ, zero, suc, ◌*◌, ◌-◌, List, [], ◌∷◌, ◌++◌, length, Option, Some, None, Result, Ok, Err, Bool, not, ◌&&◌, ◌==◌, nat_le, if◌then◌else◌, position, unwrap_or, ◌+◌}
 use Rattle.std.specs.Option.{option_map}
 use Rattle.std.specs.List.{list_any, before_first, after_first}
 use Rattle.std.specs.Str.{bytes_eq}
 use Rattle.rwsp_text.specs.Lexemes.{Lexeme, lexemes, last_line}
 use Rattle.rwsp_text.specs.Numbers.{number_of}
 use Rattle.rwsp_terms.specs.declared.limits.TheConstants.{MOST_DAYS, MOST_WEEKS, MOST_CELLS, MOST_SHIFTS, LONGEST_NAME, GREATEST_BOUND, MOST_SEQUENCES}
-use Rattle.rwsp_terms.specs.Instance.{Instance, symbol_among, off_name}
+use Rattle.rwsp_terms.specs.Instance.{Instance, symbol_among, off_name, on_every_day}
 use Rattle.rwsp_terms.specs.declared.data.Bounds.{Bounds}
 use Rattle.rwsp_terms.specs.declared.data.ShiftRow.{ShiftRow}
 use Rattle.rwsp_terms.specs.declared.data.Symbol.{Symbol}
+use Rattle.rwsp_terms.specs.declared.data.Sequence.{Sequence}
 use Rattle.rwsp_model.specs.Validity.{is_between, is_small_range}
 use Rattle.rwsp_file.specs.Spelling.{on_line, past_line}
 use Rattle.rwsp_file.specs.declared.fields.Size.{Size}
@@ -17,8 +18,10 @@ use Rattle.rwsp_file.specs.declared.fields.Frame.{Frame}
 use Rattle.rwsp_file.specs.declared.row.RowWords.{RowWords}
 use Rattle.rwsp_file.specs.declared.limits.Limit.{Limit}
 use Rattle.rwsp_file.specs.declared.refusal.FileRefusal.{FileRefusal}
+use Rattle.rwsp_file.specs.declared.misfit.Kind.{Kind}
+use Rattle.rwsp_file.specs.declared.misfit.Kind.TheVariants.{Pair, Triple}
 use Rattle.rwsp_file.specs.declared.misfit.Place.{Place}
-use Rattle.rwsp_file.specs.declared.misfit.Place.TheVariants.{Days, Weeks, Shifts, Demand, ShiftLine, ShiftName, Start, Minutes, LeastBlock, GreatestBlock, LeastOff, GreatestOff, LeastWork, GreatestWork, Pairs, Triples, InPair, InTriple, TextEnd}
+use Rattle.rwsp_file.specs.declared.misfit.Place.TheVariants.{Days, Weeks, Shifts, Demand, ShiftLine, ShiftName, Start, Minutes, LeastBlock, GreatestBlock, LeastOff, GreatestOff, LeastWork, GreatestWork, Sequences, InSequence, TextEnd}
 use Rattle.rwsp_file.specs.declared.misfit.Fault.{Fault}
 use Rattle.rwsp_file.specs.declared.misfit.Fault.TheVariants.{NoNumber, Beyond, TooManyDays, WordCount, LongName, OffName, TakenName, NoSymbol, NotEnd}
 use Rattle.rwsp_file.specs.declared.misfit.Misfit.{Misfit}
@@ -216,12 +219,20 @@ bounds_at least_place greatest_place u = do
   greatest ← number_at greatest_place (limit_of 7 0 GREATEST_BOUND) least.1
   Ok (record { least = least.0; greatest = greatest.0 }, greatest.1)
 
+-- the limit on how many sequences of a kind are forbidden
+abbrev pub sequence_limit : Kind → Limit
+sequence_limit Pair = limit_of 8 0 MOST_SEQUENCES
+sequence_limit Triple = limit_of 9 0 MOST_SEQUENCES
+
+abbrev pub count_at : Kind → Unread → Result (ℕ × Unread) Misfit
+count_at kind u = number_at (Sequences kind) (sequence_limit kind) u
+
 unfoldable pub frame_at : Unread → Result (Frame × Unread) Misfit
 frame_at u = do
   off ← bounds_at LeastOff GreatestOff u
   work ← bounds_at LeastWork GreatestWork off.1
-  pairs ← number_at Pairs (limit_of 8 0 MOST_SEQUENCES) work.1
-  triples ← number_at Triples (limit_of 9 0 MOST_SEQUENCES) pairs.1
+  pairs ← count_at Pair work.1
+  triples ← count_at Triple pairs.1
   Ok (record { off = off.0; work = work.0; pairs = pairs.0; triples = triples.0 }, triples.1)
 
 unfoldable pub symbol_at : Place → List ShiftRow → Unread → Result (Symbol × Unread) Misfit
@@ -230,35 +241,37 @@ symbol_at awaited rows u = do
   x ← or_refuse (symbol_among rows w.0.text) (BadWord awaited w.0 NoSymbol)
   Ok (x, w.1)
 
-unfoldable pub pair_at : List ShiftRow → ℕ → Unread → Result ((Symbol × Symbol) × Unread) Misfit
-pair_at rows pair u = do
-  x ← symbol_at (InPair pair 1) rows u
-  y ← symbol_at (InPair pair 2) rows x.1
-  Ok ((x.0, y.0), y.1)
+-- the third symbol of a sequence, where its kind has one
+unfoldable pub third_at : List ShiftRow → Kind → ℕ → Unread → Result (Option Symbol × Unread) Misfit
+third_at rows Pair number u = Ok (None, u)
+third_at rows Triple number u = do
+  x ← symbol_at (InSequence Triple number 3) rows u
+  Ok (Some x.0, x.1)
 
-unfoldable pub triple_at : List ShiftRow → ℕ → Unread → Result ((Symbol × Symbol × Symbol) × Unread) Misfit
-triple_at rows triple u = do
-  x ← symbol_at (InTriple triple 1) rows u
-  y ← symbol_at (InTriple triple 2) rows x.1
-  z ← symbol_at (InTriple triple 3) rows y.1
-  Ok ((x.0, y.0, z.0), z.1)
+-- the sequence that has the number among those of its kind
+unfoldable pub sequence_at : List ShiftRow → Kind → ℕ → Unread → Result (Sequence × Unread) Misfit
+sequence_at rows kind number u = do
+  first ← symbol_at (InSequence kind number 1) rows u
+  second ← symbol_at (InSequence kind number 2) rows first.1
+  third ← third_at rows kind number second.1
+  Ok (on_every_day first.0 second.0 third.0, third.1)
 
-abbrev pub pairs_at : List ShiftRow → ℕ → Unread → Result (List (Symbol × Symbol) × Unread) Misfit
-pairs_at rows count u = many (each (pair_at rows)) count [] u
+-- the kind of the sequence that has the number among all, where the pairs come first, and its number in its kind
+abbrev pub kind_at : (pairs number : ℕ) → Kind
+kind_at pairs number = if nat_le number pairs then Pair else Triple
 
-abbrev pub triples_at : List ShiftRow → ℕ → Unread → Result (List (Symbol × Symbol × Symbol) × Unread) Misfit
-triples_at rows count u = many (each (triple_at rows)) count [] u
+abbrev pub number_in_kind : (pairs number : ℕ) → ℕ
+number_in_kind pairs number = if nat_le number pairs then number else number - pairs
 
--- the forbidden pairs and triples, with which a text ends
-unfoldable pub sequences_at : List ShiftRow → Frame → Unread
-    → Result ((List (Symbol × Symbol) × List (Symbol × Symbol × Symbol)) × Unread) Misfit
-sequences_at rows frame u = do
-  pairs ← pairs_at rows frame.pairs u
-  triples ← triples_at rows frame.triples pairs.1
-  Ok ((pairs.0, triples.0), triples.1)
+abbrev pub numbered_at : List ShiftRow → (pairs number : ℕ) → Unread → Result (Sequence × Unread) Misfit
+numbered_at rows pairs number u = sequence_at rows (kind_at pairs number) (number_in_kind pairs number) u
+
+-- the forbidden sequences, with which a text ends
+abbrev pub sequences_at : List ShiftRow → Frame → Unread → Result (List Sequence × Unread) Misfit
+sequences_at rows frame u = many (each (numbered_at rows frame.pairs)) (frame.pairs + frame.triples) [] u
 
 abbrev pub instance_from : Size → List (List Bounds) → List ShiftRow → Frame
-    → List (Symbol × Symbol) × List (Symbol × Symbol × Symbol) → Instance
+    → List Sequence → Instance
 instance_from size demand shifts frame sequences = record {
   days = size.days;
   weeks = size.weeks;
@@ -266,8 +279,7 @@ instance_from size demand shifts frame sequences = record {
   shifts = shifts;
   off = frame.off;
   work = frame.work;
-  pairs = sequences.0;
-  triples = sequences.1;
+  sequences = sequences;
 }
 
 -- all parts of a text

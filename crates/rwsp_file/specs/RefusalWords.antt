@@ -5,8 +5,10 @@ use Rattle.std.specs.Option.{option_map}
 use Rattle.std.specs.Fmt.{decimal}
 use Rattle.rwsp_terms.specs.declared.limits.TheConstants.{MOST_CELLS, LONGEST_NAME}
 use Rattle.rwsp_file.specs.declared.limits.Limit.{Limit}
+use Rattle.rwsp_file.specs.declared.misfit.Kind.{Kind}
+use Rattle.rwsp_file.specs.declared.misfit.Kind.TheVariants.{Pair, Triple}
 use Rattle.rwsp_file.specs.declared.misfit.Place.{Place}
-use Rattle.rwsp_file.specs.declared.misfit.Place.TheVariants.{Days, Weeks, Shifts, Demand, ShiftLine, ShiftName, Start, Minutes, LeastBlock, GreatestBlock, LeastOff, GreatestOff, LeastWork, GreatestWork, Pairs, Triples, InPair, InTriple, TextEnd}
+use Rattle.rwsp_file.specs.declared.misfit.Place.TheVariants.{Days, Weeks, Shifts, Demand, ShiftLine, ShiftName, Start, Minutes, LeastBlock, GreatestBlock, LeastOff, GreatestOff, LeastWork, GreatestWork, Sequences, InSequence, TextEnd}
 use Rattle.rwsp_file.specs.declared.misfit.Fault.{Fault}
 use Rattle.rwsp_file.specs.declared.misfit.Fault.TheVariants.{Beyond, TooManyDays, WordCount, LongName, OffName, TakenName, NoSymbol}
 use Rattle.rwsp_file.specs.declared.misfit.Misfit.{Misfit}
@@ -33,6 +35,10 @@ byte_text b =
 abbrev pub shown_word : List ℕ → List ℕ
 shown_word word = flat_map byte_text word
 
+abbrev pub kind_text : Kind → List ℕ
+kind_text Pair = codes "pair"
+kind_text Triple = codes "triple"
+
 -- what a place of a problem's text is for
 abbrev pub place_text : Place → List ℕ
 place_text Days = codes "the number of days"
@@ -49,10 +55,9 @@ place_text LeastOff = codes "the least block of days off"
 place_text GreatestOff = codes "the greatest block of days off"
 place_text LeastWork = codes "the least block of work"
 place_text GreatestWork = codes "the greatest block of work"
-place_text Pairs = codes "the number of forbidden pairs"
-place_text Triples = codes "the number of forbidden triples"
-place_text (InPair pair symbol) = codes "symbol " ++ decimal symbol ++ codes " of forbidden pair " ++ decimal pair
-place_text (InTriple triple symbol) = codes "symbol " ++ decimal symbol ++ codes " of forbidden triple " ++ decimal triple
+place_text (Sequences kind) = codes "the number of forbidden " ++ kind_text kind ++ codes "s"
+place_text (InSequence kind number symbol) =
+    codes "symbol " ++ decimal symbol ++ codes " of forbidden " ++ kind_text kind ++ codes " " ++ decimal number
 place_text TextEnd = codes "the end of the text"
 
 -- from which number to which a place may have them

@@ -4,10 +4,12 @@ use Rattle.std.specs.List.{flat_map, prefix_len}
 use Rattle.rwsp_text.specs.Lexemes.{Lexeme, lexemes}
 use Rattle.rwsp_text.specs.Numbers.{number_of}
 use Rattle.rwsp_terms.specs.Instance.{Instance, name_of}
+use Rattle.rwsp_terms.specs.Window.{symbols_of}
 use Rattle.rwsp_model.specs.Validity.{IsValid}
+use Rattle.rwsp_model.specs.Sequences.{pair_count, triple_count}
 use Rattle.rwsp_terms.specs.declared.data.Bounds.{Bounds}
 use Rattle.rwsp_terms.specs.declared.data.ShiftRow.{ShiftRow}
-use Rattle.rwsp_terms.specs.declared.data.Symbol.{Symbol}
+use Rattle.rwsp_terms.specs.declared.data.Sequence.{Sequence}
 
 -- a line of the text of an instance is a row of these: a number, the demand of a shift on a day, a shift, a name in a
 -- sequence
@@ -30,11 +32,8 @@ bounds_fields b = number_fields (b.least ∷ b.greatest ∷ [])
 abbrev pub shift_fields : ShiftRow → List FileField
 shift_fields row = ShiftField row ∷ []
 
-abbrev pub pair_fields : Instance → Symbol × Symbol → List FileField
-pair_fields P x = name_fields (name_of P x.0 ∷ name_of P x.1 ∷ [])
-
-abbrev pub triple_fields : Instance → Symbol × Symbol × Symbol → List FileField
-triple_fields P x = name_fields (name_of P x.0 ∷ name_of P x.1 ∷ name_of P x.2 ∷ [])
+abbrev pub sequence_fields : Instance → Sequence → List FileField
+sequence_fields P q = name_fields (map (name_of P) (symbols_of q))
 
 -- a line each for the days, the weeks and the number of shifts
 abbrev pub size_lines : Instance → List (List FileField)
@@ -42,7 +41,7 @@ size_lines P = map (λ n. number_fields (n ∷ [])) (P.days ∷ P.weeks ∷ leng
 
 -- a line each for the bounds of days off, those of work, and the numbers of pairs and triples
 abbrev pub frame_lines : Instance → List (List FileField)
-frame_lines P = bounds_fields P.off ∷ bounds_fields P.work ∷ number_fields (length P.pairs ∷ length P.triples ∷ []) ∷ []
+frame_lines P = bounds_fields P.off ∷ bounds_fields P.work ∷ number_fields (pair_count P ∷ triple_count P ∷ []) ∷ []
 
 -- the lines of an instance, in order
 abbrev pub file_lines : Instance → List (List FileField)
@@ -51,8 +50,7 @@ file_lines P =
     ++ (map (map DemandField) P.demand
     ++ (map shift_fields P.shifts
     ++ (frame_lines P
-    ++ (map (pair_fields P) P.pairs
-    ++ map (triple_fields P) P.triples))))
+    ++ map (sequence_fields P) P.sequences)))
 
 -- the fields of these lines, which may stand on other lines
 abbrev pub file_fields : Instance → List FileField

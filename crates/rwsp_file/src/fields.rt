@@ -1,13 +1,13 @@
 // Reading the fields of a text in their order.
 ghost use Rattle.std.specs.Prelude.{◌≡◌, IfOk, ◌≤◌};
-ghost use Rattle.rwsp_terms.specs.declared.limits.TheConstants.{MOST_DAYS, MOST_SHIFTS};
-ghost use Rattle.rwsp_file.specs.Reading.{limited_weeks, weeks_at, size_at, demand_at, demand_row_at, demand_rows_at, frame_at};
+ghost use Rattle.rwsp_terms.specs.declared.limits.TheConstants.{MOST_DAYS, MOST_SHIFTS, MOST_SEQUENCES};
+ghost use Rattle.rwsp_file.specs.Reading.{limited_weeks, weeks_at, size_at, demand_at, demand_row_at, demand_rows_at, count_at, frame_at};
 ghost use Rattle.rwsp_file.specs.Reads.{ReadsTokens, ReadsUnless};
 
 use crate::cursor::{Cursor, Lexeme};
 use crate::demand::demand;
-use crate::limits::{CELLS, DAYS, DEMAND, PAIRS, SHIFTS, TRIPLES, WEEKS};
-use crate::misfit::{Fault, Misfit, Place};
+use crate::limits::{CELLS, DAYS, DEMAND, SHIFTS, WEEKS, sequence_limit};
+use crate::misfit::{Fault, Kind, Misfit, Place};
 use rwsp_model::Fail;
 use rwsp_terms::{Bounds, DemandRow};
 use std::alloc::Global;
@@ -66,15 +66,24 @@ pub fn read_size<'a>(cursor: &mut Cursor<'a>) -> Result<Size, Misfit<'a>>
     })
 }
 
+/// Reads how many sequences of a kind are forbidden.
+pub fn read_count<'a>(kind: Kind, cursor: &mut Cursor<'a>) -> Result<u32, Misfit<'a>>
+    ensures value { ReadsTokens (count_at kind cursor.old) result cursor.new }
+    ensures few { IfOk result (λ n. n ≤ MOST_SEQUENCES) }
+{
+    cursor.number(Place::Sequences(kind), sequence_limit(kind))
+}
+
 /// Reads the bounds of the blocks of days off and of work, and the numbers of pairs and triples.
 #[tactic(auto, unfolding(crate::specs::Reading::frame_at))]
 pub fn read_frame<'a>(cursor: &mut Cursor<'a>) -> Result<Frame, Misfit<'a>>
-    ensures { ReadsTokens (frame_at cursor.old) result cursor.new }
+    ensures value { ReadsTokens (frame_at cursor.old) result cursor.new }
+    ensures few { IfOk result (λ frame. (frame.pairs ≤ MOST_SEQUENCES) × (frame.triples ≤ MOST_SEQUENCES)) }
 {
     let off = cursor.bounds(Place::LeastOff, Place::GreatestOff)?;
     let work = cursor.bounds(Place::LeastWork, Place::GreatestWork)?;
-    let pairs = cursor.number(Place::Pairs, PAIRS)?;
-    let triples = cursor.number(Place::Triples, TRIPLES)?;
+    let pairs = read_count(Kind::Pair, cursor)?;
+    let triples = read_count(Kind::Triple, cursor)?;
     Ok(Frame {
         off,
         work,

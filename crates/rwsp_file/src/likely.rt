@@ -1,12 +1,12 @@
 // What is likely the cause of a refusal.
-ghost use Rattle.std.specs.Prelude.{◌≡◌, ◌<◌, ◌≤◌, IfOk, IfSome, length, position};
+ghost use Rattle.std.specs.Prelude.{◌≡◌, ◌<◌, IfOk, IfSome, length, position};
 ghost use Rattle.rwsp_file.specs.Reads.{ReadsUnless, GivesUnless};
-ghost use Rattle.rwsp_file.specs.LikelyCauses.{has_byte, has_digit, begins_with, has_control, dots, is_range_byte, is_range_like, is_demand, is_bad_range, has_point, is_colon, minutes_from, minutes_of, clock_or_colon, word_cause, lines_of_words, words_on, is_other_line, other_line, length_cause, row_cause, rows_cause, lines_cause, row_length_cause, shifts_skipped, counts_at, announced, size_cause, own_cause, place_cause, end_cause, bad_word_cause, likely};
+ghost use Rattle.rwsp_file.specs.LikelyCauses.{has_byte, has_digit, begins_with, has_control, dots, is_range_byte, is_range_like, is_demand, is_bad_range, has_point, is_colon, minutes_from, minutes_of, clock_or_colon, word_cause, words_on, is_other_line, other_line, length_cause, row_cause, rows_cause, lines_cause, row_length_cause, shifts_skipped, counts_at, announced, size_cause, own_cause, place_cause, end_cause, bad_word_cause, likely};
 
 use crate::cursor::{Cursor, Lexeme};
-use crate::fields::{read_demand, read_size};
-use crate::limits::{PAIRS, TRIPLES};
-use crate::misfit::{Fault, Misfit, Place};
+use crate::fields::{read_count, read_demand, read_size};
+use crate::limits::sequence_limit;
+use crate::misfit::{Fault, Kind, Misfit, Place};
 use crate::row::read_shifts;
 use rwsp_model::Fail;
 use rwsp_text::number;
@@ -311,11 +311,12 @@ fn read_counts<'a>(alloc: Global, cursor: &mut Cursor<'a>) -> Result<Counts, Fai
     cursor
         .bounds(Place::LeastWork, Place::GreatestWork)
         .map_err(Fail::Refused)?;
-    let word = cursor.next(Place::Pairs).map_err(Fail::Refused)?;
-    let pairs = word.limited(Place::Pairs, PAIRS).map_err(Fail::Refused)?;
-    let triples = cursor
-        .number(Place::Triples, TRIPLES)
+    let awaited = Place::Sequences(Kind::Pair);
+    let word = cursor.next(awaited).map_err(Fail::Refused)?;
+    let pairs = word
+        .limited(awaited, sequence_limit(Kind::Pair))
         .map_err(Fail::Refused)?;
+    let triples = read_count(Kind::Triple, cursor).map_err(Fail::Refused)?;
     Ok(Counts {
         line: word.line(),
         pairs,
@@ -366,8 +367,7 @@ fn own_cause(
         | Place::GreatestOff
         | Place::LeastWork
         | Place::GreatestWork
-        | Place::Pairs
-        | Place::Triples => Ok(Some(Cause::FrameNumbers)),
+        | Place::Sequences(_) => Ok(Some(Cause::FrameNumbers)),
         _ => Ok(None),
     }
 }
@@ -400,7 +400,7 @@ fn end_cause(
 {
     match awaited {
         Place::Days => Ok(Some(Cause::NoWords)),
-        Place::InPair(_, _) | Place::InTriple(_, _) => announced(alloc, cursor),
+        Place::InSequence(_, _, _) => announced(alloc, cursor),
         _ => Ok(None),
     }
 }

@@ -1,4 +1,8 @@
 // The limits of the numbers in a file, each under the number that a refusal names.
+ghost use Rattle.std.specs.Prelude.{◌≡◌};
+ghost use Rattle.rwsp_file.specs.Reading.{sequence_limit};
+
+use crate::misfit::Kind;
 use rwsp_terms::limits::{
     GREATEST_BOUND, MOST_CELLS, MOST_DAYS, MOST_SEQUENCES, MOST_SHIFTS, MOST_WEEKS,
 };
@@ -60,16 +64,16 @@ pub const BLOCK: Limit = Limit {
     greatest: GREATEST_BOUND,
 };
 
-/// How many pairs are forbidden.
-pub const PAIRS: Limit = Limit {
-    number: 8,
-    least: 0,
-    greatest: MOST_SEQUENCES,
-};
-
-/// How many triples are forbidden.
-pub const TRIPLES: Limit = Limit {
-    number: 9,
-    least: 0,
-    greatest: MOST_SEQUENCES,
-};
+/// How many sequences of a kind are forbidden.
+pub fn sequence_limit(kind: Kind) -> Limit
+    ensures { result ≡ sequence_limit kind }
+{
+    Limit {
+        number: match kind {
+            Kind::Pair => 8,
+            Kind::Triple => 9,
+        },
+        least: 0,
+        greatest: MOST_SEQUENCES,
+    }
+}

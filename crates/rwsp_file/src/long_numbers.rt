@@ -5,7 +5,7 @@ ghost use Rattle.std.specs.List.{flat_map};
 ghost use Rattle.rwsp_terms.specs.declared.limits.TheConstants.{LONGEST_FILE};
 ghost use Rattle.rwsp_file.specs.Reading.{many, each};
 ghost use Rattle.rwsp_file.specs.Reads.{ReadsTokens, ReadsUnless, GivesUnless};
-ghost use Rattle.rwsp_file.specs.LongNumbers.{number_in, with_numbers, long_number, long_number_at, long_numbers_at, long_numbers};
+ghost use Rattle.rwsp_file.specs.LongNumbers.{number_in, long_number, long_number_at, long_numbers_at, long_numbers};
 
 use crate::cursor::{Cursor, Lexeme};
 use crate::fields::{read_demand, read_size};

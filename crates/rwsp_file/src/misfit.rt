@@ -6,6 +6,13 @@ use crate::FileRefusal;
 use crate::cursor::Lexeme;
 use crate::limits::{CELLS, Limit};
 
+/// The forbidden sequences of two symbols, or those of three.
+#[derive(Clone, Copy)]
+pub enum Kind {
+    Pair,
+    Triple,
+}
+
 /// A place of a problem's text: what has to be there. Shifts, days, sequences and their symbols count from 1.
 #[derive(Clone, Copy)]
 pub enum Place {
@@ -37,14 +44,10 @@ pub enum Place {
     LeastWork,
     /// The greatest length of a block of work.
     GreatestWork,
-    /// The number of forbidden pairs.
-    Pairs,
-    /// The number of forbidden triples.
-    Triples,
-    /// In a forbidden pair one of its symbols.
-    InPair(u32, u32),
-    /// In a forbidden triple one of its symbols.
-    InTriple(u32, u32),
+    /// The number of forbidden sequences of a kind.
+    Sequences(Kind),
+    /// In a forbidden sequence, which has this number among those of its kind, one of its symbols.
+    InSequence(Kind, u32, u32),
     /// Nothing more.
     TextEnd,
 }

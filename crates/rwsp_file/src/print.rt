@@ -1,14 +1,15 @@
 // Printing problem files.
-ghost use Rattle.std.specs.Prelude.{◌≡◌, ◌+◌, ◌<◌, ◌≤◌, [], ◌∷◌, ◌++◌, length, IfOk, OnOk, map};
+ghost use Rattle.std.specs.Prelude.{◌≡◌, ◌+◌, ◌<◌, [], ◌∷◌, ◌++◌, length, IfOk, OnOk, map};
 ghost use Rattle.std.specs.List.{flat_map};
 ghost use Rattle.std.specs.Fmt.{decimal};
 ghost use Rattle.rwsp_terms.specs.Instance.{name_of, IsSymbol};
-ghost use Rattle.rwsp_file.specs.Spelling.{number_fields, bounds_fields, shift_fields, pair_fields, triple_fields, size_lines, frame_lines};
+ghost use Rattle.rwsp_model.specs.Sequences.{IsSequenceOf, pair_count, triple_count};
+ghost use Rattle.rwsp_file.specs.Spelling.{number_fields, bounds_fields, shift_fields, sequence_fields, size_lines, frame_lines};
 ghost use Rattle.rwsp_file.specs.Spelling.FileField.{DemandField};
 ghost use Rattle.rwsp_file.specs.Text.{demand_text, file_line, problem_text, row_of_demand, row_of_shift};
 
-use rwsp_model::Problem;
-use rwsp_terms::{Bounds, Class, Symbol};
+use rwsp_model::{Problem, count_in};
+use rwsp_terms::{Bounds, Class, Sequence, Symbol};
 use rwsp_text::put_number;
 use std::alloc::{AllocError, Global};
 
@@ -67,25 +68,18 @@ fn put_two(out: &mut Vec<u8>, first: u32, second: u32) -> Result<(), AllocError>
     put_number_and(out, second, b'\n')
 }
 
-fn put_pair(out: &mut Vec<u8>, problem: &Problem, pair: (Symbol, Symbol)) -> Result<(), AllocError>
-    requires { IsSymbol problem.now pair.0 × IsSymbol problem.now pair.1 }
-    ensures { OnOk result (out.new.items ≡ out.old.items ++ file_line (pair_fields problem.now pair)) }
+fn put_sequence(out: &mut Vec<u8>, problem: &Problem, sequence: Sequence) -> Result<(), AllocError>
+    requires { IsSequenceOf problem.now sequence }
+    ensures { OnOk result (out.new.items ≡ out.old.items ++ file_line (sequence_fields problem.now sequence)) }
 {
-    put_name_and(out, problem, pair.0, b' ')?;
-    put_name_and(out, problem, pair.1, b'\n')
-}
-
-fn put_triple(
-    out: &mut Vec<u8>,
-    problem: &Problem,
-    triple: (Symbol, Symbol, Symbol),
-) -> Result<(), AllocError>
-    requires { IsSymbol problem.now triple.0 × IsSymbol problem.now triple.1 × IsSymbol problem.now triple.2 }
-    ensures { OnOk result (out.new.items ≡ out.old.items ++ file_line (triple_fields problem.now triple)) }
-{
-    put_name_and(out, problem, triple.0, b' ')?;
-    put_name_and(out, problem, triple.1, b' ')?;
-    put_name_and(out, problem, triple.2, b'\n')
+    put_name_and(out, problem, sequence.first, b' ')?;
+    match sequence.third {
+        None => put_name_and(out, problem, sequence.second, b'\n'),
+        Some(third) => {
+            put_name_and(out, problem, sequence.second, b' ')?;
+            put_name_and(out, problem, third, b'\n')
+        }
+    }
 }
 
 // A blank and a demand.
@@ -172,30 +166,15 @@ fn put_shifts(out: &mut Vec<u8>, problem: &Problem) -> Result<(), AllocError>
     Ok(())
 }
 
-// A line for each pair.
+// A line for each forbidden sequence.
 #[tactic(auto, using(crate::proofs::TextSteps::lines_more, crate::proofs::TextSteps::lines_all))]
-fn put_pairs(out: &mut Vec<u8>, problem: &Problem) -> Result<(), AllocError>
+fn put_sequences(out: &mut Vec<u8>, problem: &Problem) -> Result<(), AllocError>
     ensures { OnOk result (
-        out.new.items ≡ out.old.items ++ flat_map file_line (map (pair_fields problem.now) problem.now.pairs)) }
+        out.new.items ≡ out.old.items ++ flat_map file_line (map (sequence_fields problem.now) problem.now.sequences)) }
 {
-    problem.prove_limits();
-    let pairs = problem.pairs();
-    for i in 0..pairs.len() {
-        put_pair(out, problem, pairs[i])?;
-    }
-    Ok(())
-}
-
-// A line for each triple.
-#[tactic(auto, using(crate::proofs::TextSteps::lines_more, crate::proofs::TextSteps::lines_all))]
-fn put_triples(out: &mut Vec<u8>, problem: &Problem) -> Result<(), AllocError>
-    ensures { OnOk result (
-        out.new.items ≡ out.old.items ++ flat_map file_line (map (triple_fields problem.now) problem.now.triples)) }
-{
-    problem.prove_limits();
-    let triples = problem.triples();
-    for i in 0..triples.len() {
-        put_triple(out, problem, triples[i])?;
+    let sequences = problem.sequences();
+    for i in 0..sequences.len() {
+        put_sequence(out, problem, sequences[i])?;
     }
     Ok(())
 }
@@ -221,11 +200,14 @@ fn put_counts(out: &mut Vec<u8>, problem: &Problem) -> Result<(), AllocError>
     ensures { OnOk result (
         out.new.items
         ≡ out.old.items
-        ++ file_line (number_fields (length problem.now.pairs ∷ length problem.now.triples ∷ []))) }
+        ++ file_line (number_fields (pair_count problem.now ∷ triple_count problem.now ∷ []))) }
 {
-    let pairs = problem.pairs().len() as u32;
-    let triples = problem.triples().len() as u32;
-    put_two(out, pairs, triples)
+    let sequences = problem.sequences();
+    put_two(
+        out,
+        count_in(2, sequences) as u32,
+        count_in(3, sequences) as u32,
+    )
 }
 
 // The bounds of the blocks of days off and of work, and the numbers of pairs and triples, each two on a line.
@@ -247,7 +229,6 @@ pub fn print_problem(alloc: Global, problem: &Problem) -> Result<Vec<u8>, AllocE
     put_demand_rows(&mut out, problem)?;
     put_shifts(&mut out, problem)?;
     put_frame(&mut out, problem)?;
-    put_pairs(&mut out, problem)?;
-    put_triples(&mut out, problem)?;
+    put_sequences(&mut out, problem)?;
     Ok(out)
 }

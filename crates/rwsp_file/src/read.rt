@@ -50,7 +50,7 @@ fn read_instance<'a>(alloc: Global, cursor: &mut Cursor<'a>) -> Result<Parts, Fa
             return Err(Fail::Refused(why));
         }
     };
-    let (pairs, triples) = match read_sequences(alloc, &shifts, frame, cursor) {
+    let sequences = match read_sequences(alloc, &shifts, frame, cursor) {
         Ok(sequences) => sequences,
         Err(fail) => {
             drop(shifts);
@@ -64,8 +64,7 @@ fn read_instance<'a>(alloc: Global, cursor: &mut Cursor<'a>) -> Result<Parts, Fa
         shifts: shifts.rows(),
         off: frame.off,
         work: frame.work,
-        pairs,
-        triples,
+        sequences,
     })
 }
 

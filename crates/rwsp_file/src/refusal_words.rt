@@ -5,11 +5,11 @@ ghost use Rattle.rwsp_file.specs.declared.misfit.Place.TheVariants.{Weeks};
 ghost use Rattle.rwsp_file.specs.declared.misfit.Fault.TheVariants.{TooManyDays, WordCount};
 ghost use Rattle.rwsp_file.specs.declared.misfit.Misfit.TheVariants.{TextEnds};
 ghost use Rattle.rwsp_file.specs.declared.likely.Cause.TheVariants.{Clock, OtherLength, MissingRow, Announced};
-ghost use Rattle.rwsp_file.specs.RefusalWords.{is_visible_byte, hex_digit, byte_text, shown_word, place_text, limit_text, reason_text, fault_text, misfit_text, cause_text, cause_line, word_found};
+ghost use Rattle.rwsp_file.specs.RefusalWords.{is_visible_byte, hex_digit, byte_text, shown_word, kind_text, place_text, limit_text, reason_text, fault_text, misfit_text, cause_text, cause_line, word_found};
 
 use crate::likely::{Cause, Counts};
 use crate::limits::{CELLS, Limit};
-use crate::misfit::{Fault, Misfit, Place};
+use crate::misfit::{Fault, Kind, Misfit, Place};
 use rwsp_terms::limits::LONGEST_NAME;
 use rwsp_text::put_number;
 use std::alloc::AllocError;
@@ -73,6 +73,15 @@ fn put_two_numbered(
     put_numbered(out, second_text, second)
 }
 
+fn put_kind(out: &mut Vec<u8>, kind: Kind) -> Result<(), AllocError>
+    ensures { OnOk result (out.new.items ≡ out.old.items ++ kind_text kind) }
+{
+    match kind {
+        Kind::Pair => out.extend_from_slice(b"pair"),
+        Kind::Triple => out.extend_from_slice(b"triple"),
+    }
+}
+
 fn put_place(out: &mut Vec<u8>, place: Place) -> Result<(), AllocError>
     ensures { OnOk result (out.new.items ≡ out.old.items ++ place_text place) }
 {
@@ -93,13 +102,16 @@ fn put_place(out: &mut Vec<u8>, place: Place) -> Result<(), AllocError>
         Place::GreatestOff => out.extend_from_slice(b"the greatest block of days off"),
         Place::LeastWork => out.extend_from_slice(b"the least block of work"),
         Place::GreatestWork => out.extend_from_slice(b"the greatest block of work"),
-        Place::Pairs => out.extend_from_slice(b"the number of forbidden pairs"),
-        Place::Triples => out.extend_from_slice(b"the number of forbidden triples"),
-        Place::InPair(pair, symbol) => {
-            put_two_numbered(out, "symbol ", symbol, " of forbidden pair ", pair)
+        Place::Sequences(kind) => {
+            out.extend_from_slice(b"the number of forbidden ")?;
+            put_kind(out, kind)?;
+            out.extend_from_slice(b"s")
         }
-        Place::InTriple(triple, symbol) => {
-            put_two_numbered(out, "symbol ", symbol, " of forbidden triple ", triple)
+        Place::InSequence(kind, number, symbol) => {
+            put_numbered(out, "symbol ", symbol)?;
+            out.extend_from_slice(b" of forbidden ")?;
+            put_kind(out, kind)?;
+            put_numbered(out, " ", number)
         }
         Place::TextEnd => out.extend_from_slice(b"the end of the text"),
     }

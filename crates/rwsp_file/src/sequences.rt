@@ -1,16 +1,16 @@
 // Reading the forbidden sequences.
 ghost use Rattle.std.specs.Prelude.{◌≡◌, length, ◌≤◌};
-ghost use Rattle.rwsp_terms.specs.declared.limits.TheConstants.{MOST_SHIFTS};
+ghost use Rattle.rwsp_terms.specs.declared.limits.TheConstants.{MOST_SHIFTS, MOST_SEQUENCES};
 ghost use Rattle.rwsp_terms.specs.Instance.{symbol_among};
-ghost use Rattle.rwsp_file.specs.Reading.{symbol_at, pair_at, triple_at, pairs_at, triples_at, nothing_of, sequences_at};
+ghost use Rattle.rwsp_file.specs.Reading.{symbol_at, third_at, sequence_at, numbered_at, sequences_at, nothing_of};
 ghost use Rattle.rwsp_file.specs.Reads.{ReadsTokens, ReadsUnless};
 
 use crate::cursor::Cursor;
 use crate::fields::Frame;
-use crate::misfit::{Fault, Misfit, Place};
+use crate::misfit::{Fault, Kind, Misfit, Place};
 use crate::shifts::Shifts;
 use rwsp_model::Fail;
-use rwsp_terms::Symbol;
+use rwsp_terms::{Sequence, Symbol};
 use std::alloc::Global;
 
 fn symbol_in(shifts: &Shifts, name: &[u8]) -> Option<Symbol>
@@ -39,71 +39,77 @@ fn read_symbol<'a>(
     symbol_in(shifts, word.text()).ok_or(word.misfit(awaited, Fault::NoSymbol))
 }
 
-#[tactic(auto, unfolding(crate::specs::Reading::pair_at))]
-fn read_pair<'a>(
-    pair: u32,
+// The third symbol of a sequence, where its kind has one.
+#[tactic(auto, unfolding(crate::specs::Reading::third_at))]
+fn read_third<'a>(
+    kind: Kind,
+    number: u32,
     shifts: &Shifts,
     cursor: &mut Cursor<'a>,
-) -> Result<(Symbol, Symbol), Misfit<'a>>
+) -> Result<Option<Symbol>, Misfit<'a>>
     requires { length shifts.now ≤ MOST_SHIFTS }
-    ensures { ReadsTokens (pair_at shifts.now pair cursor.old) result cursor.new }
+    ensures { ReadsTokens (third_at shifts.now kind number cursor.old) result cursor.new }
 {
-    let first = read_symbol(Place::InPair(pair, 1), shifts, cursor)?;
-    let second = read_symbol(Place::InPair(pair, 2), shifts, cursor)?;
-    Ok((first, second))
+    match kind {
+        Kind::Pair => Ok(None),
+        Kind::Triple => {
+            let third = read_symbol(Place::InSequence(kind, number, 3), shifts, cursor)?;
+            Ok(Some(third))
+        }
+    }
 }
 
-#[tactic(auto, unfolding(crate::specs::Reading::triple_at))]
-fn read_triple<'a>(
-    triple: u32,
+#[tactic(auto, unfolding(crate::specs::Reading::sequence_at))]
+fn read_sequence<'a>(
+    kind: Kind,
+    number: u32,
     shifts: &Shifts,
     cursor: &mut Cursor<'a>,
-) -> Result<(Symbol, Symbol, Symbol), Misfit<'a>>
+) -> Result<Sequence, Misfit<'a>>
     requires { length shifts.now ≤ MOST_SHIFTS }
-    ensures { ReadsTokens (triple_at shifts.now triple cursor.old) result cursor.new }
+    ensures { ReadsTokens (sequence_at shifts.now kind number cursor.old) result cursor.new }
 {
-    let first = read_symbol(Place::InTriple(triple, 1), shifts, cursor)?;
-    let second = read_symbol(Place::InTriple(triple, 2), shifts, cursor)?;
-    let third = read_symbol(Place::InTriple(triple, 3), shifts, cursor)?;
-    Ok((first, second, third))
+    let first = read_symbol(Place::InSequence(kind, number, 1), shifts, cursor)?;
+    let second = read_symbol(Place::InSequence(kind, number, 2), shifts, cursor)?;
+    let third = read_third(kind, number, shifts, cursor)?;
+    Ok(Sequence::on_every_day(first, second, third))
 }
 
-// Reads this number of pairs.
+// The sequence that has the number among all. The pairs come first.
+fn read_numbered<'a>(
+    pairs: u32,
+    number: u32,
+    shifts: &Shifts,
+    cursor: &mut Cursor<'a>,
+) -> Result<Sequence, Misfit<'a>>
+    requires { length shifts.now ≤ MOST_SHIFTS }
+    ensures { ReadsTokens (numbered_at shifts.now pairs number cursor.old) result cursor.new }
+{
+    if number <= pairs {
+        read_sequence(Kind::Pair, number, shifts, cursor)
+    } else {
+        read_sequence(Kind::Triple, number - pairs, shifts, cursor)
+    }
+}
+
+/// Reads the forbidden sequences: the pairs, and then the triples.
 #[tactic(auto, using(crate::proofs::ManySteps::many_ok, crate::proofs::ManySteps::loop_done))]
-fn read_pairs<'a>(
+pub fn read_sequences<'a>(
     alloc: Global,
     shifts: &Shifts,
-    count: u32,
+    frame: Frame,
     cursor: &mut Cursor<'a>,
-) -> Result<Vec<(Symbol, Symbol)>, Fail<Misfit<'a>>>
-    requires { length shifts.now ≤ MOST_SHIFTS }
-    ensures { ReadsUnless (λ v. v.items) (pairs_at shifts.now count cursor.old) result cursor.new }
+) -> Result<Vec<Sequence>, Fail<Misfit<'a>>>
+    requires shifts { length shifts.now ≤ MOST_SHIFTS }
+    requires few { (frame.pairs ≤ MOST_SEQUENCES) × (frame.triples ≤ MOST_SEQUENCES) }
+    ensures { ReadsUnless (λ v. v.items) (sequences_at shifts.now frame cursor.old) result cursor.new }
 {
-    let mut pairs = Vec::new(alloc);
-    for i in 0..count {
-        let pair = read_pair(i + 1, shifts, cursor).map_err(Fail::Refused)?;
-        pairs.push(pair)?;
+    let mut sequences = Vec::new(alloc);
+    for i in 0..frame.pairs + frame.triples {
+        let sequence = read_numbered(frame.pairs, i + 1, shifts, cursor).map_err(Fail::Refused)?;
+        sequences.push(sequence)?;
     }
-    Ok(pairs)
-}
-
-// Reads this number of triples.
-#[tactic(auto, using(crate::proofs::ManySteps::many_ok, crate::proofs::ManySteps::loop_done))]
-fn read_triples<'a>(
-    alloc: Global,
-    shifts: &Shifts,
-    count: u32,
-    cursor: &mut Cursor<'a>,
-) -> Result<Vec<(Symbol, Symbol, Symbol)>, Fail<Misfit<'a>>>
-    requires { length shifts.now ≤ MOST_SHIFTS }
-    ensures { ReadsUnless (λ v. v.items) (triples_at shifts.now count cursor.old) result cursor.new }
-{
-    let mut triples = Vec::new(alloc);
-    for i in 0..count {
-        let triple = read_triple(i + 1, shifts, cursor).map_err(Fail::Refused)?;
-        triples.push(triple)?;
-    }
-    Ok(triples)
+    Ok(sequences)
 }
 
 /// Refuses a word that is left.
@@ -114,22 +120,4 @@ pub fn read_end<'a>(cursor: &mut Cursor<'a>) -> Result<(), Misfit<'a>>
         Some(word) => Err(word.misfit(Place::TextEnd, Fault::NotEnd)),
         None => Ok(()),
     }
-}
-
-type Sequences = (Vec<(Symbol, Symbol)>, Vec<(Symbol, Symbol, Symbol)>);
-
-/// Reads the pairs and the triples.
-#[tactic(auto, unfolding(crate::specs::Reading::sequences_at))]
-pub fn read_sequences<'a>(
-    alloc: Global,
-    shifts: &Shifts,
-    frame: Frame,
-    cursor: &mut Cursor<'a>,
-) -> Result<Sequences, Fail<Misfit<'a>>>
-    requires { length shifts.now ≤ MOST_SHIFTS }
-    ensures { ReadsUnless (λ s. (s.0.items, s.1.items)) (sequences_at shifts.now frame cursor.old) result cursor.new }
-{
-    let pairs = read_pairs(alloc, shifts, frame.pairs, cursor)?;
-    let triples = read_triples(alloc, shifts, frame.triples, cursor)?;
-    Ok((pairs, triples))
 }

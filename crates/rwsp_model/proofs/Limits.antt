@@ -1,6 +1,6 @@
 -- What follows from no refusal, and what it follows from.
 use Rattle.std.proofs.Common.{◌≡◌, ◌≢◌, ℕ, zero, suc, ◌+◌, ◌*◌, ◌<◌, ◌≤◌, List, [], ◌∷◌, ◌++◌, length, get_or, Option, Some, None, Bool, true, false, not, cond, ◌&&◌, refl, ap, sym, ◌∙◌, arith, take, drop, drop-cons, subst}
-use Rattle.std.specs.Prelude.{position, nat_le, slice_index, ◌==◌, All, AllPairs}
+use Rattle.std.specs.Prelude.{position, nat_le, slice_index, ◌==◌, is_some, All, AllPairs}
 use Rattle.std.specs.Bool.{Decides}
 use Rattle.std.specs.List.{list_all, list_any, prefix_len}
 use Rattle.std.specs.Str.{bytes_eq}
@@ -12,13 +12,17 @@ use Rattle.std.proofs.lemmas.List.Folds.{list_any_none, list_any_at}
 use Rattle.std.proofs.lemmas.List.Quantifiers.{position-Some}
 use Rattle.std.proofs.lemmas.Slice.Eq.{bytes_eq-Decides}
 use Rattle.rwsp_terms.specs.declared.limits.TheConstants.{MOST_DAYS, MOST_WEEKS, MOST_CELLS, MOST_SHIFTS, GREATEST_BOUND, MOST_SEQUENCES}
-use Rattle.rwsp_terms.specs.Instance.{Instance, cells, shift_count, off_name}
+use Rattle.rwsp_terms.specs.Instance.{Instance, cells, shift_count, off_name, IsSymbol}
 use Rattle.rwsp_terms.specs.declared.data.Bounds.{Bounds}
 use Rattle.rwsp_terms.specs.declared.data.ShiftRow.{ShiftRow}
 use Rattle.rwsp_terms.specs.declared.data.Symbol.{Symbol}
-use Rattle.rwsp_model.specs.Validity.{IsValid, KeepsLimits, refusal_of, limit_refusal, name_refusal, limits_kept, has_shape, are_small, AreSmall, is_small_range, IsSmallRange, is_between, is_shift_name, breaks_name, IsShiftName, is_named_well, bad_name_from}
+use Rattle.rwsp_terms.specs.declared.data.Sequence.{Sequence}
+use Rattle.rwsp_terms.specs.Window.{symbols_of}
+use Rattle.rwsp_model.specs.Sequences.{part_of, pair_count, triple_count, IsSequenceOf}
+use Rattle.rwsp_model.specs.Validity.{IsValid, KeepsLimits, refusal_of, limit_refusal, name_refusal, limits_kept, has_shape, is_sequence_of, are_ordered, are_small, AreSmall, is_small_range, IsSmallRange, is_between, is_shift_name, breaks_name, IsShiftName, is_named_well, bad_name_from}
 use Rattle.rwsp_model.specs.declared.refusal.PartsRefusal.{PartsRefusal}
 use Rattle.rwsp_model.specs.declared.refusal.PartsRefusal.TheVariants.{Shape}
+use Rattle.rwsp_model.proofs.Sequences.{Decides-ordered}
 
 pub Decides-leb : (a b : ℕ) → Decides (nat_le a b) (a ≤ b)
 Decides-leb a b = (leb-true a b, λ h. grind (arith, nat_tests))
@@ -189,46 +193,38 @@ nine_joined a b c d e f g i j k1 k2 k3 k4 k5 k6 k7 k8 k9 =
     (and_from i (j && true) k8
     (and_from j true k9 refl))))))))
 
-Decides-pair : (last : ℕ) (x : Symbol × Symbol) → Decides (nat_le x.0.number last && nat_le x.1.number last) ((x.0.number ≤ last) × (x.1.number ≤ last))
-Decides-pair last x = Decides-and (nat_le x.0.number last) (nat_le x.1.number last) (Decides-leb x.0.number last) (Decides-leb x.1.number last)
+no_day : (day : Option ℕ) → Decides (not (is_some day)) (day ≡ None)
+no_day None = (λ h. refl, λ h. refl)
+no_day (Some day) = (λ h. absurd (cc), λ h. absurd (cc))
 
-Decides-triple : (last : ℕ) (x : Symbol × Symbol × Symbol) → Decides (nat_le x.0.number last && nat_le x.1.number last && nat_le x.2.number last) ((x.0.number ≤ last) × (x.1.number ≤ last) × (x.2.number ≤ last))
-Decides-triple last x =
-    Decides-like (nat_le x.0.number last && nat_le x.1.number last && nat_le x.2.number last)
-    (λ h. (h.0.0, h.0.1, h.1)) (λ h. ((h.0, h.1), h.2))
-    (Decides-and (nat_le x.0.number last && nat_le x.1.number last) (nat_le x.2.number last)
-    (Decides-and (nat_le x.0.number last) (nat_le x.1.number last) (Decides-leb x.0.number last) (Decides-leb x.1.number last))
-    (Decides-leb x.2.number last))
+Decides-sequence : (P : Instance) (q : Sequence) → Decides (is_sequence_of P q) (IsSequenceOf P q)
+Decides-sequence P q =
+    Decides-and (list_all (λ x. nat_le x.number (shift_count P)) (symbols_of q)) (not (is_some q.day))
+    (Decides-all (λ (x : Symbol). nat_le x.number (shift_count P)) (IsSymbol P) (λ x. Decides-leb x.number (shift_count P)) (symbols_of q))
+    (no_day q.day)
 
 Decides-rows : (days : ℕ) (rows : List (List Bounds)) → Decides (list_all (λ (row : List Bounds). length row == days) rows) (All (λ (row : List Bounds). length row ≡ days) rows)
 Decides-rows days rows = Decides-all (λ (row : List Bounds). length row == days) (λ (row : List Bounds). length row ≡ days) (λ row. Decides-eqb (length row) days) rows
 
-Decides-pairs : (last : ℕ) (xs : List (Symbol × Symbol)) → Decides (list_all (λ x. nat_le x.0.number last && nat_le x.1.number last) xs) (All (λ (x : Symbol × Symbol). (x.0.number ≤ last) × (x.1.number ≤ last)) xs)
-Decides-pairs last xs = Decides-all (λ x. nat_le x.0.number last && nat_le x.1.number last) (λ (x : Symbol × Symbol). (x.0.number ≤ last) × (x.1.number ≤ last)) (Decides-pair last) xs
-
-Decides-triples : (last : ℕ) (xs : List (Symbol × Symbol × Symbol)) → Decides (list_all (λ x. nat_le x.0.number last && nat_le x.1.number last && nat_le x.2.number last) xs) (All (λ (x : Symbol × Symbol × Symbol). (x.0.number ≤ last) × (x.1.number ≤ last) × (x.2.number ≤ last)) xs)
-Decides-triples last xs = Decides-all (λ x. nat_le x.0.number last && nat_le x.1.number last && nat_le x.2.number last) (λ (x : Symbol × Symbol × Symbol). (x.0.number ≤ last) × (x.1.number ≤ last) × (x.2.number ≤ last)) (Decides-triple last) xs
-
--- a row for each shift, a range for each day, and no symbol above the last shift
+-- a row for each shift, a range for each day, and sequences of the instance, in order
 unfoldable HasShape : Instance → Type 0
 HasShape P =
     (length P.demand ≡ length P.shifts)
     × All (λ (row : List Bounds). length row ≡ P.days) P.demand
-    × All (λ (x : Symbol × Symbol). (x.0.number ≤ shift_count P) × (x.1.number ≤ shift_count P)) P.pairs
-    × All (λ (x : Symbol × Symbol × Symbol). (x.0.number ≤ shift_count P) × (x.1.number ≤ shift_count P) × (x.2.number ≤ shift_count P)) P.triples
+    × All (IsSequenceOf P) P.sequences
+    × AllPairs (λ a b. part_of a ≤ part_of b) P.sequences
 
 Decides-shape : (P : Instance) → Decides (has_shape P) (HasShape P)
 unfolding HasShape
 Decides-shape P =
     let rows = list_all (λ (row : List Bounds). length row == P.days) P.demand in
-    let pairs = list_all (λ (x : Symbol × Symbol). nat_le x.0.number (length P.shifts) && nat_le x.1.number (length P.shifts)) P.pairs in
-    let triples = list_all (λ (x : Symbol × Symbol × Symbol). nat_le x.0.number (length P.shifts) && nat_le x.1.number (length P.shifts) && nat_le x.2.number (length P.shifts)) P.triples in
+    let known = list_all (is_sequence_of P) P.sequences in
     Decides-like (has_shape P) (λ h. (h.0.0.0, h.0.0.1, h.0.1, h.1)) (λ h. (((h.0, h.1), h.2), h.3))
-    (Decides-and ((length P.demand == length P.shifts) && rows && pairs) triples
-    (Decides-and ((length P.demand == length P.shifts) && rows) pairs
+    (Decides-and ((length P.demand == length P.shifts) && rows && known) (are_ordered P.sequences)
+    (Decides-and ((length P.demand == length P.shifts) && rows) known
     (Decides-and (length P.demand == length P.shifts) rows (Decides-eqb (length P.demand) (length P.shifts)) (Decides-rows P.days P.demand))
-    (Decides-pairs (length P.shifts) P.pairs))
-    (Decides-triples (length P.shifts) P.triples))
+    (Decides-all (is_sequence_of P) (IsSequenceOf P) (Decides-sequence P) P.sequences))
+    (Decides-ordered P.sequences))
 
 Decides-demand : (rows : List (List Bounds)) → Decides (list_all (λ row. list_all is_small_range row) rows) (All (λ (row : List Bounds). All IsSmallRange row) rows)
 Decides-demand rows = Decides-all (λ (row : List Bounds). list_all is_small_range row) (λ (row : List Bounds). All IsSmallRange row) (λ row. Decides-all is_small_range IsSmallRange Decides-small_range row) rows
@@ -250,7 +246,7 @@ valid_keeps P h =
     let shape = kept_shape (has_shape P) (limit_refusal P (position not (limits_kept P))) h in
     let rest = no_limit P (position not (limits_kept P)) shape.1 in
     let s = (Decides-shape P).0 shape.0 in
-    let k = nine (is_between 1 MOST_DAYS P.days) (is_between 1 MOST_WEEKS P.weeks) (nat_le (cells P) MOST_CELLS) (is_between 1 MOST_SHIFTS (shift_count P)) (list_all (λ row. list_all is_small_range row) P.demand) (list_all (λ row. nat_le row.start GREATEST_BOUND && nat_le row.length GREATEST_BOUND) P.shifts) (list_all (λ row. are_small row.bounds) P.shifts && are_small P.off && are_small P.work) (nat_le (length P.pairs) MOST_SEQUENCES) (nat_le (length P.triples) MOST_SEQUENCES) (all_kept (limits_kept P) rest.0) in
+    let k = nine (is_between 1 MOST_DAYS P.days) (is_between 1 MOST_WEEKS P.weeks) (nat_le (cells P) MOST_CELLS) (is_between 1 MOST_SHIFTS (shift_count P)) (list_all (λ row. list_all is_small_range row) P.demand) (list_all (λ row. nat_le row.start GREATEST_BOUND && nat_le row.length GREATEST_BOUND) P.shifts) (list_all (λ row. are_small row.bounds) P.shifts && are_small P.off && are_small P.work) (nat_le (pair_count P) MOST_SEQUENCES) (nat_le (triple_count P) MOST_SEQUENCES) (all_kept (limits_kept P) rest.0) in
     let days = (Decides-between 1 MOST_DAYS P.days).0 k.0 in
     let weeks = (Decides-between 1 MOST_WEEKS P.weeks).0 k.1 in
     let shifts = (Decides-between 1 MOST_SHIFTS (shift_count P)).0 k.3 in
@@ -259,8 +255,7 @@ valid_keeps P h =
     record {
       rows = s.0;
       long_rows = s.1;
-      known_pairs = s.2;
-      known_triples = s.3;
+      sequences = s.2;
       some_days = days.0;
       few_days = days.1;
       some_weeks = weeks.0;
@@ -273,8 +268,11 @@ valid_keeps P h =
       blocks = blocks.0;
       off = blocks.1;
       work = blocks.2;
-      few_pairs = leb-true (length P.pairs) MOST_SEQUENCES k.7;
-      few_triples = leb-true (length P.triples) MOST_SEQUENCES k.8;
+      listed = record {
+        ordered = s.3;
+        few_pairs = leb-true (pair_count P) MOST_SEQUENCES k.7;
+        few_triples = leb-true (triple_count P) MOST_SEQUENCES k.8;
+      };
       names = names.0;
       distinct = names.1;
     }
@@ -282,9 +280,9 @@ valid_keeps P h =
 pub keeps_valid : (P : Instance) → KeepsLimits P → IsValid P
 unfolding HasShape Names
 keeps_valid P k =
-    let shape : has_shape P ≡ true = (Decides-shape P).1 (k.rows, k.long_rows, k.known_pairs, k.known_triples) in
+    let shape : has_shape P ≡ true = (Decides-shape P).1 (k.rows, k.long_rows, k.sequences, k.listed.ordered) in
     let kept : list_all (λ b. b) (limits_kept P) ≡ true =
-    nine_joined (is_between 1 MOST_DAYS P.days) (is_between 1 MOST_WEEKS P.weeks) (nat_le (cells P) MOST_CELLS) (is_between 1 MOST_SHIFTS (shift_count P)) (list_all (λ row. list_all is_small_range row) P.demand) (list_all (λ row. nat_le row.start GREATEST_BOUND && nat_le row.length GREATEST_BOUND) P.shifts) (list_all (λ row. are_small row.bounds) P.shifts && are_small P.off && are_small P.work) (nat_le (length P.pairs) MOST_SEQUENCES) (nat_le (length P.triples) MOST_SEQUENCES)
+    nine_joined (is_between 1 MOST_DAYS P.days) (is_between 1 MOST_WEEKS P.weeks) (nat_le (cells P) MOST_CELLS) (is_between 1 MOST_SHIFTS (shift_count P)) (list_all (λ row. list_all is_small_range row) P.demand) (list_all (λ row. nat_le row.start GREATEST_BOUND && nat_le row.length GREATEST_BOUND) P.shifts) (list_all (λ row. are_small row.bounds) P.shifts && are_small P.off && are_small P.work) (nat_le (pair_count P) MOST_SEQUENCES) (nat_le (triple_count P) MOST_SEQUENCES)
     ((Decides-between 1 MOST_DAYS P.days).1 (k.some_days, k.few_days))
     ((Decides-between 1 MOST_WEEKS P.weeks).1 (k.some_weeks, k.few_weeks))
     ((Decides-leb (P.weeks * P.days) MOST_CELLS).1 k.few_cells)
@@ -292,8 +290,8 @@ keeps_valid P k =
     ((Decides-demand P.demand).1 k.demand)
     ((Decides-times P.shifts).1 k.times)
     ((Decides-blocks P).1 (k.blocks, k.off, k.work))
-    ((Decides-leb (length P.pairs) MOST_SEQUENCES).1 k.few_pairs)
-    ((Decides-leb (length P.triples) MOST_SEQUENCES).1 k.few_triples) in
+    ((Decides-leb (pair_count P) MOST_SEQUENCES).1 k.listed.few_pairs)
+    ((Decides-leb (triple_count P) MOST_SEQUENCES).1 k.listed.few_triples) in
     ap (λ (b : Bool). cond b (limit_refusal P (position not (limits_kept P))) (Some Shape)) shape
     ∙ ap (limit_refusal P) (none_broken (limits_kept P) kept)
     ∙ ap name_refusal (none_where_names P.shifts (k.names, k.distinct))
@@ -316,7 +314,7 @@ limit_below P k found = (position-Some not (limits_kept P) k true (sym found)).0
 
 pub few_shifts_where_none : (P : Instance) → None ≡ position not (limits_kept P) → length P.shifts ≤ MOST_SHIFTS
 few_shifts_where_none P none =
-    let k = nine (is_between 1 MOST_DAYS P.days) (is_between 1 MOST_WEEKS P.weeks) (nat_le (cells P) MOST_CELLS) (is_between 1 MOST_SHIFTS (shift_count P)) (list_all (λ row. list_all is_small_range row) P.demand) (list_all (λ row. nat_le row.start GREATEST_BOUND && nat_le row.length GREATEST_BOUND) P.shifts) (list_all (λ row. are_small row.bounds) P.shifts && are_small P.off && are_small P.work) (nat_le (length P.pairs) MOST_SEQUENCES) (nat_le (length P.triples) MOST_SEQUENCES) (all_kept (limits_kept P) (sym none)) in
+    let k = nine (is_between 1 MOST_DAYS P.days) (is_between 1 MOST_WEEKS P.weeks) (nat_le (cells P) MOST_CELLS) (is_between 1 MOST_SHIFTS (shift_count P)) (list_all (λ row. list_all is_small_range row) P.demand) (list_all (λ row. nat_le row.start GREATEST_BOUND && nat_le row.length GREATEST_BOUND) P.shifts) (list_all (λ row. are_small row.bounds) P.shifts && are_small P.off && are_small P.work) (nat_le (pair_count P) MOST_SEQUENCES) (nat_le (triple_count P) MOST_SEQUENCES) (all_kept (limits_kept P) (sym none)) in
     ((Decides-between 1 MOST_SHIFTS (shift_count P)).0 k.3).1
 
 -- the search for a bad name, one shift on

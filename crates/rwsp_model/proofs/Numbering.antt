@@ -1,73 +1,19 @@
 -- The list of rules by places.
 use Rattle.std.proofs.Common.{◌≡◌, ℕ, zero, suc, ◌+◌, ◌-◌, ◌*◌, ◌/◌, ◌%◌, ◌<◌, ◌≤◌, List, [], ◌∷◌, ◌++◌, length, get_or, refl, ap, sym, ◌∙◌, subst, arith, Some, ◌⊎◌, inl, inr, ⊎_elim, length-append}
-use Rattle.std.specs.Prelude.{slice_get, map, All, Contains, ◌↔◌}
+use Rattle.std.specs.Prelude.{slice_get, map, Contains, ◌↔◌}
 use Rattle.std.specs.List.{range_with_len, flat_map}
-use Rattle.std.proofs.lemmas.List.{get_or_append_left, get_or-append-add, length-map}
+use Rattle.std.proofs.lemmas.List.{get_or_append_left, get_or-append-add}
 use Rattle.std.proofs.lemmas.List.FromFn.{length-map-range_with_len, get_or-map-range_with_len}
-use Rattle.std.proofs.lemmas.List.Elements.{All-append, All-map, All-from_recursion}
 use Rattle.std.proofs.lemmas.Option.{slice_get-get_or, slice_get_within, get_or_from_slice_get, same_Some}
 use Rattle.std.proofs.lemmas.Bool.{cases_lt}
-use Rattle.rwsp_terms.specs.Instance.{Instance, shift_count, sequences, of_pair, of_triple, symbol_numbered, IsClass, IsSymbol}
+use Rattle.rwsp_terms.specs.Instance.{Instance, shift_count, symbol_numbered, IsClass}
 use Rattle.rwsp_terms.specs.Roster.{IsRule}
-use Rattle.rwsp_terms.specs.Window.{symbols_of}
 use Rattle.rwsp_terms.specs.Rules.{rules, rule_of, classes, block_rules}
 use Rattle.rwsp_terms.specs.declared.data.Class.{Class}
 use Rattle.rwsp_terms.specs.declared.data.Class.TheVariants.{Shift, Off, Work}
-use Rattle.rwsp_terms.specs.declared.data.Sequence.{Sequence}
-use Rattle.rwsp_terms.specs.declared.data.Symbol.{Symbol}
 use Rattle.rwsp_terms.specs.declared.data.Rule.{Rule}
 use Rattle.rwsp_terms.specs.declared.data.Rule.TheVariants.{Most, Least, Never, Day}
 use Rattle.rwsp_model.specs.RuleNumbers.{class_place, place_of}
-use Rattle.rwsp_model.specs.Validity.{KeepsLimits}
-
--- sequences
-
-pub sequences_are_many : (P : Instance) → length (sequences P) ≡ length P.pairs + length P.triples
-sequences_are_many P =
-    let a = length-append (map of_pair P.pairs) (map of_triple P.triples) in
-    let p = length-map P.pairs of_pair in
-    let t = length-map P.triples of_triple in
-    omega (arith, a, p, t)
-
-slice_get-map : {X : Type 0} (f : X → Sequence) (xs : List X) (k : ℕ) (x : X) → slice_get xs k ≡ Some x → slice_get (map f xs) k ≡ Some (f x)
-slice_get-map f [] k x e = absurd (cc)
-slice_get-map {X} f (y ∷ xs) zero x e = let same : y ≡ x = same_Some y x e in ap (λ (z : X). Some (f z)) same
-slice_get-map f (y ∷ xs) (suc k) x e = slice_get-map f xs k x e
-
-slice_get-front : (xs ys : List Sequence) (k : ℕ) (q : Sequence) → slice_get xs k ≡ Some q → slice_get (xs ++ ys) k ≡ Some q
-slice_get-front [] ys k q e = absurd (cc)
-slice_get-front (x ∷ xs) ys zero q e = e
-slice_get-front (x ∷ xs) ys (suc k) q e = slice_get-front xs ys k q e
-
-slice_get-behind : (xs ys : List Sequence) (k : ℕ) (q : Sequence) → length xs ≤ k → slice_get ys (k - length xs) ≡ Some q → slice_get (xs ++ ys) k ≡ Some q
-slice_get-behind [] ys k q le e = let none : k - 0 ≡ k = omega arith in ap (slice_get ys) (sym none) ∙ e
-slice_get-behind (x ∷ xs) ys zero q le e = absurd (omega (arith, le))
-slice_get-behind (x ∷ xs) ys (suc k) q le e = slice_get-behind xs ys k q (omega (arith, le)) (let less : k - length xs ≡ suc k - suc (length xs) = omega arith in ap (slice_get ys) less ∙ e)
-
--- the pairs are the first sequences, the triples the others
-pub pair_is_sequence : (P : Instance) (k : ℕ) (x : Symbol × Symbol) → slice_get P.pairs k ≡ Some x → slice_get (sequences P) k ≡ Some (of_pair x)
-pair_is_sequence P k x e = slice_get-front (map of_pair P.pairs) (map of_triple P.triples) k (of_pair x) (slice_get-map of_pair P.pairs k x e)
-
-pub triple_is_sequence : (P : Instance) (k : ℕ) (x : Symbol × Symbol × Symbol) → length P.pairs ≤ k → slice_get P.triples (k - length P.pairs) ≡ Some x → slice_get (sequences P) k ≡ Some (of_triple x)
-triple_is_sequence P k x le e =
-    let long = length-map P.pairs of_pair in
-    let same : k - length P.pairs ≡ k - length (map of_pair P.pairs) = omega (arith, long) in
-    slice_get-behind (map of_pair P.pairs) (map of_triple P.triples) k (of_triple x) (omega (arith, long, le))
-    (ap (slice_get (map of_triple P.triples)) (sym same) ∙ slice_get-map of_triple P.triples (k - length P.pairs) x e)
-
--- the symbols of each are the instance's
-abbrev AreKnown : Instance → Sequence → Type 0
-AreKnown P q = All (IsSymbol P) (symbols_of q)
-
-sequences_known : (P : Instance) → KeepsLimits P → All (AreKnown P) (sequences P)
-sequences_known P limits =
-    All-append (AreKnown P) (map of_pair P.pairs) (map of_triple P.triples)
-    (All-map (AreKnown P) of_pair P.pairs (λ k d lt. let h = limits.known_pairs k d lt in All-from_recursion (IsSymbol P) (symbols_of (of_pair (get_or P.pairs k d))) (h.0, (h.1, tt))))
-    (All-map (AreKnown P) of_triple P.triples (λ k d lt. let h = limits.known_triples k d lt in All-from_recursion (IsSymbol P) (symbols_of (of_triple (get_or P.triples k d))) (h.0, (h.1, (h.2, tt)))))
-
-pub sequence_known : (P : Instance) (k : ℕ) (q : Sequence) → KeepsLimits P → slice_get (sequences P) k ≡ Some q → All (IsSymbol P) (symbols_of q)
-sequence_known P k q limits is =
-    subst (AreKnown P) (get_or_from_slice_get (sequences P) k q q is) (sequences_known P limits k q (slice_get_within (sequences P) k q is))
 
 -- the rules on the blocks of classes
 
@@ -88,15 +34,15 @@ length-block_list : (P : Instance) → length (block_list P) ≡ 2 * (shift_coun
 length-block_list P = let b = length-blocks (classes P) in let c = length-classes P in omega (arith, b, c)
 
 abbrev sequence_list : Instance → List Rule
-sequence_list P = map Never (range_with_len 0 (length (sequences P)))
+sequence_list P = map Never (range_with_len 0 (length P.sequences))
 
 abbrev day_list : Instance → List Rule
 day_list P = map Day (range_with_len 1 P.days)
 
-pub rules_are_many : (P : Instance) → length (rules P) ≡ 2 * (shift_count P + 2) + length (sequences P) + P.days
+pub rules_are_many : (P : Instance) → length (rules P) ≡ 2 * (shift_count P + 2) + length P.sequences + P.days
 rules_are_many P =
     let b = length-block_list P in
-    let q = length-map-range_with_len Never 0 (length (sequences P)) in
+    let q = length-map-range_with_len Never 0 (length P.sequences) in
     let d = length-map-range_with_len Day 1 P.days in
     let two = length-append (block_list P) (sequence_list P) in
     let three = length-append (block_list P ++ sequence_list P) (day_list P) in
@@ -174,12 +120,12 @@ standing P (Least c) h =
     in_first (block_list P) (sequence_list P) (day_list P) (2 * class_place P c + 1) some_rule (omega (arith, below, length-block_list P))
     ∙ least_at (classes P) (class_place P c) some_rule Off (omega (arith, below, length-classes P)) ∙ ap Least (class_standing P c h)
 standing P (Never k) h =
-    let q = length-map-range_with_len Never 0 (length (sequences P)) in
+    let q = length-map-range_with_len Never 0 (length P.sequences) in
     in_second (block_list P) (sequence_list P) (day_list P) (2 * (shift_count P + 2)) k some_rule (sym (length-block_list P)) (omega (arith, h, q))
-    ∙ get_or-map-range_with_len Never 0 (length (sequences P)) k k some_rule h (omega arith)
+    ∙ get_or-map-range_with_len Never 0 (length P.sequences) k k some_rule h (omega arith)
 standing P (Day j) h =
-    let q = length-map-range_with_len Never 0 (length (sequences P)) in
-    in_third (block_list P) (sequence_list P) (day_list P) (2 * (shift_count P + 2) + length (sequences P)) (j - 1) some_rule (omega (arith, length-block_list P, q))
+    let q = length-map-range_with_len Never 0 (length P.sequences) in
+    in_third (block_list P) (sequence_list P) (day_list P) (2 * (shift_count P + 2) + length P.sequences) (j - 1) some_rule (omega (arith, length-block_list P, q))
     ∙ get_or-map-range_with_len Day 1 P.days (j - 1) j some_rule (omega (arith, h.0, h.1)) (omega (arith, h.0))
 
 -- the list has room for it
@@ -208,7 +154,7 @@ rule_there : (P : Instance) (n : ℕ) → n < length (rules P) → (r : Rule) ×
 rule_there P n h =
     let many = rules_are_many P in
     let blocks = 2 * (shift_count P + 2) in
-    let count = length (sequences P) in
+    let count = length P.sequences in
     ⊎_elim
     (λ (low : n < blocks).
     let q = class_there P (n / 2) (omega arith) in

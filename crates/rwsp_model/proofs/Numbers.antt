@@ -6,32 +6,19 @@ use Rattle.std.specs.Str.{bytes_eq}
 use Rattle.std.proofs.lemmas.Option.{slice_get-get_or, slice_get_within, get_or_from_slice_get}
 use Rattle.rwsp_terms.specs.declared.data.Bounds.{Bounds}
 use Rattle.rwsp_terms.specs.declared.data.ShiftRow.{ShiftRow}
-use Rattle.rwsp_terms.specs.declared.data.Symbol.{Symbol}
+use Rattle.rwsp_terms.specs.declared.data.Sequence.{Sequence}
 use Rattle.rwsp_terms.specs.Instance.{Instance, shift_count, no_bounds, range_in, shift_demand, column_least, column_greatest, least, greatest, off_name, symbol_numbered, symbol_among}
 use Rattle.rwsp_model.specs.Validity.{KeepsLimits, IsSmallRange, AreSmall}
 
 -- instances are the same where their lists are
 
-abbrev with_lists : Instance → List (List Bounds) → List ShiftRow → List (Symbol × Symbol) → List (Symbol × Symbol × Symbol) → Instance
-with_lists P demand shifts pairs triples = record P { demand = demand; shifts = shifts; pairs = pairs; triples = triples }
+abbrev with_lists : Instance → List (List Bounds) → List ShiftRow → List Sequence → Instance
+with_lists P demand shifts sequences = record P { demand = demand; shifts = shifts; sequences = sequences }
 
-pub same_instance : (P : Instance) (demand : List (List Bounds)) (shifts : List ShiftRow) (pairs : List (Symbol × Symbol)) (triples : List (Symbol × Symbol × Symbol)) → demand ≡ P.demand → shifts ≡ P.shifts → pairs ≡ P.pairs → triples ≡ P.triples → with_lists P demand shifts pairs triples ≡ P
-same_instance P demand shifts pairs triples d s p t =
-    ap (λ v. with_lists P v shifts pairs triples) d ∙ ap (λ v. with_lists P P.demand v pairs triples) s
-    ∙ ap (λ v. with_lists P P.demand P.shifts v triples) p ∙ ap (λ v. with_lists P P.demand P.shifts P.pairs v) t
-
-pub same_pair : (x y : Symbol × Symbol) → y.0 ≡ x.0 → y.1 ≡ x.1 → y ≡ x
-same_pair x y a b =
-    let first : Symbol → Symbol × Symbol = λ u. (u, y.1) in
-    let second : Symbol → Symbol × Symbol = λ u. (x.0, u) in
-    ap first a ∙ ap second b
-
-pub same_triple : (x y : Symbol × Symbol × Symbol) → y.0 ≡ x.0 → y.1 ≡ x.1 → y.2 ≡ x.2 → y ≡ x
-same_triple x y a b d =
-    let first : Symbol → Symbol × Symbol × Symbol = λ u. (u, y.1, y.2) in
-    let second : Symbol → Symbol × Symbol × Symbol = λ u. (x.0, u, y.2) in
-    let third : Symbol → Symbol × Symbol × Symbol = λ u. (x.0, x.1, u) in
-    ap first a ∙ ap second b ∙ ap third d
+pub same_instance : (P : Instance) (demand : List (List Bounds)) (shifts : List ShiftRow) (sequences : List Sequence) → demand ≡ P.demand → shifts ≡ P.shifts → sequences ≡ P.sequences → with_lists P demand shifts sequences ≡ P
+same_instance P demand shifts sequences d s q =
+    ap (λ v. with_lists P v shifts sequences) d ∙ ap (λ v. with_lists P P.demand v sequences) s
+    ∙ ap (λ v. with_lists P P.demand P.shifts v) q
 
 -- demand
 

@@ -9,8 +9,7 @@ pub other_weeks_keep : (P : Instance) (m : ℕ) → KeepsLimits P → 1 ≤ m �
 other_weeks_keep P m k some few few_cells = record {
   rows = k.rows;
   long_rows = k.long_rows;
-  known_pairs = k.known_pairs;
-  known_triples = k.known_triples;
+  sequences = k.sequences;
   some_days = k.some_days;
   few_days = k.few_days;
   some_weeks = some;
@@ -23,8 +22,7 @@ other_weeks_keep P m k some few few_cells = record {
   blocks = k.blocks;
   off = k.off;
   work = k.work;
-  few_pairs = k.few_pairs;
-  few_triples = k.few_triples;
+  listed = k.listed;
   names = k.names;
   distinct = k.distinct;
 }

@@ -1,5 +1,5 @@
 -- The list of all short rules, as far as it has come.
-use Rattle.std.proofs.Common.{◌≡◌, ◌≢◌, ℕ, zero, suc, ◌+◌, ◌<◌, ◌≤◌, List, [], length, get_or, refl, ap, sym, ◌∙◌, subst, arith, Some, ◌⊎◌, inl, inr, ⊎_elim}
+use Rattle.std.proofs.Common.{◌≡◌, ◌≢◌, ℕ, zero, suc, ◌+◌, ◌<◌, ◌≤◌, List, length, get_or, refl, ap, sym, ◌∙◌, subst, arith, Some, ◌⊎◌, inl, inr, ⊎_elim}
 use Rattle.std.specs.Prelude.{All, Contains, ◌↔◌, nat_le, true}
 use Rattle.std.specs.Bool.{Decides}
 use Rattle.rwsp_terms.specs.declared.limits.TheConstants.{GREATEST_SHORT_BOUND}
@@ -31,16 +31,6 @@ put_short P old new n r numbered short holds = λ k. (
 pub record ListsUpTo (P : Instance) (R : List ℕ) (n : ℕ) : Type 0 where
   pub ascends : IsStrictlyIncreasing R
   pub numbers : (k : ℕ) → Contains R k ↔ ((k ≤ n) × IsShortNumber P k)
-
-no_rule : (P : Instance) (k : ℕ) → k ≤ 0 → IsShortNumber P k → ⊥
-no_rule P zero le h = let f = rule_numbered P zero h.0 h.1 in omega (arith, f.1)
-no_rule P (suc k) le h = omega (arith, le)
-
-pub lists_none : (P : Instance) → ListsUpTo P [] 0
-lists_none P = record {
-  ascends = λ k less. absurd (omega (arith, less));
-  numbers = λ k. (λ c. absurd (omega (arith, c.1)), λ h. absurd (no_rule P k h.0 h.1));
-}
 
 pub lists_more : (P : Instance) (old new : List ℕ) (n m : ℕ) → m ≡ n + 1 → ListsUpTo P old n → IsStrictlyIncreasing new → ((k : ℕ) → Contains new k ↔ (Contains old k ⊎ ((k ≡ n + 1) × IsShortNumber P k))) → ListsUpTo P new m
 lists_more P old new n m next lists up holds = record {

@@ -1,26 +1,37 @@
 -- Which instances are valid, and the first reason against one that isn't.
-use Rattle.std.specs.Prelude.{◌≡◌, ◌≢◌, ℕ, ◌+◌, ◌*◌, ◌≤◌, List, [], ◌∷◌, ◌++◌, length, Option, Some, None, Bool, false, not, ◌&&◌, ◌||◌, ◌==◌, nat_le, slice_index, if◌then◌else◌, position, All, AllPairs}
+use Rattle.std.specs.Prelude.{◌≡◌, ◌≢◌, ℕ, ◌+◌, ◌*◌, ◌≤◌, List, [], ◌∷◌, ◌++◌, length, Option, Some, None, Bool, true, false, not, is_some, ◌&&◌, ◌||◌, ◌==◌, nat_le, slice_index, if◌then◌else◌, position, All, AllPairs}
 use Rattle.std.specs.List.{list_all, list_any}
 use Rattle.std.specs.Str.{bytes_eq}
 use Rattle.rwsp_terms.specs.declared.limits.TheConstants.{MOST_DAYS, MOST_WEEKS, MOST_CELLS, MOST_SHIFTS, GREATEST_BOUND, MOST_SEQUENCES, LONGEST_NAME}
 use Rattle.rwsp_terms.specs.Instance.{Instance, cells, shift_count, off_name}
 use Rattle.rwsp_terms.specs.declared.data.Bounds.{Bounds}
 use Rattle.rwsp_terms.specs.declared.data.ShiftRow.{ShiftRow}
+use Rattle.rwsp_terms.specs.declared.data.Sequence.{Sequence}
+use Rattle.rwsp_terms.specs.Window.{symbols_of}
+use Rattle.rwsp_model.specs.Sequences.{part_of, pair_count, triple_count, IsSequenceOf, AreListed}
 use Rattle.rwsp_model.specs.declared.refusal.PartsRefusal.{PartsRefusal}
 use Rattle.rwsp_model.specs.declared.refusal.PartsRefusal.TheVariants.{Shape, Range, Name}
 
 abbrev pub is_between : ℕ → ℕ → ℕ → Bool
 is_between low high n = nat_le low n && nat_le n high
 
--- a row for each shift, a range for each day, and no symbol above the last shift
+-- a sequence of symbols of the instance, forbidden on every day
+abbrev pub is_sequence_of : Instance → Sequence → Bool
+is_sequence_of P q = list_all (λ x. nat_le x.number (shift_count P)) (symbols_of q) && not (is_some q.day)
+
+-- the parts stand one behind the other
+abbrev pub are_ordered : List Sequence → Bool
+are_ordered [] = true
+are_ordered (q ∷ []) = true
+are_ordered (q ∷ r ∷ qs) = nat_le (part_of q) (part_of r) && are_ordered (r ∷ qs)
+
+-- a row for each shift, a range for each day, and sequences of the instance, in order
 abbrev pub has_shape : Instance → Bool
 has_shape P =
     (length P.demand == length P.shifts)
     && list_all (λ row. length row == P.days) P.demand
-    && list_all (λ x. nat_le x.0.number (length P.shifts) && nat_le x.1.number (length P.shifts)) P.pairs
-    && list_all (λ x.
-    nat_le x.0.number (length P.shifts) && nat_le x.1.number (length P.shifts)
-    && nat_le x.2.number (length P.shifts)) P.triples
+    && list_all (is_sequence_of P) P.sequences
+    && are_ordered P.sequences
 
 -- both numbers of a demand are at most that of the weeks of a schedule
 abbrev pub is_small_range : Bounds → Bool
@@ -40,8 +51,8 @@ limits_kept P =
     ∷ list_all (λ row. list_all is_small_range row) P.demand
     ∷ list_all (λ row. nat_le row.start GREATEST_BOUND && nat_le row.length GREATEST_BOUND) P.shifts
     ∷ (list_all (λ row. are_small row.bounds) P.shifts && are_small P.off && are_small P.work)
-    ∷ nat_le (length P.pairs) MOST_SEQUENCES
-    ∷ nat_le (length P.triples) MOST_SEQUENCES
+    ∷ nat_le (pair_count P) MOST_SEQUENCES
+    ∷ nat_le (triple_count P) MOST_SEQUENCES
     ∷ []
 
 -- a blank, a tab, or the end of a line
@@ -101,9 +112,7 @@ pub record IsShiftName (name : List ℕ) : Type 0 where
 pub record KeepsLimits (P : Instance) : Type 0 where
   pub rows : length P.demand ≡ length P.shifts
   pub long_rows : All (λ row. length row ≡ P.days) P.demand
-  pub known_pairs : All (λ x. (x.0.number ≤ shift_count P) × (x.1.number ≤ shift_count P)) P.pairs
-  pub known_triples : All (λ x.
-      (x.0.number ≤ shift_count P) × (x.1.number ≤ shift_count P) × (x.2.number ≤ shift_count P)) P.triples
+  pub sequences : All (IsSequenceOf P) P.sequences
   pub some_days : 1 ≤ P.days
   pub few_days : P.days ≤ MOST_DAYS
   pub some_weeks : 1 ≤ P.weeks
@@ -116,7 +125,6 @@ pub record KeepsLimits (P : Instance) : Type 0 where
   pub blocks : All (λ row. AreSmall row.bounds) P.shifts
   pub off : AreSmall P.off
   pub work : AreSmall P.work
-  pub few_pairs : length P.pairs ≤ MOST_SEQUENCES
-  pub few_triples : length P.triples ≤ MOST_SEQUENCES
+  pub listed : AreListed P.sequences
   pub names : All (λ row. IsShiftName row.name) P.shifts
   pub distinct : AllPairs (λ a b. a.name ≢ b.name) P.shifts

@@ -20,4 +20,5 @@ pub use problem::{Parts, Problem};
 pub use refusal::PartsRefusal;
 pub use roster::Roster;
 pub use rules::{is_short, number_of, rule_at, rule_count, short_rules};
+pub use validity::count_in;
 pub use weeks::weeks_with;

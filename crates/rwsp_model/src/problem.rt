@@ -2,11 +2,10 @@ ghost use Rattle.std.specs.Prelude.{◌≡◌, ◌+◌, ◌-◌, ◌*◌, ◌<�
 ghost use Rattle.std.specs.Option.{option_map};
 ghost use Rattle.std.specs.Str.{bytes_eq};
 ghost use Rattle.rwsp_terms.specs.declared.limits.TheConstants.{MOST_WEEKS, MOST_CELLS, MOST_SEQUENCES};
-ghost use Rattle.rwsp_terms.specs.Instance.{bounds, shift_count, cells, sequences, symbol_of, name_of, name_among, least, greatest, shift_demand, IsClass, IsSymbol, IsShift, IsDay};
-ghost use Rattle.rwsp_terms.specs.Window.{symbols_of};
+ghost use Rattle.rwsp_terms.specs.Instance.{bounds, shift_count, cells, symbol_of, name_of, name_among, least, greatest, shift_demand, IsClass, IsSymbol, IsShift, IsDay};
 ghost use Rattle.rwsp_model.specs.Parts.{instance_of};
 ghost use Rattle.rwsp_model.specs.Validity.{refusal_of, IsValid, KeepsLimits};
-ghost use Rattle.rwsp_model.specs.Sequences.{IsPairOf, IsTripleOf};
+ghost use Rattle.rwsp_model.specs.Sequences.{IsSequenceOf, AreListed};
 
 use crate::{PartsRefusal, demand, validity};
 use rwsp_terms::limits::{
@@ -25,8 +24,8 @@ pub struct Parts {
     pub shifts: Vec<ShiftRow>,
     pub off: Bounds,
     pub work: Bounds,
-    pub pairs: Vec<(Symbol, Symbol)>,
-    pub triples: Vec<(Symbol, Symbol, Symbol)>,
+    /// Those of two symbols, and behind them those of three.
+    pub sequences: Vec<Sequence>,
 }
 
 impl Parts {
@@ -41,8 +40,7 @@ impl Parts {
             shifts: self.shifts.clone()?,
             off: self.off,
             work: self.work,
-            pairs: self.pairs.clone()?,
-            triples: self.triples.clone()?,
+            sequences: self.sequences.clone()?,
         })
     }
 }
@@ -116,21 +114,15 @@ impl Problem {
         Ok(Problem { parts })
     }
 
-    /// The problem with these forbidden pairs and triples in place of its own.
-    pub fn with_sequences(
-        &self,
-        pairs: Vec<(Symbol, Symbol)>,
-        triples: Vec<(Symbol, Symbol, Symbol)>,
-    ) -> Result<Problem, AllocError>
-        requires few { (length pairs.items ≤ MOST_SEQUENCES) × (length triples.items ≤ MOST_SEQUENCES) }
-        requires pairs { All (IsPairOf self.now) pairs.items }
-        requires triples { All (IsTripleOf self.now) triples.items }
-        ensures { IfOk result (λ P. P ≡ record self.now { pairs = pairs.items; triples = triples.items }) }
+    /// The problem with these forbidden sequences in place of its own.
+    pub fn with_sequences(&self, sequences: Vec<Sequence>) -> Result<Problem, AllocError>
+        requires known { All (IsSequenceOf self.now) sequences.items }
+        requires listed { AreListed sequences.items }
+        ensures { IfOk result (λ P. P ≡ record self.now { sequences = sequences.items }) }
     {
         self.prove_limits();
         let mut parts = self.parts.copy()?;
-        parts.pairs = pairs;
-        parts.triples = triples;
+        parts.sequences = sequences;
         Ok(Problem { parts })
     }
 
@@ -180,48 +172,34 @@ impl Problem {
         self.parts.shifts.len() as u8
     }
 
-    /// The pairs of symbols that may not follow each other.
-    pub fn pairs(&self) -> &[(Symbol, Symbol)]
-        ensures value { result.now ≡ self.now.pairs }
-        ensures few { length result.now ≤ MOST_SEQUENCES }
+    /// The forbidden sequences: those of two symbols, and behind them those of three.
+    #[tactic(auto, using(crate::proofs::Sequences::few_sequences))]
+    pub fn sequences(&self) -> &[Sequence]
+        ensures value { result.now ≡ self.now.sequences }
+        ensures known { All (IsSequenceOf self.now) result.now }
+        ensures listed { AreListed result.now }
+        ensures few { length result.now ≤ 2 * MOST_SEQUENCES }
     {
         self.prove_limits();
-        &self.parts.pairs
+        &self.parts.sequences
     }
 
-    /// The triples of symbols that may not follow each other.
-    pub fn triples(&self) -> &[(Symbol, Symbol, Symbol)]
-        ensures value { result.now ≡ self.now.triples }
-        ensures few { length result.now ≤ MOST_SEQUENCES }
-    {
-        self.prove_limits();
-        &self.parts.triples
-    }
-
-    /// The number of forbidden sequences: of the pairs and the triples.
-    #[tactic(auto, using(crate::proofs::Numbering::sequences_are_many))]
+    /// The number of forbidden sequences.
     pub fn sequence_count(&self) -> u32
-        ensures value { result ≡ length (sequences self.now) }
+        ensures value { result ≡ length self.now.sequences }
         ensures few { result ≤ 2 * MOST_SEQUENCES }
     {
-        self.pairs().len() as u32 + self.triples().len() as u32
+        self.sequences().len() as u32
     }
 
-    /// The forbidden sequence of a place, counted from 0. The pairs come first.
-    #[tactic(auto, using(crate::proofs::Numbering::sequences_are_many, crate::proofs::Numbering::pair_is_sequence, crate::proofs::Numbering::triple_is_sequence))]
+    /// The forbidden sequence of a place, counted from 0.
     pub fn sequence(&self, place: u32) -> Sequence
-        requires { place < length (sequences self.now) }
-        ensures value { slice_get (sequences self.now) place ≡ Some result }
-        ensures symbols { All (IsSymbol self.now) (symbols_of result) }
+        requires { place < length self.now.sequences }
+        ensures value { slice_get self.now.sequences place ≡ Some result }
+        ensures known { IsSequenceOf self.now result }
     {
         self.prove_limits();
-        let place = place as usize;
-        let pairs = self.pairs();
-        if place < pairs.len() {
-            Sequence::of_pair(element(pairs, place))
-        } else {
-            Sequence::of_triple(element(self.triples(), place - pairs.len()))
-        }
+        self.parts.sequences[place as usize]
     }
 
     /// The least and the greatest length of the blocks of a class, in days.
@@ -310,14 +288,6 @@ impl Problem {
     {
         demand::greatest_of(&self.parts, x, day)
     }
-}
-
-// The element at a place.
-fn element<T: Copy>(items: &[T], place: usize) -> T
-    requires { place < length items.now }
-    ensures { slice_get items.now place ≡ Some result }
-{
-    items[place]
 }
 
 // The row of a shift.

@@ -97,6 +97,7 @@ fn class_place(problem: &Problem, class: Class) -> u32
 }
 
 // The place of a rule in the list, counted from 0.
+#[tactic(auto, using(crate::proofs::Sequences::few_sequences))]
 fn place_of(problem: &Problem, rule: Rule) -> u32
     requires { IsRule problem.now rule }
     ensures value { result ≡ place_of problem.now rule }

@@ -1,15 +1,16 @@
 // Whether parts make a problem.
-ghost use Rattle.std.specs.Prelude.{◌≡◌, ◌+◌, ◌-◌, ◌*◌, ◌<◌, ◌≤◌, [], length, Option, Some, None, ◌==◌, ◌&&◌, nat_le, position, not};
+ghost use Rattle.std.specs.Prelude.{◌≡◌, ◌+◌, ◌-◌, ◌*◌, ◌≤◌, [], length, Option, Some, None, ◌==◌, ◌&&◌, nat_le, position, not};
 ghost use Rattle.std.specs.List.{list_all, list_any};
 ghost use Rattle.std.specs.Str.{bytes_eq};
 ghost use Rattle.rwsp_model.specs.Parts.{instance_of};
-ghost use Rattle.rwsp_model.specs.Validity.{refusal_of, has_shape, are_small, is_small_range, is_between, limits_kept, is_shift_name, is_named_well, bad_name_from, breaks_name};
+ghost use Rattle.rwsp_model.specs.Sequences.{part_of, count_in};
+ghost use Rattle.rwsp_model.specs.Validity.{is_sequence_of, are_ordered, refusal_of, has_shape, are_small, is_small_range, is_between, limits_kept, is_shift_name, is_named_well, bad_name_from, breaks_name};
 
 use crate::{Parts, PartsRefusal};
 use rwsp_terms::limits::{
     GREATEST_BOUND, LONGEST_NAME, MOST_CELLS, MOST_DAYS, MOST_SEQUENCES, MOST_SHIFTS, MOST_WEEKS,
 };
-use rwsp_terms::{Bounds, DemandRow, ShiftRow, Symbol};
+use rwsp_terms::{Bounds, DemandRow, Sequence, ShiftRow};
 
 fn is_long(row: &DemandRow, days: usize) -> bool
     ensures { result ≡ (length row.now == days) }
@@ -23,19 +24,49 @@ fn rows_are_long(rows: &[DemandRow], days: usize) -> bool
     rows.iter().all(|row| is_long(row, days))
 }
 
-fn pairs_are_within(pairs: &[(Symbol, Symbol)], last: usize) -> bool
-    ensures { result ≡ list_all (λ x. nat_le x.0.number last && nat_le x.1.number last) pairs.now }
+// Whether the sequence is one of these parts.
+fn is_known(parts: &Parts, sequence: &Sequence) -> bool
+    ensures { result ≡ is_sequence_of (instance_of parts.now) sequence.now }
 {
-    pairs.iter().all(|(x, y)| x.number as usize <= last && y.number as usize <= last)
+    let last = parts.shifts.len();
+    let front = sequence.first.number as usize <= last && sequence.second.number as usize <= last;
+    let third = match sequence.third {
+        Some(third) => third.number as usize <= last,
+        None => true,
+    };
+    front && third && sequence.day.is_none()
 }
 
-fn triples_are_within(triples: &[(Symbol, Symbol, Symbol)], last: usize) -> bool
-    ensures { result ≡ list_all (λ x.
-        nat_le x.0.number last && nat_le x.1.number last && nat_le x.2.number last) triples.now }
+fn sequences_are_known(parts: &Parts) -> bool
+    ensures { result ≡ list_all (is_sequence_of (instance_of parts.now)) parts.now.sequences.items }
 {
-    triples.iter().all(|(x, y, z)| {
-        x.number as usize <= last && y.number as usize <= last && z.number as usize <= last
-    })
+    parts
+        .sequences
+        .iter()
+        .all(|sequence| is_known(parts, sequence))
+}
+
+// The part of the list in which a sequence stands: that of its number of symbols.
+fn part_of(sequence: &Sequence) -> u32
+    ensures { result ≡ part_of sequence.now }
+{
+    match sequence.third {
+        Some(_) => 3,
+        None => 2,
+    }
+}
+
+fn are_ordered(sequences: &[Sequence]) -> bool
+    ensures { result ≡ are_ordered sequences.now }
+{
+    sequences.is_sorted_by(|a, b| part_of(a) <= part_of(b))
+}
+
+/// How many of the sequences have so many symbols.
+pub fn count_in(part: u32, sequences: &[Sequence]) -> usize
+    ensures { result ≡ count_in part sequences.now }
+{
+    sequences.iter().filter(|q| part_of(q) == part).count()
 }
 
 fn shape_is_kept(parts: &Parts) -> bool
@@ -44,9 +75,8 @@ fn shape_is_kept(parts: &Parts) -> bool
     let last = parts.shifts.len();
     let count = parts.demand.len() == last;
     let rows = rows_are_long(&parts.demand, parts.days as usize);
-    let pairs = pairs_are_within(&parts.pairs, last);
-    let triples = triples_are_within(&parts.triples, last);
-    count && rows && pairs && triples
+    let known = sequences_are_known(parts);
+    count && rows && known && are_ordered(&parts.sequences)
 }
 
 fn are_small(bounds: Bounds) -> bool
@@ -107,8 +137,8 @@ fn first_broken_limit(parts: &Parts) -> Option<usize>
         demand_is_small(&parts.demand),
         times_are_small(shifts),
         blocks && off && work,
-        parts.pairs.len() <= MOST_SEQUENCES as usize,
-        parts.triples.len() <= MOST_SEQUENCES as usize,
+        count_in(2, &parts.sequences) <= MOST_SEQUENCES as usize,
+        count_in(3, &parts.sequences) <= MOST_SEQUENCES as usize,
     ];
     kept.iter().position(|kept| !*kept)
 }

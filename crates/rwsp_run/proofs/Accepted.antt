@@ -8,7 +8,6 @@ use Rattle.rwsp_terms.specs.declared.data.Symbol.{Symbol}
 use Rattle.rwsp_model.specs.Validity.{KeepsLimits}
 use Rattle.rwsp_model.proofs.Limits.{valid_keeps}
 use Rattle.rwsp_file.specs.Spelling.{SpellsProblem}
-use Rattle.refutation_terms.specs.declared.lines.LogKind.{LogKind}
 use Rattle.refutation_terms.specs.declared.lines.LogKind.TheVariants.{WithoutGoal, WithGoal, WithCells}
 use Rattle.refutation_terms.specs.declared.lines.Opening.{Opening}
 use Rattle.refutation_terms.specs.Log.{Log, Passes}
@@ -72,10 +71,10 @@ checks P file workers g a spells passes plain short h = (
 )
 
 pub rosters_meet : RostersMeet
-rosters_meet file P budget counts s a spells planned h = meets P file s.cells a spells planned.2.1.0.1 h
+rosters_meet file P budget seed counts s a spells planned h = meets P file s.cells a spells planned.2.1.0.1 h
 
 pub refutations_accepted : RefutationsAreAccepted
-refutations_accepted file P budget workers counts g a spells planned short h = checks P file workers g a spells planned.2.1.0.0 planned.2.1.0.2.of_kind short h
+refutations_accepted file P budget seed workers counts g a spells planned short h = checks P file workers g a spells planned.2.1.0.0 planned.2.1.0.2.of_kind short h
 
 pub reductions_accepted : ReductionsAreAccepted
 reductions_accepted file P workers told g a spells reduced short h =

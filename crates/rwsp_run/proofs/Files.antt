@@ -6,10 +6,9 @@ use Rattle.rwsp_terms.specs.Instance.{Instance}
 use Rattle.rwsp_model.specs.Validity.{KeepsLimits}
 use Rattle.rwsp_model.proofs.Limits.{valid_keeps}
 use Rattle.rwsp_file.specs.Laws.{TextsSpellOne}
-use Rattle.rwsp_file.specs.Spelling.{SpellsProblem}
 use Rattle.commands.specs.Files.{WhereTold, Holds, IsSecond, IsTooLong}
 use Rattle.rwsp_file.specs.declared.refusal.FileRefusal.{FileRefusal}
-use Rattle.commands.specs.ProblemFile.{IsProblemOf, IsProblemRefusal, IsRefusedFile, IsShortFile}
+use Rattle.commands.specs.ProblemFile.{IsProblemOf, IsProblemRefusal, IsRefusedFile}
 use Rattle.commands.specs.declared.problem_file.ProblemRefusal.{ProblemRefusal}
 use Rattle.commands.specs.declared.problem_file.ProblemRefusal.TheVariants.{TooLong, Refused}
 use Rattle.commands.specs.declared.explain.Answer.{Answer as Explanation}

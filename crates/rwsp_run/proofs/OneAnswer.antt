@@ -1,5 +1,5 @@
 -- Two answers over the same files, compared part by part.
-use Rattle.std.proofs.Common.{◌≡◌, ℕ, List, Some, None, Option, ap, sym, ◌∙◌, refl, subst, inl, inr}
+use Rattle.std.proofs.Common.{◌≡◌, ℕ, List, Some, None, ap, sym, ◌∙◌, refl, subst, inl, inr}
 use Rattle.std.specs.Prelude.{◌≢◌, ◌⊎◌}
 use Rattle.rwsp_io.specs.Told.{Told, Silent, Bytes}
 use Rattle.rwsp_terms.specs.Instance.{Instance}

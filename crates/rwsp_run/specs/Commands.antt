@@ -48,7 +48,7 @@ use Rattle.rwsp_run.specs.declared.jobs.JobAnswer.TheVariants as Jobs
 -- the kind of a task's second file
 abbrev pub second_kind : FilesTask → SecondKind
 second_kind FilesTasks.Verify = Kinds.Roster
-second_kind (FilesTasks.Crew date days employee) = Kinds.Roster
+second_kind (FilesTasks.Crew date days layout) = Kinds.Roster
 second_kind FilesTasks.Page = Kinds.Roster
 second_kind (FilesTasks.Ics date days employee) = Kinds.Roster
 second_kind (FilesTasks.On start date) = Kinds.Roster
@@ -87,14 +87,14 @@ SuitsProblemTask task P = unfit_for_problem_task task P ≡ None
 abbrev pub SuitsFilesTask : FilesTask → Instance → Type 0
 SuitsFilesTask task P = unfit_for_files_task task P ≡ None
 
--- and for the command
+-- the problem is one for the command
 abbrev pub Suits : Command → Instance → Type 0
 Suits command P = unfit_for command P ≡ None
 
 -- what the answer to a task says of the problem
 abbrev pub IsProblemAnswer : ProblemTask → Instance → JobAnswer → Type 0
 IsProblemAnswer ProblemTasks.Show P Jobs.Show = Unit {0}
-IsProblemAnswer (ProblemTasks.Plan budget counts) P (Jobs.Plan found) = IsPlanAnswer P budget counts found
+IsProblemAnswer (ProblemTasks.Plan budget counts seed) P (Jobs.Plan found) = IsPlanAnswer P budget counts found
 IsProblemAnswer (ProblemTasks.Best budget counts) P (Jobs.Best found) = IsBestAnswer P budget counts found
 IsProblemAnswer (ProblemTasks.Staff low high budget counts) P (Jobs.Staff a) = IsStaffAnswer P low high budget counts a
 IsProblemAnswer (ProblemTasks.Mend budget counts) P (Jobs.Mend ways) = IsMendAnswer P budget counts ways
@@ -108,7 +108,7 @@ IsFilesAnswer (FilesTasks.Check workers) P bytes (Jobs.Check a) = IsChecked P Wi
 IsFilesAnswer FilesTasks.CheckFree P bytes (Jobs.Check a) = IsChecked P WithGoal bytes a
 IsFilesAnswer FilesTasks.CheckStaff P bytes (Jobs.CheckStaff a) = IsCheckedStaff P bytes a
 IsFilesAnswer FilesTasks.Reduce P bytes (Jobs.Reduce a) = IsReduction P bytes a
-IsFilesAnswer (FilesTasks.Crew date days employee) P bytes (Jobs.Crew a) = IsCrewAnswer P bytes date days employee a
+IsFilesAnswer (FilesTasks.Crew date days layout) P bytes (Jobs.Crew a) = IsCrewAnswer P bytes date days layout a
 IsFilesAnswer FilesTasks.Page P bytes (Jobs.Page a) = IsPageAnswer P bytes a
 IsFilesAnswer (FilesTasks.Ics date days employee) P bytes (Jobs.Ics a) = IsIcsAnswer P bytes date days employee a
 IsFilesAnswer (FilesTasks.On start date) P bytes (Jobs.On a) = IsOnAnswer P bytes start date a
@@ -164,7 +164,7 @@ abbrev pub slips_behind_run : StaffEnd → Telling
 slips_behind_run (Ends.Least s) = LongNames
 slips_behind_run end = Unsized
 
--- and behind what is told of an answer
+-- which slips are told behind what is told of an answer
 abbrev pub slips_behind : JobAnswer → Option Telling
 slips_behind (Jobs.Plan (Founds.NoRoster g)) = Some (slips_behind_log g)
 slips_behind (Jobs.Plan (Founds.Undecided g)) = Some WithCounts

@@ -1,5 +1,5 @@
 -- What answers fit a command line over files whose bytes are known.
-use Rattle.std.specs.Prelude.{◌≡◌, ◌≢◌, ◌⊎◌, ◌↔◌, ℕ, ◌+◌, ◌≤◌, Bool, List, Option, Some, None, Contains}
+use Rattle.std.specs.Prelude.{◌≡◌, ◌≢◌, ◌⊎◌, ◌↔◌, ℕ, ◌+◌, ◌≤◌, Bool, List, Some, None, Contains}
 use Rattle.std.specs.List.{flat_map}
 use Rattle.rwsp_terms.specs.declared.limits.TheConstants.{MOST_WEEKS}
 use Rattle.rwsp_io.specs.Told.{Told, Silent, Bytes}
@@ -133,16 +133,16 @@ IsAnswerOnFiles task told P answer = (name second : List ℕ) × IsAnswerOn (OnF
 -- the text of a roster that `plan` writes for what a file spells meets every rule by `verify`
 abbrev pub RostersMeet : Type 0
 RostersMeet =
-    (file : List ℕ) (P : Instance) (budget : ℕ) (counts : Bool) (s : Roster) (a : Answer)
-    → SpellsProblem file P → IsAnswerOnProblem (Plan budget counts) P (Job (Jobs.Plan (Founds.Roster s)))
+    (file : List ℕ) (P : Instance) (budget seed : ℕ) (counts : Bool) (s : Roster) (a : Answer)
+    → SpellsProblem file P → IsAnswerOnProblem (Plan budget counts seed) P (Job (Jobs.Plan (Founds.Roster s)))
     → IsAnswerOnFiles Verify (Bytes (job_text P (Jobs.Plan (Founds.Roster s)))) P a
     → a ≡ Job (Jobs.Verify Verifies.Meets)
 
 -- the text of a refutation that `plan` writes is accepted by `check` over the same file, with what it shows
 abbrev pub RefutationsAreAccepted : Type 0
 RefutationsAreAccepted =
-    (file : List ℕ) (P : Instance) (budget workers : ℕ) (counts : Bool) (g : Log) (a : Answer)
-    → SpellsProblem file P → IsAnswerOnProblem (Plan budget counts) P (Job (Jobs.Plan (Founds.NoRoster g)))
+    (file : List ℕ) (P : Instance) (budget seed workers : ℕ) (counts : Bool) (g : Log) (a : Answer)
+    → SpellsProblem file P → IsAnswerOnProblem (Plan budget counts seed) P (Job (Jobs.Plan (Founds.NoRoster g)))
     → IsWithinLimit Kinds.Log (job_text P (Jobs.Plan (Founds.NoRoster g)))
     → IsAnswerOnFiles (Check workers) (Bytes (job_text P (Jobs.Plan (Founds.NoRoster g)))) P a
     → (g.goal ≡ None) × (a ≡ Job (Jobs.Check (Checks.Accepted (shown_by g))))

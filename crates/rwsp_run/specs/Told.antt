@@ -20,7 +20,7 @@ use Rattle.rwsp_run.specs.declared.answer.Refusal.{Refusal}
 use Rattle.rwsp_run.specs.declared.answer.Refusal.TheVariants.{Horizon, Problem, Unfit as UnfitFor}
 use Rattle.rwsp_run.specs.declared.answer.Unfit.TheVariants.{NotWeekly, OpenWordTaken}
 use Rattle.rwsp_run.specs.declared.answer.Answer.{Answer}
-use Rattle.rwsp_run.specs.declared.answer.Answer.TheVariants.{Refused, Trial, Job, Explained}
+use Rattle.rwsp_run.specs.declared.answer.Answer.TheVariants.{Refused, Job}
 
 -- the line that says in words why a task isn't begun, but of a file that is refused; none where the answer itself does
 abbrev pub refusal_words : Refusal → List ℕ

@@ -121,8 +121,12 @@ pub fn answer_on_problem<R: Threads + Sync, G: Gate>(
 {
     match task {
         ProblemTask::Show => Ok(JobAnswer::Show),
-        ProblemTask::Plan { budget, counts } => {
-            let found = plan::job(rt, alloc, problem, Effort { budget, counts }, gate)?;
+        ProblemTask::Plan {
+            budget,
+            counts,
+            seed,
+        } => {
+            let found = plan::job(rt, alloc, problem, Effort { budget, counts }, seed, gate)?;
             Ok(JobAnswer::Plan(found))
         }
         ProblemTask::Best { budget, counts } => {
@@ -187,12 +191,8 @@ pub fn answer_on_files<R: Threads + Sync, G: Gate>(
             let answer = reduce::job(rt, alloc, problem, bytes, gate)?;
             Ok(JobAnswer::Reduce(answer))
         }
-        FilesTask::Crew {
-            date,
-            days,
-            employee,
-        } => {
-            let answer = crew::job(alloc, problem, &bytes, date, days, employee)?;
+        FilesTask::Crew { date, days, layout } => {
+            let answer = crew::job(alloc, problem, &bytes, date, days, layout)?;
             Ok(JobAnswer::Crew(answer))
         }
         FilesTask::Page => {

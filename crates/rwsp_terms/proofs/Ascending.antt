@@ -13,7 +13,7 @@ use Rattle.std.proofs.lemmas.List.Sorted.{IsPermutation-insert, IsPermutation-sy
 use Rattle.std.proofs.lemmas.Bool.{cases_lt, cases_eq, and_parts}
 use Rattle.std.proofs.lemmas.Bool.Decides.{nat_tests}
 use Rattle.rwsp_terms.specs.Weights.{ComesBefore, IsWeight, AreWeights, weight_at}
-use Rattle.rwsp_terms.specs.Places.{NumberBelongs, is_at, Precedes, Follows, EntryStands, EntryBelongs, SetsWeight}
+use Rattle.rwsp_terms.specs.Places.{is_at, Precedes, Follows, EntryStands, EntryBelongs, SetsWeight}
 use Rattle.rwsp_terms.specs.declared.data.Weight.{Weight}
 
 -- where an element of a list with one more was before
@@ -68,13 +68,6 @@ AllPairs-insert R xs i y within pairs below above = λ a b d lt less.
 
 pub increasing_from_pairs : (xs : List ℕ) → AllPairs (λ a b. a < b) xs → IsStrictlyIncreasing xs
 increasing_from_pairs xs h = λ k less. h k (k + 1) 0 (omega arith) less
-
-pub insert_increasing : (xs : List ℕ) (i y : ℕ) → NumberBelongs xs i y → IsStrictlyIncreasing xs → IsStrictlyIncreasing (insert xs i y)
-insert_increasing xs i y place up =
-    increasing_from_pairs (insert xs i y)
-    (AllPairs-insert (λ a b. a < b) xs i y place.0 (AllPairs-from_increasing xs up)
-    (λ k d low. subst (λ z. z < y) (get_or_default xs k 0 d (omega (arith, low, place.0))) (place.1 k low))
-    (λ k d high less. subst (λ z. y < z) (get_or_default xs k 0 d less) (place.2 k high less)))
 
 pub Contains-cons : {X : Type 0} (y : X) (xs : List X) (z : X) → Contains (y ∷ xs) z → Contains xs z ⊎ (z ≡ y)
 Contains-cons y xs z h =

@@ -1,5 +1,5 @@
 -- A problem instance, and the numbers that its parts give.
-use Rattle.std.specs.Prelude.{ℕ, zero, suc, ◌+◌, ◌-◌, ◌*◌, ◌<◌, ◌≤◌, List, length, slice_get, slice_index_or, ℤ, pos, ◌-ℤ◌, Some, None, Option, cond, [], ◌∷◌, ◌++◌, map, position}
+use Rattle.std.specs.Prelude.{ℕ, zero, suc, ◌+◌, ◌-◌, ◌*◌, ◌<◌, ◌≤◌, List, length, slice_get, slice_index_or, ℤ, pos, ◌-ℤ◌, Some, None, Option, cond, [], ◌∷◌, position}
 use Rattle.std.specs.Option.{option_map}
 use Rattle.std.specs.Str.{bytes_eq}
 use Rattle.std.specs.List.{sum_by}
@@ -18,8 +18,8 @@ pub record Instance : Type 0 where
   pub shifts : List ShiftRow
   pub off : Bounds
   pub work : Bounds
-  pub pairs : List (Symbol × Symbol)
-  pub triples : List (Symbol × Symbol × Symbol)
+  -- the forbidden sequences
+  pub sequences : List Sequence
 
 -- the cells of a roster
 abbrev pub cells : Instance → ℕ
@@ -69,16 +69,9 @@ bounds P (Shift x) = bounds_of (slice_get P.shifts (x.number - 1))
 bounds P Off = P.off
 bounds P Work = P.work
 
--- a pair and a triple as sequences, forbidden on every day
-abbrev pub of_pair : Symbol × Symbol → Sequence
-of_pair x = record { first = x.0; second = x.1; third = None; day = None }
-
-abbrev pub of_triple : Symbol × Symbol × Symbol → Sequence
-of_triple x = record { first = x.0; second = x.1; third = Some x.2; day = None }
-
--- the forbidden sequences, the pairs first
-abbrev pub sequences : Instance → List Sequence
-sequences P = map of_pair P.pairs ++ map of_triple P.triples
+-- two or three symbols, forbidden on every day
+abbrev pub on_every_day : Symbol → Symbol → Option Symbol → Sequence
+on_every_day first second third = record { first = first; second = second; third = third; day = None }
 
 -- a symbol of the instance
 abbrev pub IsSymbol : Instance → Symbol → Type 0

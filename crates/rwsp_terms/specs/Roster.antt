@@ -1,7 +1,7 @@
 -- When a roster meets the rules.
 use Rattle.std.specs.Prelude.{◌≡◌, ℕ, ◌+◌, ◌-◌, ◌*◌, ◌<◌, ◌≤◌, List, length, slice_index_or, All, count_by, ◌==◌, pos, ◌≤ℤ◌}
 use Rattle.std.specs.List.{range_with_len}
-use Rattle.rwsp_terms.specs.Instance.{Instance, cells, shift_count, least, greatest, sequences, IsSymbol, IsClass, IsDay, off_symbol}
+use Rattle.rwsp_terms.specs.Instance.{Instance, cells, shift_count, least, greatest, IsSymbol, IsClass, IsDay, off_symbol}
 use Rattle.rwsp_terms.specs.Window.{Bad, window}
 use Rattle.rwsp_terms.specs.declared.data.Symbol.{Symbol}
 use Rattle.rwsp_terms.specs.declared.data.Rule.{Rule}
@@ -30,7 +30,7 @@ MeetsRule P r s = HasNoWindow (Bad P r) s
 abbrev pub IsRule : Instance → Rule → Type 0
 IsRule P (Most c) = IsClass P c
 IsRule P (Least c) = IsClass P c
-IsRule P (Never k) = k < length (sequences P)
+IsRule P (Never k) = k < length P.sequences
 IsRule P (Day j) = IsDay P j
 
 -- a cell for each day of each week, and in each a symbol

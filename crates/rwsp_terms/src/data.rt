@@ -1,5 +1,5 @@
 // Plain data, with no invariant.
-ghost use Rattle.std.specs.Prelude.{◌≡◌, ◌↔◌, ◌<◌, IsTrue};
+ghost use Rattle.std.specs.Prelude.{◌≡◌, ◌↔◌, IsTrue};
 ghost use Rattle.rwsp_terms.specs.Window.{InClass};
 
 use std::alloc::AllocError;
@@ -45,7 +45,7 @@ impl Class {
 }
 
 /// Two or three symbols that may not stand in a row.
-#[derive(Clone, Copy)]
+#[derive(Clone, Copy, PartialEq, Eq)]
 pub struct Sequence {
     pub first: Symbol,
     pub second: Symbol,
@@ -55,28 +55,16 @@ pub struct Sequence {
 }
 
 impl Sequence {
-    ghost use Rattle.rwsp_terms.specs.Instance.{of_pair, of_triple};
+    ghost use Rattle.rwsp_terms.specs.Instance.{on_every_day};
 
-    /// Two symbols, forbidden on every day.
-    pub fn of_pair(pair: (Symbol, Symbol)) -> Sequence
-        ensures { result ≡ of_pair pair }
+    /// Two or three symbols, forbidden on every day.
+    pub fn on_every_day(first: Symbol, second: Symbol, third: Option<Symbol>) -> Sequence
+        ensures { result ≡ on_every_day first second third }
     {
         Sequence {
-            first: pair.0,
-            second: pair.1,
-            third: None,
-            day: None,
-        }
-    }
-
-    /// Three symbols, forbidden on every day.
-    pub fn of_triple(triple: (Symbol, Symbol, Symbol)) -> Sequence
-        ensures { result ≡ of_triple triple }
-    {
-        Sequence {
-            first: triple.0,
-            second: triple.1,
-            third: Some(triple.2),
+            first,
+            second,
+            third,
             day: None,
         }
     }

@@ -28,7 +28,7 @@ pub const MOST_SYMBOLS: u32 = MOST_SHIFTS + 1;
 /// The greatest bound of a block, in days, and the greatest start and length of a shift, in minutes.
 pub const GREATEST_BOUND: u32 = 10_000;
 
-/// The most forbidden pairs of a problem, and the most forbidden triples.
+/// The most forbidden sequences of two symbols, and the most of three.
 pub const MOST_SEQUENCES: u32 = 64;
 
 /// The most rules of a problem: two for the blocks of each shift, of days off and of work, the forbidden sequences, and

@@ -39,10 +39,6 @@ onto_word b l h = ap (λ k. cond k ([] ∷ slice_split is_space l) (onto_first b
 onto_line : (b : ℕ) (bs : List ℕ) → (b == 10) ≡ false → lines_of (b ∷ bs) ≡ onto_first b (lines_of bs)
 onto_line b bs h = ap (λ k. cond k ([] ∷ lines_of bs) (onto_first b (lines_of bs))) h
 
--- the first part and the others
-abbrev IsCut : (ℕ → Bool) → List ℕ → List ℕ → List (List ℕ) → Type 0
-IsCut p bs first rest = slice_split p bs ≡ first ∷ rest
-
 onto_cut : (b : ℕ) (parts : List (List ℕ)) (first : List ℕ) (rest : List (List ℕ)) → parts ≡ first ∷ rest → onto_first b parts ≡ (b ∷ first) ∷ rest
 onto_cut b parts first rest e = ap (onto_first b) e
 

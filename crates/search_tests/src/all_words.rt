@@ -8,7 +8,7 @@ ghost use Rattle.domain_store.specs.Store.{BelongsTo};
 use clean_words::{Automaton, CleanWords, HeavyWord, Told, Weights, escape, heaviest};
 use domain_store::Domains;
 use rwsp_model::Problem;
-use rwsp_terms::{Bounds, Class, Symbol, Word};
+use rwsp_terms::{Bounds, Class, Sequence, Symbol, Word};
 use std::alloc::{AllocError, Global};
 use std::process::Abort;
 use std::test::Fail;
@@ -111,14 +111,12 @@ fn is_bad_shift_block(problem: &Problem, part: &[Symbol]) -> bool {
 }
 
 fn is_forbidden(problem: &Problem, part: &[Symbol]) -> bool {
-    match part {
-        [a, b] => problem.pairs().iter().any(|pair| *pair == (*a, *b)),
-        [a, b, c] => problem
-            .triples()
-            .iter()
-            .any(|triple| *triple == (*a, *b, *c)),
-        _ => false,
-    }
+    let sequence = match part {
+        [a, b] => Sequence::on_every_day(*a, *b, None),
+        [a, b, c] => Sequence::on_every_day(*a, *b, Some(*c)),
+        _ => return false,
+    };
+    problem.sequences().contains(&sequence)
 }
 
 fn is_bad(problem: &Problem, part: &[Symbol]) -> bool {

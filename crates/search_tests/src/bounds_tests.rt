@@ -1,5 +1,5 @@
 // Bounds of small problems. The heaviest words are compared with a listing in `all_words.rt`.
-ghost use Rattle.std.specs.Prelude.{◌≡◌, ◌≤◌};
+ghost use Rattle.std.specs.Prelude.{◌≤◌};
 ghost use Rattle.rwsp_terms.specs.declared.limits.TheConstants.{GREATEST_WEIGHT, MOST_WORKERS};
 ghost use Rattle.domain_store.specs.Store.{BelongsTo};
 

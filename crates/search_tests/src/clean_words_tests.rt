@@ -1,5 +1,5 @@
 // The clean words of two small problems.
-ghost use Rattle.std.specs.Prelude.{◌≡◌, ◌≤◌, IfOk};
+ghost use Rattle.std.specs.Prelude.{◌≤◌, IfOk};
 ghost use Rattle.domain_store.specs.Store.{BelongsTo};
 
 use clean_words::{Automaton, CleanWords, HeavyWord, Told, Weights, escape, heaviest};

@@ -1,5 +1,5 @@
 // Rosters behind given cells of small problems, worked by hand.
-ghost use Rattle.std.specs.Prelude.{◌≤◌, length, IfOk};
+ghost use Rattle.std.specs.Prelude.{◌≤◌, length};
 ghost use Rattle.rwsp_terms.specs.declared.limits.TheConstants.{GREATEST_BUDGET, LONGEST_FILE};
 
 use clean_words::NoGate;

@@ -1,7 +1,6 @@
 // Searches for rosters of small problems, worked by hand.
-ghost use Rattle.std.specs.Prelude.{◌≡◌, IfOk, ℕ, None};
+ghost use Rattle.std.specs.Prelude.{◌≡◌, IfOk, None};
 ghost use Rattle.std.specs.Option.{IfSome};
-ghost use Rattle.rwsp_terms.specs.Instance.{Instance};
 ghost use Rattle.rwsp_terms.specs.Roster.{MeetsAll};
 ghost use Rattle.refutation_terms.specs.declared.lines.Opening.TheVariants.{Full};
 ghost use Rattle.domain_store.specs.Looks.{HasPlainLeaves};

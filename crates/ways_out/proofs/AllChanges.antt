@@ -90,9 +90,6 @@ of_rule P (HigherDemand j x) known =
     (known.0, (day_listed j 1 (shift_count P) (x.number - 1) x.number (omega (arith, low, high)) (omega (arith, low))).1)
 of_rule P (Dropped k) known = (known, (0, omega arith, refl))
 
-pub changed_is_rule : (P : Instance) (change : Change) → IsChange P change → IsRule P (changed_rule change)
-changed_is_rule P change known = (of_rule P change known).0
-
 in_part : (P : Instance) (rs : List Rule) (i : ℕ) (r : Rule) (change : Change) → slice_get rs i ≡ Some r → Contains (changes_of P r) change → Contains (flat_map (changes_of P) rs) change
 in_part P [] i r change there h = absurd (cc)
 in_part P (q ∷ rs) zero r change there h =

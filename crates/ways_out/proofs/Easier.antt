@@ -9,7 +9,7 @@ use Rattle.rwsp_terms.specs.declared.data.Symbol.{Symbol}
 use Rattle.rwsp_terms.specs.declared.data.Sequence.{Sequence}
 use Rattle.rwsp_terms.specs.declared.data.Rule.{Rule}
 use Rattle.rwsp_terms.specs.declared.data.Rule.TheVariants.{Most, Least, Never, Day}
-use Rattle.rwsp_terms.specs.Instance.{Instance, shift_count, bounds, sequences, least, greatest, IsClass, IsDay}
+use Rattle.rwsp_terms.specs.Instance.{Instance, shift_count, bounds, least, greatest, IsClass, IsDay}
 use Rattle.rwsp_terms.specs.Window.{window, InClass, TooLong, TooShort, IsSequence}
 use Rattle.rwsp_terms.specs.Roster.{MeetsRule, MeetsDay, MeetsAll, IsRoster, IsRule, HasNoWindow, weeks_with}
 use Rattle.rwsp_terms.proofs.Windows.{length-window, get_or-window}
@@ -27,8 +27,8 @@ pub record IsEasierBut (A B : Instance) (Spared : Rule → Type 0) : Type 0 wher
   pub shifts : shift_count A ≡ shift_count B
   pub longer : (c : Class) → (Spared (Most c) → ⊥) → IsClass A c → (bounds A c).greatest ≤ (bounds B c).greatest
   pub shorter : (c : Class) → (Spared (Least c) → ⊥) → IsClass A c → (bounds B c).least ≤ (bounds A c).least
-  pub forbidden : (k : ℕ) (q : Sequence) → (Spared (Never k) → ⊥) → slice_get (sequences B) k ≡ Some q
-      → (i : ℕ) × (slice_get (sequences A) i ≡ Some q)
+  pub forbidden : (k : ℕ) (q : Sequence) → (Spared (Never k) → ⊥) → slice_get B.sequences k ≡ Some q
+      → (i : ℕ) × (slice_get A.sequences i ≡ Some q)
   pub lower : (j x : ℕ) → (Spared (Day j) → ⊥) → IsDay A j → least B x j ≤ℤ least A x j
   pub higher : (j x : ℕ) → (Spared (Day j) → ⊥) → IsDay A j → greatest A x j ≤ℤ greatest B x j
 
@@ -85,7 +85,7 @@ module _ (A B : Instance) (Spared : Rule → Type 0) (h : IsEasierBut A B Spared
   rule_kept (Never k) kept rule = λ p len less bad.
       let found = h.forbidden k bad.0 kept bad.1 in
       let of_a = subst (λ (n : ℕ). IsSequence n bad.0 p (window s p len)) (sym h.days) bad.2 in
-      meets.rules (Never found.0) (slice_get_within (sequences A) found.0 bad.0 found.1) p len less (bad.0, found.1, of_a)
+      meets.rules (Never found.0) (slice_get_within A.sequences found.0 bad.0 found.1) p len less (bad.0, found.1, of_a)
   rule_kept (Day j) kept rule = day_kept j kept rule
 
 -- what has the shape of a roster of A has that of one of B

@@ -93,9 +93,6 @@ helps_with P effort change r end n h fewer within less last step roster =
 pub helps_never : (P : Instance) (change : Change) (most : ℕ) → IsChange P change → most ≡ most_steps P change → HasNone (loosened P change most) → HelpsNever P change
 helps_never P change most known all none = λ n step. let few = step.1 in none_nearer P change n most known (omega (arith, few, all)) none
 
-pub no_steps : (P : Instance) (change : Change) (most : ℕ) → most ≡ most_steps P change → most ≡ 0 → HelpsNever P change
-no_steps P change most all nothing = λ n step. let some = step.0 in let few = step.1 in absurd (omega (arith, some, few, all, nothing))
-
 -- one step more than the last that gave none
 pub helps_next : (P : Instance) (effort : Effort) (change : Change) (shut n : ℕ) → IsChange P change → n ≡ shut + 1 → n ≤ most_steps P change → HasNone (loosened P change shut) → HasRoster (loosened P change n) → HelpsWith P effort change n true
 helps_next P effort change shut n known is few none roster = record {

@@ -1,10 +1,7 @@
 -- A roster of an instance is one of it loosened.
-use Rattle.std.proofs.Common.{◌≡◌, ℕ, zero, suc, ◌+◌, ◌-◌, ◌<◌, ◌≤◌, List, [], ◌∷◌, ◌++◌, length, map, get_or, Bool, inl, inr, refl, ap, sym, subst, ◌∙◌, arith}
-use Rattle.std.specs.Prelude.{◌≤ℤ◌, ℤ, slice_get, Option, Some, remove, if◌then◌else◌, nat_lt}
+use Rattle.std.proofs.Common.{◌≡◌, ℕ, zero, suc, ◌+◌, ◌-◌, ◌<◌, ◌≤◌, List, [], ◌∷◌, get_or, refl, ap, sym, subst, ◌∙◌, arith}
+use Rattle.std.specs.Prelude.{◌≤ℤ◌, ℤ, slice_get, Option, Some, remove}
 use Rattle.std.proofs.lemmas.Int.{ints}
-use Rattle.std.proofs.lemmas.Bool.{cases_Bool, ltb-true, ltb-false}
-use Rattle.std.proofs.lemmas.List.{length-map}
-use Rattle.std.proofs.lemmas.List.Edits.{remove-append_left, remove-append_right}
 use Rattle.rwsp_terms.specs.declared.data.Bounds.{Bounds}
 use Rattle.rwsp_terms.specs.declared.data.Class.{Class}
 use Rattle.rwsp_terms.specs.declared.data.Class.TheVariants.{Shift, Off, Work}
@@ -13,7 +10,7 @@ use Rattle.rwsp_terms.specs.declared.data.Sequence.{Sequence}
 use Rattle.rwsp_terms.specs.declared.data.ShiftRow.{ShiftRow}
 use Rattle.rwsp_terms.specs.declared.data.Rule.{Rule}
 use Rattle.rwsp_terms.specs.declared.data.Rule.TheVariants.{Most, Least, Never, Day}
-use Rattle.rwsp_terms.specs.Instance.{Instance, shift_count, bounds, bounds_of, sequences, of_pair, of_triple, least, greatest, shift_demand, range_in, no_bounds, column_least, column_greatest, symbol_numbered, IsClass}
+use Rattle.rwsp_terms.specs.Instance.{Instance, shift_count, bounds, bounds_of, least, greatest, shift_demand, range_in, no_bounds, column_least, column_greatest, symbol_numbered, IsClass}
 use Rattle.rwsp_terms.specs.Roster.{MeetsAll, IsRoster}
 use Rattle.ways_out.specs.declared.change.Change.{Change}
 use Rattle.ways_out.specs.declared.change.Change.TheVariants.{LongerBlocks, ShorterBlocks, LowerDemand, HigherDemand, Dropped}
@@ -79,7 +76,7 @@ record HasRest (P Q : Instance) : Type 0 where
   days : Q.days ≡ P.days
   weeks : Q.weeks ≡ P.weeks
   shifts : shift_count Q ≡ shift_count P
-  forbidden : sequences Q ≡ sequences P
+  forbidden : Q.sequences ≡ P.sequences
   demand : Q.demand ≡ P.demand
 
 -- instances with the same weeks and rows of demand ask for the same numbers
@@ -192,56 +189,21 @@ kept_get (y ∷ xs) (suc k) (suc i) x other h =
 
 -- other forbidden sequences, and all else as it was
 
-abbrev with_lists : Instance → List (Symbol × Symbol) → List (Symbol × Symbol × Symbol) → Instance
-with_lists P pairs triples = record P { pairs = pairs; triples = triples }
+abbrev with_sequences : Instance → List Sequence → Instance
+with_sequences P qs = record P { sequences = qs }
 
--- each sequence of the second two lists that isn't spared is one of the first two
-easier_lists : (P : Instance) (a d : List (Symbol × Symbol)) (b e : List (Symbol × Symbol × Symbol)) (Spared : Rule → Type 0) → ((k : ℕ) (q : Sequence) → (Spared (Never k) → ⊥) → slice_get (sequences (with_lists P d e)) k ≡ Some q → (i : ℕ) × (slice_get (sequences (with_lists P a b)) i ≡ Some q)) → IsEasierBut (with_lists P a b) (with_lists P d e) Spared
-easier_lists P a d b e Spared forbidden = record {
+-- each sequence of the second list that isn't spared is one of the first
+easier_sequences : (P : Instance) (a b : List Sequence) (Spared : Rule → Type 0) → ((k : ℕ) (q : Sequence) → (Spared (Never k) → ⊥) → slice_get b k ≡ Some q → (i : ℕ) × (slice_get a i ≡ Some q)) → IsEasierBut (with_sequences P a) (with_sequences P b) Spared
+easier_sequences P a b Spared forbidden = record {
   days = refl;
   weeks = refl;
   shifts = refl;
-  longer = λ c kept class. le_by (ap (λ (v : Bounds). v.greatest) (bounds_alike (with_lists P a b) (with_lists P d e) c refl refl refl));
-  shorter = λ c kept class. le_by (ap (λ (v : Bounds). v.least) (bounds_alike (with_lists P d e) (with_lists P a b) c refl refl refl));
+  longer = λ c kept class. le_by (ap (λ (v : Bounds). v.greatest) (bounds_alike (with_sequences P a) (with_sequences P b) c refl refl refl));
+  shorter = λ c kept class. le_by (ap (λ (v : Bounds). v.least) (bounds_alike (with_sequences P b) (with_sequences P a) c refl refl refl));
   forbidden = forbidden;
-  lower = λ j x kept day. int_le_by (numbers_alike (with_lists P d e) (with_lists P a b) j x refl refl).0;
-  higher = λ j x kept day. int_le_by (numbers_alike (with_lists P a b) (with_lists P d e) j x refl refl).1;
+  lower = λ j x kept day. int_le_by (numbers_alike (with_sequences P b) (with_sequences P a) j x refl refl).0;
+  higher = λ j x kept day. int_le_by (numbers_alike (with_sequences P a) (with_sequences P b) j x refl refl).1;
 }
-
-map-removed : {X Y : Type 0} (f : X → Y) (xs : List X) (k : ℕ) → map f (remove xs k) ≡ remove (map f xs) k
-map-removed f [] zero = refl
-map-removed f [] (suc k) = refl
-map-removed f (x ∷ xs) zero = refl
-map-removed f (x ∷ xs) (suc k) = ap (λ ys. f x ∷ ys) (map-removed f xs k)
-
--- the two lists without a sequence
-record IsWithout (P : Instance) (k : ℕ) : Type 0 where
-  pairs : List (Symbol × Symbol)
-  triples : List (Symbol × Symbol × Symbol)
-  whole : without_sequence P k ≡ with_lists P pairs triples
-  removed : sequences (with_lists P pairs triples) ≡ remove (sequences P) k
-
-without : (P : Instance) (k : ℕ) → IsWithout P k
-without P k =
-    let n = length P.pairs in
-    let pairs = map of_pair P.pairs in
-    let triples = map of_triple P.triples in
-    let long = length-map P.pairs of_pair in
-    let without_one = λ (b : Bool). if b then record P { pairs = remove P.pairs k } else record P { triples = remove P.triples (k - n) } in
-    elim (cases_Bool (nat_lt k n)) [
-      | inl first ↦ record {
-        pairs = remove P.pairs k;
-        triples = P.triples;
-        whole = ap without_one first;
-        removed = ap (λ (qs : List Sequence). qs ++ triples) (map-removed of_pair P.pairs k) ∙ sym (remove-append_left pairs triples k (omega (arith, ltb-true k n first, long)));
-      }
-      | inr past ↦ record {
-        pairs = P.pairs;
-        triples = remove P.triples (k - n);
-        whole = ap without_one past;
-        removed = ap (λ (qs : List Sequence). pairs ++ qs) (map-removed of_triple P.triples (k - n)) ∙ sym (remove-append_right pairs triples n k long (ltb-false k n past));
-      }
-    ]
 
 -- an instance loosened is easier
 
@@ -264,10 +226,7 @@ easier P (HigherDemand j x) n known =
     subst (λ (Q : Instance). IsEasierBut Q (with_demand P x.number j (raised n)) NoneSpared) (demand_same P x.number j)
     (easier_demand P x.number j (λ b. b) (raised n) NoneSpared known.0.0 (λ kept b. (omega arith, le_same b.least)))
 easier P (Dropped k) n known =
-    let left = without P k in
-    subst (λ (Q : Instance). IsEasierBut P Q NoneSpared) (sym left.whole)
-    (easier_lists P P.pairs left.pairs P.triples left.triples NoneSpared (λ i q kept there.
-    removed_get (sequences P) k i q (ap (λ (qs : List Sequence). slice_get qs i) (sym left.removed) ∙ there)))
+    easier_sequences P P.sequences (remove P.sequences k) NoneSpared (λ i q kept there. removed_get P.sequences k i q there)
 
 -- and easier the more it is loosened
 easier_further : (P : Instance) (change : Change) (m n : ℕ) → IsChange P change → m ≤ n → IsEasierBut (loosened P change m) (loosened P change n) NoneSpared
@@ -288,11 +247,7 @@ as_easy P (HigherDemand j x) n known =
     subst (λ (Q : Instance). IsEasierBut (with_demand P x.number j (raised n)) Q (λ r. r ≡ Day j)) (demand_same P x.number j)
     (easier_demand P x.number j (raised n) (λ b. b) (λ r. r ≡ Day j) known.0.0 (λ kept. absurd (kept refl)))
 as_easy P (Dropped k) n known =
-    let left = without P k in
-    subst (λ (Q : Instance). IsEasierBut Q P (λ r. r ≡ Never k)) (sym left.whole)
-    (easier_lists P left.pairs P.pairs left.triples P.triples (λ r. r ≡ Never k) (λ i q kept there.
-    let found = kept_get (sequences P) k i q (λ e. kept (ap Never e)) there in
-    (found.0, ap (λ (qs : List Sequence). slice_get qs found.0) left.removed ∙ found.1)))
+    easier_sequences P (remove P.sequences k) P.sequences (λ r. r ≡ Never k) (λ i q kept there. kept_get P.sequences k i q (λ e. kept (ap Never e)) there)
 
 pub rosters_stay : RostersStay
 rosters_stay P change n s known meets = all_kept P (loosened P change n) s (easier P change n known) meets

@@ -3,7 +3,7 @@ use Rattle.std.proofs.Common.{◌≡◌, ℕ, ◌<◌, ◌≤◌, List, length, 
 use Rattle.std.specs.Prelude.{All}
 use Rattle.rwsp_terms.specs.declared.data.Bounds.{Bounds}
 use Rattle.rwsp_terms.specs.declared.data.Sequence.{Sequence}
-use Rattle.rwsp_terms.specs.Instance.{Instance, shift_count, sequences}
+use Rattle.rwsp_terms.specs.Instance.{Instance, shift_count}
 use Rattle.ways_out.specs.declared.change.Change.{Change}
 use Rattle.ways_out.specs.declared.change.Change.TheVariants.{LongerBlocks, ShorterBlocks, LowerDemand, HigherDemand, Dropped}
 use Rattle.ways_out.specs.Loosened.{raised, lowered, with_demand, loosened, IsChange}
@@ -11,7 +11,7 @@ use Rattle.ways_out.specs.Together.{IsOfDemand}
 use Rattle.ways_out.proofs.Easier.{class_kept}
 
 -- what instances of one shape have in common
-stays_by : (P Q : Instance) (change : Change) → Q.days ≡ P.days → shift_count Q ≡ shift_count P → sequences Q ≡ sequences P → IsChange P change → IsChange Q change
+stays_by : (P Q : Instance) (change : Change) → Q.days ≡ P.days → shift_count Q ≡ shift_count P → Q.sequences ≡ P.sequences → IsChange P change → IsChange Q change
 stays_by P Q (LongerBlocks c) days shifts forbidden h = class_kept P Q c (sym shifts) h
 stays_by P Q (ShorterBlocks c) days shifts forbidden h = class_kept P Q c (sym shifts) h
 stays_by P Q (LowerDemand j x) days shifts forbidden h =

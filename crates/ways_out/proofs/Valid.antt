@@ -1,18 +1,19 @@
 -- Instances with changed numbers are valid.
 use Rattle.std.proofs.Common.{◌≡◌, ℕ, ◌-◌, ◌<◌, ◌≤◌, List, [], length, get_or, refl, ap, sym, subst, ◌∙◌, arith}
-use Rattle.std.specs.Prelude.{◌≢◌, All, AllPairs, slice_get, set, remove, nat_lt}
-use Rattle.std.proofs.lemmas.Bool.{cond-false, le-ltb}
+use Rattle.std.specs.Prelude.{◌≢◌, All, AllPairs, None, slice_get, set}
 use Rattle.std.proofs.lemmas.Option.{slice_get-get_or}
 use Rattle.rwsp_terms.specs.declared.limits.TheConstants.{GREATEST_BOUND, MOST_SHIFTS}
 use Rattle.rwsp_terms.specs.declared.data.Bounds.{Bounds}
 use Rattle.rwsp_terms.specs.declared.data.Symbol.{Symbol}
+use Rattle.rwsp_terms.specs.declared.data.Sequence.{Sequence}
 use Rattle.rwsp_terms.specs.declared.data.ShiftRow.{ShiftRow}
 use Rattle.rwsp_terms.specs.declared.data.Class.{Class}
 use Rattle.rwsp_terms.specs.declared.data.Class.TheVariants.{Shift, Off, Work}
 use Rattle.rwsp_terms.specs.Instance.{Instance, shift_count, bounds, bounds_of, shift_demand, no_bounds, IsClass, IsDay}
+use Rattle.rwsp_terms.specs.Window.{symbols_of}
 use Rattle.rwsp_terms.proofs.SymbolNames.{no_row}
 use Rattle.rwsp_model.specs.Validity.{KeepsLimits, AreSmall, IsSmallRange, IsShiftName}
-use Rattle.ways_out.specs.Loosened.{edited, with_bounds, with_demand, without_sequence}
+use Rattle.ways_out.specs.Loosened.{edited, with_bounds, with_demand}
 use Rattle.ways_out.proofs.Edited.{length-edited, edited_same, edited_alike, edited_related, set_edited, all_edited}
 use Rattle.ways_out.proofs.Rows.{demand_there, row_long}
 
@@ -31,11 +32,8 @@ distinct_kept k f rows h = λ i j d less within same.
     h i j d less (subst (λ (n : ℕ). j < n) (length-edited k (rebound f) rows) within)
     (sym (name_kept k i f rows d) ∙ same ∙ name_kept k j f rows d)
 
-abbrev ArePairs : ℕ → List (Symbol × Symbol) → Type 0
-ArePairs n = All (λ (x : Symbol × Symbol). (x.0.number ≤ n) × (x.1.number ≤ n))
-
-abbrev AreTriples : ℕ → List (Symbol × Symbol × Symbol) → Type 0
-AreTriples n = All (λ (x : Symbol × Symbol × Symbol). (x.0.number ≤ n) × (x.1.number ≤ n) × (x.2.number ≤ n))
+abbrev AreSequences : ℕ → List Sequence → Type 0
+AreSequences n = All (λ q. All (λ (x : Symbol). x.number ≤ n) (symbols_of q) × (q.day ≡ None))
 
 pub valid_bounds : (P : Instance) (c : Class) (b : Bounds) → KeepsLimits P → AreSmall b → KeepsLimits (with_bounds P c (λ _. b))
 valid_bounds P (Shift x) b h small =
@@ -44,8 +42,7 @@ valid_bounds P (Shift x) b h small =
     record {
       rows = h.rows ∙ sym long;
       long_rows = h.long_rows;
-      known_pairs = subst (λ (n : ℕ). ArePairs n P.pairs) (sym long) h.known_pairs;
-      known_triples = subst (λ (n : ℕ). AreTriples n P.triples) (sym long) h.known_triples;
+      sequences = subst (λ (n : ℕ). AreSequences n P.sequences) (sym long) h.sequences;
       some_days = h.some_days;
       few_days = h.few_days;
       some_weeks = h.some_weeks;
@@ -58,16 +55,14 @@ valid_bounds P (Shift x) b h small =
       blocks = all_edited (λ (row : ShiftRow). AreSmall row.bounds) k (rebound (λ _. b)) P.shifts h.blocks (λ row t. small);
       off = h.off;
       work = h.work;
-      few_pairs = h.few_pairs;
-      few_triples = h.few_triples;
+      listed = h.listed;
       names = all_edited (λ (row : ShiftRow). IsShiftName row.name) k (rebound (λ _. b)) P.shifts h.names (λ row t. t);
       distinct = distinct_kept k (λ _. b) P.shifts h.distinct;
     }
 valid_bounds P Off b h small = record {
   rows = h.rows;
   long_rows = h.long_rows;
-  known_pairs = h.known_pairs;
-  known_triples = h.known_triples;
+  sequences = h.sequences;
   some_days = h.some_days;
   few_days = h.few_days;
   some_weeks = h.some_weeks;
@@ -80,16 +75,14 @@ valid_bounds P Off b h small = record {
   blocks = h.blocks;
   off = small;
   work = h.work;
-  few_pairs = h.few_pairs;
-  few_triples = h.few_triples;
+  listed = h.listed;
   names = h.names;
   distinct = h.distinct;
 }
 valid_bounds P Work b h small = record {
   rows = h.rows;
   long_rows = h.long_rows;
-  known_pairs = h.known_pairs;
-  known_triples = h.known_triples;
+  sequences = h.sequences;
   some_days = h.some_days;
   few_days = h.few_days;
   some_weeks = h.some_weeks;
@@ -102,8 +95,7 @@ valid_bounds P Work b h small = record {
   blocks = h.blocks;
   off = h.off;
   work = small;
-  few_pairs = h.few_pairs;
-  few_triples = h.few_triples;
+  listed = h.listed;
   names = h.names;
   distinct = h.distinct;
 }
@@ -112,8 +104,7 @@ pub valid_demand : (P : Instance) (x j : ℕ) (b : Bounds) → KeepsLimits P →
 valid_demand P x j b h small = record {
   rows = length-edited (x - 1) (edited (j - 1) (λ _. b)) P.demand ∙ h.rows;
   long_rows = all_edited (λ (row : List Bounds). length row ≡ P.days) (x - 1) (edited (j - 1) (λ _. b)) P.demand h.long_rows (λ row t. length-edited (j - 1) (λ _. b) row ∙ t);
-  known_pairs = h.known_pairs;
-  known_triples = h.known_triples;
+  sequences = h.sequences;
   some_days = h.some_days;
   few_days = h.few_days;
   some_weeks = h.some_weeks;
@@ -126,8 +117,7 @@ valid_demand P x j b h small = record {
   blocks = h.blocks;
   off = h.off;
   work = h.work;
-  few_pairs = h.few_pairs;
-  few_triples = h.few_triples;
+  listed = h.listed;
   names = h.names;
   distinct = h.distinct;
 }
@@ -156,15 +146,6 @@ rows_set P k b row less there =
     ap (λ (rows : List ShiftRow). record P { shifts = rows })
     (set_edited k (record row { bounds = b }) P.shifts
     ∙ edited_alike k (λ _. record row { bounds = b }) (rebound (λ _. b)) P.shifts row less (ap (λ (r : ShiftRow). record r { bounds = b }) there))
-
--- a triple that is removed behind the pairs
-pub triple_removed : (P : Instance) (k n : ℕ) (a : List (Symbol × Symbol)) (b : List (Symbol × Symbol × Symbol)) → a ≡ P.pairs → b ≡ P.triples → n ≡ length a → n ≤ k → record P { pairs = a; triples = remove b (k - n) } ≡ without_sequence P k
-triple_removed P k n a b pairs triples many behind =
-    let all = many ∙ ap length pairs in
-    ap (λ (xs : List (Symbol × Symbol)). record P { pairs = xs; triples = remove b (k - n) }) pairs
-    ∙ ap (λ (xs : List (Symbol × Symbol × Symbol)). record P { triples = remove xs (k - n) }) triples
-    ∙ ap (λ (m : ℕ). record P { triples = remove P.triples (k - m) }) all
-    ∙ sym (cond-false (nat_lt k (length P.pairs)) (record P { pairs = remove P.pairs k }) (record P { triples = remove P.triples (k - length P.pairs) }) (le-ltb k (length P.pairs) (omega (arith, all, behind))))
 
 -- a demand that is changed by its value
 pub demand_valued : (P : Instance) (x j : ℕ) (f : Bounds → Bounds) (b : Bounds) → KeepsLimits P → 0 < x → x ≤ shift_count P → IsDay P j → b ≡ f (shift_demand P x j) → with_demand P x j (λ _. b) ≡ with_demand P x j f

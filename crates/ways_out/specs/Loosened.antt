@@ -1,12 +1,12 @@
 -- A problem with one thing loosened.
-use Rattle.std.specs.Prelude.{ℕ, zero, suc, ◌+◌, ◌-◌, ◌<◌, ◌≤◌, if◌then◌else◌, nat_lt, min, max, List, [], ◌∷◌, length, remove}
+use Rattle.std.specs.Prelude.{ℕ, zero, suc, ◌+◌, ◌-◌, ◌<◌, ◌≤◌, min, max, List, [], ◌∷◌, length, remove}
 use Rattle.rwsp_terms.specs.declared.limits.TheConstants.{GREATEST_SHORT_BOUND}
 use Rattle.rwsp_terms.specs.declared.data.Bounds.{Bounds}
 use Rattle.rwsp_terms.specs.declared.data.Class.{Class}
 use Rattle.rwsp_terms.specs.declared.data.Class.TheVariants.{Shift, Off, Work}
 use Rattle.rwsp_terms.specs.declared.data.Rule.{Rule}
 use Rattle.rwsp_terms.specs.declared.data.Rule.TheVariants.{Most, Least, Never, Day}
-use Rattle.rwsp_terms.specs.Instance.{Instance, cells, bounds, sequences, shift_demand, IsClass, IsDay, IsShift}
+use Rattle.rwsp_terms.specs.Instance.{Instance, cells, bounds, shift_demand, IsClass, IsDay, IsShift}
 use Rattle.ways_out.specs.declared.change.Change.{Change}
 use Rattle.ways_out.specs.declared.change.Change.TheVariants.{LongerBlocks, ShorterBlocks, LowerDemand, HigherDemand, Dropped}
 
@@ -33,11 +33,9 @@ with_bounds P Work f = record P { work = f P.work }
 abbrev pub with_demand : Instance → (x j : ℕ) → (Bounds → Bounds) → Instance
 with_demand P x j f = record P { demand = edited (x - 1) (edited (j - 1) f) P.demand }
 
--- the instance without the forbidden sequence at a place; the pairs stand before the triples
+-- the instance without the forbidden sequence at a place
 abbrev pub without_sequence : Instance → ℕ → Instance
-without_sequence P k =
-    if nat_lt k (length P.pairs) then record P { pairs = remove P.pairs k }
-    else record P { triples = remove P.triples (k - length P.pairs) }
+without_sequence P k = record P { sequences = remove P.sequences k }
 
 -- the instance with so many steps of a change, and all else as it was
 abbrev pub loosened : Instance → Change → ℕ → Instance
@@ -68,7 +66,7 @@ IsChange P (LongerBlocks c) = IsClass P c
 IsChange P (ShorterBlocks c) = IsClass P c
 IsChange P (LowerDemand j x) = IsDay P j × IsShift P x
 IsChange P (HigherDemand j x) = IsDay P j × IsShift P x
-IsChange P (Dropped k) = k < length (sequences P)
+IsChange P (Dropped k) = k < length P.sequences
 
 -- how many steps it has: blocks get no longer than the roster or, if that is more, than a short rule allows, and no
 -- shorter than one day; the demand falls to 0 and rises to the number of weeks

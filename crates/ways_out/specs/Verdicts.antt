@@ -1,8 +1,10 @@
 -- What a plan says of an instance with steps of a change.
-use Rattle.std.specs.Prelude.{◌≡◌, ℕ, ◌<◌, ◌≤◌}
+use Rattle.std.specs.Prelude.{◌≡◌, ℕ, ◌<◌, ◌≤◌, List, length, slice_index_or, Option, Result, IfOk, IfSome}
+use Rattle.std.specs.declared.alloc.AllocError.{AllocError}
 use Rattle.rwsp_terms.specs.Instance.{Instance}
 use Rattle.roster_planner.specs.declared.effort.Effort.{Effort}
 use Rattle.ways_out.specs.declared.change.Change.{Change}
+use Rattle.ways_out.specs.declared.ahead.Made.{Made}
 use Rattle.ways_out.specs.declared.plans.Verdict.{Verdict}
 use Rattle.ways_out.specs.declared.plans.Verdict.TheVariants.{Enough, Refuted, Open}
 use Rattle.ways_out.specs.Loosened.{exact, loosened}
@@ -16,6 +18,16 @@ abbrev pub IsVerdict : Instance → Effort → Change → (low steps : ℕ) → 
 IsVerdict P effort change low steps (Enough n) = (low < n) × (n ≤ steps) × HasRoster (loosened P change n)
 IsVerdict P effort change low steps Refuted = HasNone (loosened P change steps)
 IsVerdict P effort change low steps Open = IsLeftOpen (loosened P change steps) effort
+
+-- what a plan said that was made
+abbrev pub IsMadeOf : Instance → Effort → Change → Made → Type 0
+IsMadeOf P effort change m = IsVerdict P effort change m.low m.steps m.verdict
+
+-- and what each of several said, where it ended
+abbrev pub AreMadeOf : Instance → Effort → Change → List (Result (Option Made) AllocError) → Type 0
+AreMadeOf P effort change made =
+    (k : ℕ) (d : Result (Option Made) AllocError) → k < length made
+    → IfOk (slice_index_or made k d) (λ one. IfSome one (IsMadeOf P effort change))
 
 -- with these steps there is a roster; or with the demand at their last number alone there is none, or the plan of that
 -- has spent its budget

@@ -1,5 +1,5 @@
 // How few steps of a change a roster needs.
-ghost use Rattle.std.specs.Prelude.{◌↔◌, ◌<◌, ◌≤◌, IsTrue, IfOk};
+ghost use Rattle.std.specs.Prelude.{◌<◌, ◌≤◌, IsTrue, IfOk};
 ghost use Rattle.rwsp_terms.specs.Roster.{IsRoster, MeetsAll};
 ghost use Rattle.ways_out.specs.Loosened.{loosened, IsChange, IsStep};
 ghost use Rattle.ways_out.specs.Helping.{HasRoster};

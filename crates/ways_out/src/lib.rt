@@ -1,6 +1,7 @@
 //! Ways out of a problem without a roster: which numbers of it to change, each by itself, so that it has one.
 #![tactic(auto)]
 
+mod ahead;
 mod answer;
 mod change;
 mod enough;

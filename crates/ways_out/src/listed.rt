@@ -1,8 +1,7 @@
 // All changes of a problem, and the rules that they change.
 ghost use Rattle.std.specs.Prelude.{◌≡◌, ◌++◌, IfOk, OnOk, All, flat_map};
 ghost use Rattle.std.specs.List.{range_with_len};
-ghost use Rattle.rwsp_terms.specs.Roster.{IsRule};
-ghost use Rattle.rwsp_terms.specs.Instance.{shift_count, IsClass};
+ghost use Rattle.rwsp_terms.specs.Instance.{shift_count};
 ghost use Rattle.ways_out.specs.Changes.{changes, changes_of, demand_changes};
 ghost use Rattle.ways_out.specs.Loosened.{changed_rule, IsChange};
 

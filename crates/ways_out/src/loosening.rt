@@ -1,14 +1,14 @@
 // A problem with one thing loosened.
 ghost use Rattle.std.specs.Prelude.{◌≡◌, ◌+◌, ◌-◌, ◌<◌, ◌≤◌, IfOk, [], length, set, slice_index_or};
-ghost use Rattle.rwsp_terms.specs.declared.limits.TheConstants.{GREATEST_BOUND, MOST_WEEKS};
-ghost use Rattle.rwsp_terms.specs.Instance.{sequences, IsShift, IsDay, IsClass};
+ghost use Rattle.rwsp_terms.specs.declared.limits.TheConstants.{GREATEST_BOUND};
+ghost use Rattle.rwsp_terms.specs.Instance.{IsShift, IsDay, IsClass};
 ghost use Rattle.rwsp_model.specs.Parts.{instance_of};
 ghost use Rattle.rwsp_model.specs.Validity.{AreSmall, IsSmallRange};
 ghost use Rattle.ways_out.specs.Loosened.{exact, highest, loosened, lowest, most_steps, with_bounds, with_demand, without_sequence, IsChange, IsStep};
 
 use crate::change::Change;
 use rwsp_model::{Parts, Problem};
-use rwsp_terms::limits::{GREATEST_SHORT_BOUND, MOST_WEEKS};
+use rwsp_terms::limits::GREATEST_SHORT_BOUND;
 use rwsp_terms::{Bounds, Class, DemandRow, Symbol};
 use std::alloc::{AllocError, Global};
 
@@ -98,22 +98,14 @@ fn with_demand(
 }
 
 // The problem without the forbidden sequence at a place.
-#[tactic(auto, using(rwsp_model::proofs::Numbering::sequences_are_many))]
+#[tactic(auto, using(rwsp_model::proofs::Sequences::without_one))]
 fn without_sequence(alloc: Global, problem: &Problem, place: u32) -> Result<Problem, AllocError>
-    requires { place < length (sequences problem.now) }
+    requires { place < length problem.now.sequences }
     ensures { IfOk result (λ P. P ≡ without_sequence problem.now place) }
 {
-    problem.prove_limits();
-    let place = place as usize;
-    let mut pairs = Vec::from_slice(alloc, problem.pairs())?;
-    let mut triples = Vec::from_slice(alloc, problem.triples())?;
-    if place < pairs.len() {
-        pairs.remove(place);
-        problem.with_sequences(pairs, triples)
-    } else {
-        triples.remove(place - pairs.len());
-        problem.with_sequences(pairs, triples)
-    }
+    let mut left = Vec::from_slice(alloc, problem.sequences())?;
+    left.remove(place as usize);
+    problem.with_sequences(left)
 }
 
 /// The problem with so many steps of a change, and all else as it is.

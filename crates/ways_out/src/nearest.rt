@@ -6,13 +6,18 @@ ghost use Rattle.ways_out.specs.Helping.{HasNone, HasRoster, IsLeftOpen, IsNextO
 ghost use Rattle.ways_out.specs.Reached.{HasDoubled, NoneUpTo};
 ghost use Rattle.ways_out.specs.Together.{IsOfDemand};
 
+use crate::ahead::judge_ahead;
 use crate::change::{Change, Outcome};
 use crate::loosening::most_steps;
 use crate::numbers::{outcome_by_few_lines, outcome_by_numbers};
 use crate::plans::{Asked, Verdict, judge};
 use clean_words::Gate;
+use rwsp_terms::limits::USUAL_WORKERS;
 use std::alloc::{AllocError, Global};
 use std::thread::Threads;
+
+// How many plans are made side by side that are likely to be left open.
+const SIDE_BY_SIDE: usize = USUAL_WORKERS as usize;
 
 /// How far the search for the nearest number of steps has come.
 #[derive(Clone, Copy)]
@@ -33,7 +38,8 @@ pub struct Doubled {
 }
 
 // What one step says, two, four and so on, below so many; up to `shut` it is known that they give no roster. The first
-// that gives one ends it. The plans grow with the logarithm of the steps.
+// that gives one ends it. The plans grow with the logarithm of the steps. Where one was left open, as that of all steps
+// may be, the next ones are likely to be so too, and several are made side by side.
 fn double<R: Threads + Sync, G: Gate>(
     rt: &R,
     alloc: Global,
@@ -41,6 +47,7 @@ fn double<R: Threads + Sync, G: Gate>(
     change: Change,
     shut: u32,
     below: u32,
+    is_open: bool,
 ) -> Result<Doubled, AllocError>
     requires change { IsChange asked.now.problem.now change }
     requires budget { (1 ≤ asked.now.effort.budget) × (asked.now.effort.budget ≤ GREATEST_BUDGET) }
@@ -53,6 +60,7 @@ fn double<R: Threads + Sync, G: Gate>(
     ensures roster { IfOk result (λ d. d.end < below → HasRoster (loosened asked.now.problem.now change d.end)) }
 {
     let mut reached = Reached { shut, tried: shut };
+    let mut made = Vec::new(alloc);
     'doubling: loop {
         let steps = (reached.tried + 1).next_power_of_two();
         if steps >= below {
@@ -61,7 +69,19 @@ fn double<R: Threads + Sync, G: Gate>(
                 end: below,
             });
         }
-        match judge(rt, alloc, asked, change, reached.tried, steps)? {
+        let is_likely_open = is_open || reached.shut < reached.tried;
+        let many = if is_likely_open { SIDE_BY_SIDE } else { 1 };
+        match judge_ahead(
+            rt,
+            alloc,
+            asked,
+            change,
+            &mut made,
+            reached.tried,
+            steps,
+            below,
+            many,
+        )? {
             Verdict::Enough(fewer) => return Ok(Doubled {
                 reached,
                 end: fewer,
@@ -130,7 +150,7 @@ fn nearest_of<R: Threads + Sync, G: Gate>(
     requires roster { HasRoster (loosened asked.now.problem.now change found) }
     ensures { IfOk result (IsOutcome asked.now.problem.now asked.now.effort change) }
 {
-    let near = double(rt, alloc, asked, change, 0, found)?;
+    let near = double(rt, alloc, asked, change, 0, found, false)?;
     narrow(rt, alloc, asked, change, near)
 }
 
@@ -154,7 +174,7 @@ pub fn outcome_by_doubling<R: Threads + Sync, G: Gate>(
     requires numbers { IsOfDemand change → IsNextOpen asked.now.problem.now asked.now.effort change shut }
     ensures { IfOk result (IsOutcome asked.now.problem.now asked.now.effort change) }
 {
-    let near = double(rt, alloc, asked, change, shut, most)?;
+    let near = double(rt, alloc, asked, change, shut, most, true)?;
     if near.end < most {
         narrow(rt, alloc, asked, change, near)
     } else {

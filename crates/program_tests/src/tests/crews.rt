@@ -1,5 +1,5 @@
 // Calendars of a roster, to the byte. The dates are those of GNU coreutils' `date`.
-use super::{NINE_WEEKS, NINE_WEEKS_ROSTER, ends};
+use super::{NINE_WEEKS, NINE_WEEKS_ROSTER, USAGE, ends, line_ends};
 use std::test::Fail;
 
 // The same roster with another first symbol, which breaks a rule.
@@ -11,6 +11,36 @@ const TABLE: &str =
 
 const DUTIES: &str =
     "2025-01-06 14:00 to 2025-01-06 22:00 A\n2025-01-07 14:00 to 2025-01-07 22:00 A\n2025-01-08 22:00 to 2025-01-09 06:00 N\n2025-01-09 22:00 to 2025-01-10 06:00 N\n";
+
+const CSV: &str =
+    "date,weekday,1,2,3,4,5,6,7,8,9\r\n2024-02-28,Wednesday,D,-,N,A,D,-,-,N,A\r\n2024-02-29,Thursday,D,-,-,N,A,D,-,N,A\r\n2024-03-01,Friday,A,D,-,N,A,D,-,-,N\r\n";
+
+// A shift whose name has a comma and quotes.
+const QUOTES: &str = "2\n1\n1\n0 1\na,\"b\" 360 480 1 1\n1 1\n1 1\n0 0\n";
+
+const QUOTES_CSV: &str =
+    "date,weekday,1\r\n2024-12-30,Monday,-\r\n2024-12-31,Tuesday,\"a,\"\"b\"\"\"\r\n";
+
+#[test]
+fn calendars_for_spreadsheets(rt: HostRuntime) -> Result<(), Fail> {
+    let nine = [("F", NINE_WEEKS), ("R", NINE_WEEKS_ROSTER)];
+    let quotes = [("F", QUOTES), ("R", "- a,\"b\"\n")];
+    let far = "horizon refused\n";
+    for (line, files, status, text) in [
+        ("crew F R 2024-02-28 3 --csv", &nine, 0, CSV),
+        ("crew F R 2024-12-30 2 --csv", &quotes, 0, QUOTES_CSV),
+        ("crew F R 9999-12-31 1 --csv", &nine, 3, far),
+        ("crew F R 2024-02-28 3 9 --csv", &nine, 2, USAGE),
+        ("crew F R 2024-02-28 3 --csv 9", &nine, 2, USAGE),
+        ("crew F R 2024-02-28 3 --csv --csv", &nine, 2, USAGE),
+    ] {
+        assert!(rt;
+            line_ends(&rt, rt.alloc(), line, files, status, text)?,
+            "{line}"
+        );
+    }
+    Ok(())
+}
 
 #[test]
 fn calendars_of_a_roster(rt: HostRuntime) -> Result<(), Fail> {

@@ -1,6 +1,6 @@
 // Rosters and refutations: what `plan` prints is right by `verify` and `check`.
 use super::logs::{BOTH_DAYS, TOO_MANY, TWOS, checks, they_meet};
-use super::{NINE_WEEKS, TWO_DAYS, ends, shelf_of, status_of, verifies, words_of};
+use super::{NINE_WEEKS, TWO_DAYS, USAGE, line_ends, shelf_of, status_of, verifies, words_of};
 use clean_words::NoGate;
 use std::alloc::{AllocError, Global};
 use std::test::Fail;
@@ -111,7 +111,54 @@ fn bounds_are_shared_out(rt: HostRuntime) -> Result<(), Fail> {
 #[test]
 fn the_only_roster_is_found(rt: HostRuntime) -> Result<(), Fail> {
     let files = [("F", TWO_DAYS)];
-    assert!(rt; ends(&rt, rt.alloc(), &["plan", "F"], &files, 0, "D -\n")?);
+    for line in [
+        "plan F",
+        "plan F --seed 0",
+        "plan F --seed 999999999",
+        "plan F --seed 1 --budget 20",
+        "plan F --budget 20 --seed 1",
+    ] {
+        assert!(rt;
+            line_ends(&rt, rt.alloc(), line, &files, 0, "D -\n")?,
+            "{line}"
+        );
+    }
+    for line in [
+        "plan F --seed",
+        "plan F --seed 1000000000",
+        "plan F --seed 0000000001",
+        "plan F --seed 1 --seed 1",
+        "plan F --seed 1 --budget 1 --seed 1",
+        "plan F --budget 1 --seed 1 --budget 1",
+    ] {
+        assert!(rt;
+            line_ends(&rt, rt.alloc(), line, &files, 2, USAGE)?,
+            "{line}"
+        );
+    }
+    Ok(())
+}
+
+// Without a seed it is 0; another one gives another roster here.
+#[test]
+fn seeds_tell_rosters_apart(rt: HostRuntime) -> Result<(), Fail> {
+    let alloc = rt.alloc();
+    let plain = printed(&rt, alloc, &["plan", "F"], NINE_WEEKS, 0)?;
+    let zero = printed(&rt, alloc, &["plan", "F", "--seed", "0"], NINE_WEEKS, 0)?;
+    assert!(rt; plain.as_str() == zero.as_str());
+    let mut has_other = false;
+    for seed in ["1", "2", "3", "4", "5"] {
+        let words = ["plan", "F", "--seed", seed];
+        let roster = printed(&rt, alloc, &words, NINE_WEEKS, 0)?;
+        assert!(rt;
+            verifies(&rt, alloc, NINE_WEEKS, roster.as_str(), 0, "meets\n")?,
+            "{seed}"
+        );
+        if roster.as_str() != plain.as_str() {
+            has_other = true;
+        }
+    }
+    assert!(rt; has_other);
     Ok(())
 }
 

@@ -1,6 +1,5 @@
 use Rattle.clean_words.specs.Rows.{gain_at}
-use Rattle.std.proofs.Common.{◌≡◌, ◌∙◌, ap, sym, subst, arith, rules, Some, w64, to_z, of_z, SFits, ℤ}
-use Rattle.std.specs.Prelude.{◌≤ℤ◌}
+use Rattle.std.proofs.Common.{◌≡◌, ◌∙◌, ap, sym, subst, arith, rules, w64, to_z, of_z, SFits, ℤ}
 use Rattle.std.proofs.lemmas.Int.{ints}
 use Rattle.clean_words.specs.Courses.{IsBestOf, AreBelow}
 use Rattle.clean_words.specs.Trellis.{Trellis, trellis, start_of, IsGreatest}

@@ -14,13 +14,11 @@ loop-state-preserved c =
           let states = states_more c.args.classes.now c.loop-state.state (length c.loop-state.moves.items) new i.states in
           rw (w.moves-is, w.told-is, w.in_ok-push.ensures.items, w.in_ok-push-2.ensures.items, length_push c.loop-state.moves.items, length_push c.loop-state.told.items) (record {
             long = omega (arith, i.long);
-            few = omega (arith, i.few);
             states = states;
           })
       | else-class_of-len w ↦
           rw (w.moves-is, w.told-is) (record {
             long = i.long;
-            few = omega (arith, i.few);
             states = states_same c.args.classes.now c.loop-state.state (length c.loop-state.moves.items) i.states;
           })
     ]

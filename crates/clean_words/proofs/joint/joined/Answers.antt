@@ -1,6 +1,5 @@
 -- The pairs are the states of a table.
-use Rattle.std.proofs.Common.{◌≡◌, ◌∙◌, ◌+◌, ◌<◌, List, length, ap, arith}
-use Rattle.rwsp_terms.specs.Instance.{shift_count}
+use Rattle.std.proofs.Common.{◌∙◌, ◌+◌, List, ap, arith}
 use Rattle.clean_words.specs.declared.joint.Both.{Both}
 use Rattle.clean_words.specs.Joint.{AreStarts}
 use Rattle.clean_words.proofs.Growing.{starts_on}

@@ -1,4 +1,4 @@
-use Rattle.std.proofs.Common.{◌+◌, ◌∙◌, None, cond, arith}
+use Rattle.std.proofs.Common.{◌+◌, None, cond, arith}
 use Rattle.std.specs.Prelude.{nat_lt}
 use Rattle.std.proofs.lemmas.List.{length_push}
 use Rattle.rwsp_terms.specs.Instance.{shift_count}

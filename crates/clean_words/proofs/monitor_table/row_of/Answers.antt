@@ -1,4 +1,4 @@
-use Rattle.std.proofs.Common.{ap, ◌∙◌, refl, arith}
+use Rattle.std.proofs.Common.{◌∙◌, refl, arith}
 use Rattle.std.proofs.lemmas.List.{length-set}
 use Rattle.clean_words.specs.Monitors.{entry}
 use Rattle.clean_words.proofs.MonitorTables.{row_none, row_more}

@@ -1,4 +1,4 @@
-use Rattle.std.proofs.Common.{◌≡◌, ◌≤◌, drop, arith, subst}
+use Rattle.std.proofs.Common.{◌≡◌, drop, arith, subst}
 use Rattle.clean_words.specs.Tables.{IsReader}
 use Rattle.clean_words.proofs.Readers.{reader_first, reader_none}
 use Rattle.clean_words.proofs.rule_table.rule_table.Goals as goal

@@ -2,8 +2,9 @@ use Rattle.std.proofs.Common.{◌≡◌, pos, true, arith, ap, ◌∙◌}
 use Rattle.std.specs.Prelude.{◌<ℤ◌}
 use Rattle.std.specs.Str.{bytes_eq}
 use Rattle.std.proofs.lemmas.Int.{ints}
+use Rattle.rwsp_text.proofs.Words.{bytes_same}
 use Rattle.crew_calendar.specs.Calendar.{date_text}
-use Rattle.crew_calendar.proofs.DateWords.{word_is_read, not_negative, text_is_word, text_same}
+use Rattle.crew_calendar.proofs.DateWords.{word_is_read, not_negative, text_is_word}
 use Rattle.crew_calendar.proofs.dates.date_of.Goals as goal
 
 pub returns-in_default : goal.returns-in_default
@@ -18,5 +19,5 @@ pub returns-else-eq : goal.returns-else-eq
 returns-else-eq c date names =
     let word : date_text c.in-Ok.date ≡ c.args.word.now = text_is_word c.args.word.now c.in-Ok.date date c.in-Ok.ensures.value names in
     let text : c.as_str.result.now ≡ c.args.word.now = c.as_str.ensures.value ∙ c.date_text-text.ensures ∙ ap date_text c.to_plain.ensures ∙ word in
-    let same : bytes_eq c.as_str.result.now c.args.word.now ≡ true = ap (λ t. bytes_eq t c.args.word.now) text ∙ text_same c.args.word.now in
+    let same : bytes_eq c.as_str.result.now c.args.word.now ≡ true = ap (λ t. bytes_eq t c.args.word.now) text ∙ bytes_same c.args.word.now in
     cc

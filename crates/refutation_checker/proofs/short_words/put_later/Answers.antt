@@ -1,10 +1,10 @@
-use Rattle.std.proofs.Common.{◌≡◌, ◌∙◌, ℕ, ◌+◌, ◌<◌, List, [], ◌∷◌, ◌++◌, length, false, Some, ap, refl, subst, sym}
+use Rattle.std.proofs.Common.{◌≡◌, ◌∙◌, ℕ, ◌+◌, ◌<◌, List, [], ◌∷◌, ◌++◌, length, false, Some, ap, subst, sym}
 use Rattle.std.specs.Prelude.{Contains}
 use Rattle.std.proofs.lemmas.List.Elements.{All-push, Contains-push}
 use Rattle.std.proofs.lemmas.Option.{same_Some}
 use Rattle.clean_words.specs.Moves.{move_at}
 use Rattle.domain_store.specs.Store.{has_domain}
-use Rattle.refutation_checker.specs.ShortWords.{AreStates, GoOn, HaveAll}
+use Rattle.refutation_checker.specs.ShortWords.{AreStates, GoOn, HaveAll, by_move}
 use Rattle.refutation_checker.proofs.ShortWords.{all_stay, not_by, by_one}
 use Rattle.refutation_checker.proofs.short_words.put_later.Goals as goal
 use Rattle.refutation_checker.proofs.short_words.put_later.Goals.{then-has+in-Some+in_ok-push, then-has+in_default, else-has}
@@ -28,7 +28,7 @@ loop-number-preserved c =
           record {
             keeps = λ t k. all t (so_far.keeps t k);
             states = subst (AreStates A) (sym items) (All-push (λ s. s < length A.moves) old next so_far.states inside);
-            goes_on = by_one A D n c.args.state old new all put so_far.goes_on;
+            goes_on = by_one D n (by_move A c.args.state) old new all put so_far.goes_on;
           }
       | then-has+in_default w ↦
           let items : new ≡ old = ap (λ v. v.items) w.later-is in
@@ -37,7 +37,7 @@ loop-number-preserved c =
           record {
             keeps = λ t k. all t (so_far.keeps t k);
             states = subst (AreStates A) (sym items) so_far.states;
-            goes_on = by_one A D n c.args.state old new all put so_far.goes_on;
+            goes_on = by_one D n (by_move A c.args.state) old new all put so_far.goes_on;
           }
       | else-has w ↦
           let items : new ≡ old = ap (λ v. v.items) w.later-is in
@@ -45,6 +45,6 @@ loop-number-preserved c =
           record {
             keeps = subst (HaveAll c.args.later.now.items) (sym items) so_far.keeps;
             states = subst (AreStates A) (sym items) so_far.states;
-            goes_on = subst (GoOn A D (n + 1) c.args.state) (sym items) (not_by A D n c.args.state old without so_far.goes_on);
+            goes_on = subst (GoOn D (n + 1) (by_move A c.args.state)) (sym items) (not_by D n (by_move A c.args.state) old without so_far.goes_on);
           }
     ]

@@ -1,4 +1,4 @@
-use Rattle.std.proofs.Common.{◌∙◌, sym, subst}
+use Rattle.std.proofs.Common.{sym, subst}
 use Rattle.std.specs.Prelude.{Bool}
 use Rattle.refutation_terms.specs.Log.{CountsFit}
 use Rattle.roster_search.proofs.Logs.{counts_fit}

@@ -1,7 +1,6 @@
 -- The place is the one that the definition gives.
-use Rattle.std.proofs.Common.{◌+◌, ◌-◌, ◌*◌, length, ap, sym, ◌∙◌, arith}
-use Rattle.rwsp_terms.specs.Instance.{shift_count, sequences}
-use Rattle.rwsp_model.specs.RuleNumbers.{class_place, place_of}
+use Rattle.std.proofs.Common.{◌+◌, ◌*◌, ap, sym, ◌∙◌}
+use Rattle.rwsp_model.specs.RuleNumbers.{place_of}
 use Rattle.rwsp_model.proofs.rules.place_of.Goals as goal
 
 pub returns-in-Most-clause-value : goal.returns-in-Most-clause-value

@@ -1,5 +1,4 @@
-use Rattle.std.proofs.Common.{◌-◌, length}
-use Rattle.clean_words.specs.declared.table.TheConstants.{MOST_STATES}
+use Rattle.std.proofs.Common.{◌-◌, ◌^◌, length}
 use Rattle.clean_words.specs.Joint.{Extends, AreStates}
 use Rattle.clean_words.proofs.joint.Joint.put_all_moves.Given as goal
 
@@ -10,4 +9,4 @@ invariant-loop-self l = record {
 }
 
 abbrev pub decreases-loop-self : goal.decreases-loop-self
-decreases-loop-self l = MOST_STATES - length l.self.moves.items
+decreases-loop-self l = 2 ^ 64 - length l.self.moves.items

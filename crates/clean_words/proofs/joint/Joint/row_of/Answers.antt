@@ -5,7 +5,6 @@ use Rattle.clean_words.proofs.joint.Joint.row_of.Goals as goal
 
 pub loop-number-init : goal.loop-number-init
 loop-number-init c = record {
-  few = c.requires.few;
   grows = extends_none c.args.self.now.pairs.items c.args.self.now.pairs.items refl;
   moves = refl;
   long = refl;
@@ -17,7 +16,6 @@ loop-number-preserved c =
     let i = c.loop-number.invariant in
     let e = c.in_ok-row.ensures in
     record {
-      few = e.few;
       grows = extends_on c.args.self.now.pairs.items c.loop-number.self.pairs.items c.move_by.new.self.pairs.items i.grows e.grows;
       moves = e.moves ∙ i.moves;
       long = length-set c.loop-number.row c.loop-number.number c.in_ok-row.field-0 ∙ i.long;

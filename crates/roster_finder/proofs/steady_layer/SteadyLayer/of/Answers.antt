@@ -1,4 +1,4 @@
-use Rattle.std.proofs.Common.{rules, arith, ℕ, List, All, length, subst}
+use Rattle.std.proofs.Common.{rules, ℕ, List, All, length, subst}
 use Rattle.roster_finder.specs.declared.step.Step.{Step}
 use Rattle.roster_finder.specs.Steps.{IsStepWithin, IsBelow}
 use Rattle.roster_finder.proofs.steady_layer.SteadyLayer.of.Goals as goal
@@ -9,7 +9,7 @@ invariant_of-result c =
     record {
       few_symbols = search rules;
       steps_within = subst (λ (below : ℕ). All (IsStepWithin nodes.count below) c.in_ok-steps.steps.items) c.in_ok-last.ensures.below c.in_ok-steps.ensures.within;
-      few_steps = omega (arith, c.in_ok-steps.ensures.few, c.prove_facts.ensures.few_steps);
+      few_steps = c.in_ok-steps.ensures.few;
       last_whole = c.in_ok-last.ensures.whole;
       last_below = c.in_ok-last.ensures.below;
       out_whole = c.in_ok-out.ensures.whole;

@@ -6,4 +6,4 @@ use Rattle.rwsp_model.proofs.problem.Problem.with_sequences.Goals as goal
 pub invariant_of-result : goal.invariant_of-result
 invariant_of-result c =
     let same : instance_of c.in_ok-parts.parts ≡ c.args.self.now = c.in_ok-parts.ensures ∙ c.self.view_is in
-    other_sequences_valid c.args.self.now (instance_of c.in_ok-parts.parts) c.args.pairs.items c.args.triples.items same c.prove_limits.ensures c.requires.few.0 c.requires.few.1 c.requires.pairs c.requires.triples
+    other_sequences_valid c.args.self.now (instance_of c.in_ok-parts.parts) c.args.sequences.items same c.prove_limits.ensures c.requires.known c.requires.listed

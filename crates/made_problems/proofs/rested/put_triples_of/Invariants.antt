@@ -1,8 +1,0 @@
-use Rattle.std.proofs.Common.{◌≡◌, ◌++◌}
-use Rattle.std.specs.List.{flat_map, range_with_len}
-use Rattle.made_problems.specs.Rested.{shift_at, triple_of}
-use Rattle.made_problems.proofs.rested.put_triples_of.Given as goal
-
-abbrev pub invariant-loop-second : goal.invariant-loop-second
-invariant-loop-second l =
-    l.out.items ≡ l.fn.out.items ++ flat_map (λ j. triple_of l.problem l.minutes (shift_at l.first) (shift_at j)) (range_with_len 0 l.second)
