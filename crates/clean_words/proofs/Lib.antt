@@ -11,6 +11,7 @@ pub mod WordEnds
 pub mod Watching
 pub mod BlockWords
 pub mod SequenceWords
+pub mod SequenceSteps
 pub mod MonitorTables
 pub mod RuleMonitors
 pub mod CleanByRules

@@ -17,7 +17,8 @@ use Rattle.clean_words.specs.declared.last.Told.{Told}
 use Rattle.clean_words.specs.declared.last.Told.TheVariants.{DayOff, LastSymbol}
 use Rattle.clean_words.specs.declared.table.Table.{Table}
 use Rattle.clean_words.specs.Blocks.{in_class, longer}
-use Rattle.clean_words.specs.Sequences.{is_on_day, has_one, never_to}
+use Rattle.rwsp_terms.specs.Forbidden.{day_of}
+use Rattle.clean_words.proofs.SequenceSteps.{never_some, never_inside, never_again}
 use Rattle.clean_words.specs.Moves.{Moves, move_at, lead, start_at}
 use Rattle.clean_words.specs.Automata.{HasSymbolsOf}
 use Rattle.clean_words.specs.Tables.{IsTable}
@@ -64,7 +65,7 @@ size_some : (m : Monitor) → 0 < size_of m
 size_some (Last told) = omega arith
 size_some (Most c greatest) = omega arith
 size_some (Least c least) = omega arith
-size_some (Never q days) = omega arith
+size_some (Never q days) = never_some q
 
 period_by_some : (day : Option ℕ) (days : ℕ) → 0 < days → 0 < period_by day days
 period_by_some None days some = omega arith
@@ -74,7 +75,7 @@ period_some : (m : Monitor) → IsSound m → 0 < period_of m
 period_some (Last told) sound = omega arith
 period_some (Most c greatest) sound = omega arith
 period_some (Least c least) sound = omega arith
-period_some (Never q days) sound = period_by_some q.day days sound.0
+period_some (Never q days) sound = period_by_some (day_of q) days sound.0
 
 period_by_week : (day : Option ℕ) (days : ℕ) → (period_by day days ≡ 1) ⊎ (period_by day days ≡ days)
 period_by_week None days = inl refl
@@ -85,7 +86,7 @@ period_week : (P : Instance) (m : Monitor) → HasWeek P m → (period_of m ≡ 
 period_week P (Last told) week = inl refl
 period_week P (Most c greatest) week = inl refl
 period_week P (Least c least) week = inl refl
-period_week P (Never q days) week = subst (λ n. (period_by q.day days ≡ 1) ⊎ (period_by q.day days ≡ n)) week (period_by_week q.day days)
+period_week P (Never q days) week = subst (λ n. (period_by (day_of q) days ≡ 1) ⊎ (period_by (day_of q) days ≡ n)) week (period_by_week (day_of q) days)
 
 -- the first state is one, and each step leads to one
 
@@ -93,7 +94,7 @@ pub first_inside : (m : Monitor) → first_of m < size_of m
 first_inside (Last told) = omega arith
 first_inside (Most c greatest) = omega arith
 first_inside (Least c least) = omega arith
-first_inside (Never q days) = omega arith
+first_inside (Never q days) = never_some q
 
 label_few : (told : Told) (x : Symbol) → x.number < MOST_SYMBOLS → label told x < MOST_SYMBOLS + 1
 label_few DayOff x few = elim (cases_Bool (x.number == 0)) [
@@ -101,10 +102,6 @@ label_few DayOff x few = elim (cases_Bool (x.number == 0)) [
   | inr fails ↦ let e : label DayOff x ≡ 0 = cond-false (x.number == 0) 1 0 fails in omega (arith, e)
 ]
 label_few LastSymbol x few = omega (arith, few)
-
-flag_few : (b : Bool) (n : ℕ) → cond b n 0 ≤ n
-flag_few true n = omega arith
-flag_few false n = omega arith
 
 below_some : (k n t : ℕ) → k < n → Some k ≡ Some t → t < n
 below_some k n t less e = let same = same_Some k t e in omega (arith, less, same)
@@ -124,7 +121,7 @@ to_inside (Least c least) p s x inside symbol goes = by_class (in_class c x)
       | inl less ↦ let same : longer s least ≡ s + 1 = cond-true (nat_lt s least) (s + 1) s less in omega (arith, same, ltb-true s least less)
       | inr full ↦ let same : longer s least ≡ s = cond-false (nat_lt s least) (s + 1) s full in omega (arith, same, inside)
     ]
-to_inside (Never q days) p s x inside symbol goes = omega (arith, flag_few (is_on_day q.day days p && (x.number == q.first.number)) 1, flag_few (has_one s && (x.number == q.second.number)) 2)
+to_inside (Never q days) p s x inside symbol goes = never_inside q days p s x inside
 
 next_inside : (m : Monitor) (p s t : ℕ) (x : Symbol) → s < size_of m → x.number < MOST_SYMBOLS → next_of m p s x ≡ Some t → t < size_of m
 next_inside m p s t x inside symbol e = by_stop (stops_of m s x) (λ goes. to_inside m p s x inside symbol goes) e
@@ -134,15 +131,11 @@ next_inside m p s t x inside symbol e = by_stop (stops_of m s x) (λ goes. to_in
     by_stop false below e = below_some (to_of m p s x) (size_of m) t (below refl) e
 
 -- the steps are the same again after the period
-day_again : (day : Option ℕ) (days p : ℕ) → is_on_day day days (p % period_by day days) ≡ is_on_day day days p
-day_again None days p = refl
-day_again (Some day) days p = ap (λ n. n + 1 == day) (mod-mod p days)
-
 to_again : (m : Monitor) (p s : ℕ) (x : Symbol) → to_of m (p % period_of m) s x ≡ to_of m p s x
 to_again (Last told) p s x = refl
 to_again (Most c greatest) p s x = refl
 to_again (Least c least) p s x = refl
-to_again (Never q days) p s x = ap (λ here. never_to q here s x) (day_again q.day days p)
+to_again (Never q days) p s x = never_again q days p s x
 
 next_again : (m : Monitor) (p s : ℕ) (x : Symbol) → next_of m (p % period_of m) s x ≡ next_of m p s x
 next_again m p s x = ap (λ t. cond (stops_of m s x) None (Some t)) (to_again m p s x)

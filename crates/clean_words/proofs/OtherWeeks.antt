@@ -9,6 +9,7 @@ use Rattle.rwsp_terms.specs.declared.data.Class.TheVariants.{Shift, Off, Work}
 use Rattle.rwsp_terms.specs.Instance.{Instance, bounds}
 use Rattle.rwsp_terms.specs.Rules.{Names, rule_of}
 use Rattle.rwsp_terms.specs.Window.{Bad, TooLong, TooShort}
+use Rattle.rwsp_terms.proofs.Forbidden.{forbidden_elsewhere}
 use Rattle.refutation_terms.specs.Word.{Clean}
 use Rattle.clean_words.specs.declared.step.Step.{Step}
 use Rattle.clean_words.specs.Moves.{Moves}
@@ -26,13 +27,13 @@ same_bounds P m Work = refl
 bad_there : (P : Instance) (m : ℕ) (r : Rule) (p : ℕ) (u : List Symbol) → Bad P r p u → Bad (sized P m) r p u
 bad_there P m (Most c) p u h = subst (λ (b : Bounds). TooLong c b.greatest u) (sym (same_bounds P m c)) h
 bad_there P m (Least c) p u h = subst (λ (b : Bounds). TooShort c b.least u) (sym (same_bounds P m c)) h
-bad_there P m (Never k) p u h = h
+bad_there P m (Never k) p u h = (h.0, h.1, forbidden_elsewhere P (sized P m) h.0 p u refl (λ x. refl) h.2)
 bad_there P m (Day j) p u h = h
 
 bad_here : (P : Instance) (m : ℕ) (r : Rule) (p : ℕ) (u : List Symbol) → Bad (sized P m) r p u → Bad P r p u
 bad_here P m (Most c) p u h = subst (λ (b : Bounds). TooLong c b.greatest u) (same_bounds P m c) h
 bad_here P m (Least c) p u h = subst (λ (b : Bounds). TooShort c b.least u) (same_bounds P m c) h
-bad_here P m (Never k) p u h = h
+bad_here P m (Never k) p u h = (h.0, h.1, forbidden_elsewhere (sized P m) P h.0 p u refl (λ x. refl) h.2)
 bad_here P m (Day j) p u h = h
 
 same_rule : (P : Instance) (m k : ℕ) → rule_of (sized P m) k ≡ rule_of P k

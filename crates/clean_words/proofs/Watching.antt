@@ -7,6 +7,7 @@ use Rattle.rwsp_terms.specs.declared.data.Rule.TheVariants.{Most, Least, Never, 
 use Rattle.rwsp_terms.specs.Instance.{Instance}
 use Rattle.rwsp_terms.specs.Window.{Bad, HasNoBadPart}
 use Rattle.refutation_terms.specs.Word.{Clean}
+use Rattle.rwsp_terms.proofs.Forbidden.{forbidden_long}
 use Rattle.refutation_terms.proofs.Windows.{no_bad-front}
 use Rattle.clean_words.specs.declared.monitor.Monitor.{Monitor}
 use Rattle.clean_words.specs.Monitors.{first_of, stops_of, to_of, run, Watches}
@@ -17,7 +18,7 @@ use Rattle.clean_words.proofs.WordEnds.{EndsWith, ends, front_same}
 never_empty : (P : Instance) (r : Rule) (p : ℕ) → Bad P r p [] → ⊥
 never_empty P (Most c) p bad = omega (arith, bad.long)
 never_empty P (Least c) p bad = let e = ap length bad.whole in omega (arith, e)
-never_empty P (Never k) p bad = let e = ap length bad.2.0 in omega (arith, e)
+never_empty P (Never k) p bad = let some = (forbidden_long P bad.0 p [] bad.2).0 in omega (arith, some)
 never_empty P (Day j) p bad = bad
 
 empty_part : (before part after : List Symbol) → [] ≡ before ++ part ++ after → part ≡ []

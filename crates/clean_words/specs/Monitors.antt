@@ -6,15 +6,15 @@ use Rattle.rwsp_terms.specs.declared.data.Symbol.{Symbol}
 use Rattle.rwsp_terms.specs.declared.data.Rule.{Rule}
 use Rattle.rwsp_terms.specs.Instance.{Instance, shift_count, symbol_numbered}
 use Rattle.rwsp_terms.specs.Rules.{rule_of}
+use Rattle.rwsp_terms.specs.Forbidden.{day_of}
 use Rattle.rwsp_terms.specs.Window.{HasNoBadPart}
 use Rattle.clean_words.specs.declared.monitor.Monitor.{Monitor}
 use Rattle.clean_words.specs.declared.monitor.Monitor.TheVariants.{Last, Most, Least, Never}
 use Rattle.clean_words.specs.declared.last.Told.{Told}
 use Rattle.clean_words.specs.declared.last.Told.TheVariants.{DayOff, LastSymbol}
-use Rattle.clean_words.specs.declared.never.TheConstants.{STATES}
 use Rattle.clean_words.specs.declared.table.Table.{Table}
 use Rattle.clean_words.specs.Blocks.{most_stops, most_to, least_stops, least_to}
-use Rattle.clean_words.specs.Sequences.{is_on_day, has_one, has_two, stops_by, never_to}
+use Rattle.clean_words.specs.Sequences.{never_size, never_stops, never_to}
 use Rattle.clean_words.specs.Moves.{move_at, start_at}
 use Rattle.clean_words.specs.Tables.{IsTable, told_after}
 use Rattle.clean_words.specs.Automata.{HasSymbolsOf}
@@ -33,7 +33,7 @@ abbrev pub size_of : Monitor → ℕ
 size_of (Last told) = MOST_SYMBOLS + 1
 size_of (Most c greatest) = greatest + 1
 size_of (Least c least) = least + 1
-size_of (Never q days) = STATES
+size_of (Never q days) = never_size q
 
 -- after how many days the steps are the same again
 abbrev pub period_by : Option ℕ → ℕ → ℕ
@@ -41,7 +41,7 @@ period_by None days = 1
 period_by (Some day) days = days
 
 abbrev pub period_of : Monitor → ℕ
-period_of (Never q days) = period_by q.day days
+period_of (Never q days) = period_by (day_of q) days
 period_of m = 1
 
 -- the state of the empty word
@@ -54,14 +54,14 @@ abbrev pub stops_of : Monitor → ℕ → Symbol → Bool
 stops_of (Last told) s x = false
 stops_of (Most c greatest) s x = most_stops c greatest s x
 stops_of (Least c least) s x = least_stops c least s x
-stops_of (Never q days) s x = stops_by q.third q.second (has_one s) (has_two s) x
+stops_of (Never q days) s x = never_stops q s x
 
 -- where the symbol leads from the state if it doesn't, on a day counted from 0
 abbrev pub to_of : Monitor → ℕ → ℕ → Symbol → ℕ
 to_of (Last told) p s x = label told x
 to_of (Most c greatest) p s x = most_to c s x
 to_of (Least c least) p s x = least_to c least s x
-to_of (Never q days) p s x = never_to q (is_on_day q.day days p) s x
+to_of (Never q days) p s x = never_to q days p s x
 
 -- the same; none where it stops
 abbrev pub next_of : Monitor → ℕ → ℕ → Symbol → Option ℕ

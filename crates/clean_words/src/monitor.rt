@@ -9,7 +9,7 @@ ghost use Rattle.clean_words.specs.Monitors.{IsSound, Fits, size_of, period_by, 
 use crate::last::{Told, label};
 use crate::least::{least_stops, least_to};
 use crate::most::{most_stops, most_to};
-use crate::never::{STATES, is_on_day, never_stops, never_to};
+use crate::never::{never_size, never_stops, never_to};
 use rwsp_model::{Problem, rule_at, rule_count};
 use rwsp_terms::limits::MOST_SYMBOLS;
 use rwsp_terms::{Class, Rule, Sequence, Symbol};
@@ -50,7 +50,7 @@ impl Monitor {
             Monitor::Last(_) => MOST_SYMBOLS + 1,
             Monitor::Most(_, greatest) => greatest + 1,
             Monitor::Least(_, least) => least + 1,
-            Monitor::Never(_, _) => STATES,
+            Monitor::Never(sequence, _) => never_size(sequence),
         }
     }
 
@@ -62,7 +62,7 @@ impl Monitor {
         ensures few { result ≤ MOST_DAYS }
     {
         match self {
-            Monitor::Never(sequence, days) => period_by(sequence.day, days),
+            Monitor::Never(sequence, days) => period_by(sequence.day(), days),
             _ => 1,
         }
     }
@@ -116,10 +116,7 @@ impl Monitor {
             Monitor::Last(told) => label(told, x),
             Monitor::Most(class, _) => most_to(class, state, x),
             Monitor::Least(class, least) => least_to(class, least, state, x),
-            Monitor::Never(sequence, days) => {
-                let here = is_on_day(sequence.day, days, day);
-                never_to(sequence, here, state, x)
-            }
+            Monitor::Never(sequence, days) => never_to(sequence, days, day, state, x),
         }
     }
 

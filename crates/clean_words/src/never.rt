@@ -1,16 +1,16 @@
-// Rules against sequences: what watches words for them.
-ghost use Rattle.std.specs.Prelude.{◌≡◌, ◌<◌};
-ghost use Rattle.clean_words.specs.Sequences.{is_on_day, has_one, has_two, stops_by, never_to};
-ghost use Rattle.clean_words.specs.declared.never.TheConstants.{STATES};
+// Rules against sequences: what watches words for them. Each form of sequence has one arm in each function, and its own
+// states are in a file of its own.
+ghost use Rattle.std.specs.Prelude.{◌≡◌, ◌+◌, ◌<◌, ◌≤◌};
+ghost use Rattle.rwsp_terms.specs.declared.limits.TheConstants.{GREATEST_BOUND};
+ghost use Rattle.clean_words.specs.Sequences.{is_on_day, never_size, never_stops, never_to};
 
+mod rows;
+
+use rows::{STATES, row_stops, row_to};
 use rwsp_terms::{Sequence, Symbol};
 
-// The states: whether the word ends with the first symbol of the sequence, and whether with the first two, each on its
-// day of the week.
-pub const STATES: u32 = 4;
-
-// Whether the sequence may begin on the day, counted from 0.
-pub fn is_on_day(day: Option<u32>, days: u32, at: u32) -> bool
+// Whether a forbidden word may begin on the day, counted from 0.
+fn is_on_day(day: Option<u32>, days: u32, at: u32) -> bool
     requires { 0 < days }
     ensures { result ≡ is_on_day day days at }
 {
@@ -20,55 +20,33 @@ pub fn is_on_day(day: Option<u32>, days: u32, at: u32) -> bool
     }
 }
 
-fn has_one(state: u32) -> bool
-    ensures { result ≡ has_one state }
+// The number of states. The empty word has state 0.
+pub fn never_size(sequence: Sequence) -> u32
+    ensures value { result ≡ never_size sequence }
+    ensures some { 0 < result }
+    ensures few { result ≤ GREATEST_BOUND + 1 }
 {
-    state % 2 == 1
-}
-
-fn has_two(state: u32) -> bool
-    ensures { result ≡ has_two state }
-{
-    state > 1
-}
-
-// Whether the symbol is the last of a sequence, of whose first symbols these are there.
-fn stops_by(third: Option<Symbol>, second: Symbol, one: bool, two: bool, x: Symbol) -> bool
-    ensures { result ≡ stops_by third second one two x }
-{
-    match third {
-        Some(third) => two && x.number == third.number,
-        None => one && x.number == second.number,
+    match sequence {
+        Sequence::Row(_) => STATES,
     }
 }
 
-// Whether the symbol is the last of the sequence.
+// Whether the symbol ends a forbidden word.
 pub fn never_stops(sequence: Sequence, state: u32, x: Symbol) -> bool
-    ensures { result ≡ stops_by sequence.third sequence.second (has_one state) (has_two state) x }
+    ensures { result ≡ never_stops sequence state x }
 {
-    stops_by(
-        sequence.third,
-        sequence.second,
-        has_one(state),
-        has_two(state),
-        x,
-    )
+    match sequence {
+        Sequence::Row(row) => row_stops(row, state, x),
+    }
 }
 
-// Where the symbol leads. `here` says whether the sequence may begin on its day.
-pub fn never_to(sequence: Sequence, here: bool, state: u32, x: Symbol) -> u32
-    ensures value { result ≡ never_to sequence here state x }
-    ensures inside { result < STATES }
+// Where the symbol leads if it doesn't, on a day counted from 0, in weeks of so many days.
+pub fn never_to(sequence: Sequence, days: u32, day: u32, state: u32, x: Symbol) -> u32
+    requires days { 0 < days }
+    requires state { state < never_size sequence }
+    ensures value { result ≡ never_to sequence days day state x }
 {
-    let begins = if here && x.number == sequence.first.number {
-        1
-    } else {
-        0
-    };
-    let goes_on = if has_one(state) && x.number == sequence.second.number {
-        2
-    } else {
-        0
-    };
-    begins + goes_on
+    match sequence {
+        Sequence::Row(row) => row_to(row, is_on_day(row.day, days, day), state, x),
+    }
 }

@@ -11,6 +11,7 @@ mod Shapes
 pub mod Words
 mod Starts
 mod Found
+mod ForbiddenWords
 pub mod Positions
 pub mod Blocked
 mod BlockCounts

@@ -1,21 +1,22 @@
--- The words of each kind of rule, by their places.
+-- The words of each kind of rule, and those of blocks by their places.
 use Rattle.std.proofs.Common.{◌≡◌, ℕ, zero, suc, ◌+◌, ◌-◌, ◌<◌, ◌≤◌, List, [], ◌∷◌, ◌++◌, length, get_or, refl, ap, sym, ◌∙◌, arith, subst, length-append, inl, inr, Some, None}
-use Rattle.std.proofs.lemmas.Option.{same_Some}
-use Rattle.std.specs.Prelude.{Option, slice_get}
+use Rattle.std.specs.Prelude.{slice_get}
 use Rattle.rwsp_terms.specs.declared.data.Symbol.{Symbol}
 use Rattle.rwsp_terms.specs.declared.data.Class.{Class}
-use Rattle.rwsp_terms.specs.declared.data.Class.TheVariants.{Shift}
 use Rattle.rwsp_terms.specs.declared.data.Sequence.{Sequence}
 use Rattle.rwsp_terms.specs.declared.data.Rule.{Rule}
 use Rattle.rwsp_terms.specs.declared.data.Rule.TheVariants.{Most, Least, Never}
 use Rattle.rwsp_terms.specs.declared.limits.TheConstants.{GREATEST_BOUND}
 use Rattle.rwsp_terms.specs.Instance.{Instance, bounds, off_symbol}
-use Rattle.rwsp_terms.specs.Window.{Bad, InClass, IsSequence, symbols_of, third_of, TooLong, TooShort}
+use Rattle.rwsp_terms.specs.Window.{InClass, TooLong, TooShort}
 use Rattle.rwsp_terms.proofs.Windows.{get_or-front, get_or-seam}
+use Rattle.rwsp_terms.proofs.Forbidden.{bad_forbidden, forbidden_bad}
+use Rattle.rwsp_model.specs.Sequences.{IsSequenceOf}
+use Rattle.domain_store.specs.declared.shape.Shape.TheVariants.{Blocks, Words}
 use Rattle.domain_store.specs.declared.pattern.Pattern.{Pattern}
-use Rattle.domain_store.specs.declared.pattern.Side.{Side}
 use Rattle.domain_store.specs.declared.pattern.Side.TheVariants.{In, Outside}
-use Rattle.domain_store.specs.Patterns.{IsShaped, IsPatternOf, IsLast, days_of, last_side}
+use Rattle.domain_store.specs.BadWindows.{IsShapeOf}
+use Rattle.domain_store.specs.Patterns.{IsShaped, IsPatternOf}
 
 other_default : (xs : List Symbol) (i : ℕ) (d e : Symbol) → i < length xs → get_or xs i d ≡ get_or xs i e
 other_default [] i d e h = absurd (omega (arith, h))
@@ -24,12 +25,11 @@ other_default (x ∷ xs) (suc i) d e h = other_default xs i d e (omega (arith, h
 
 -- a block of one length
 
-abbrev pub long_pattern : Class → ℕ → ℕ → Pattern
-long_pattern c greatest week = record { first = In c; inner = c; fewest = greatest; most = greatest; last = None; day = None; week = week }
+abbrev pub long_pattern : Class → ℕ → Pattern
+long_pattern c greatest = record { first = In c; inner = c; fewest = greatest; most = greatest; last = None }
 
-long_shaped : (c : Class) (greatest week p : ℕ) (u : List Symbol) → TooLong c greatest u → IsShaped (long_pattern c greatest week) p u
-long_shaped c greatest week p u h = record {
-  on_day = tt;
+long_shaped : (c : Class) (greatest : ℕ) (u : List Symbol) → TooLong c greatest u → IsShaped (long_pattern c greatest) u
+long_shaped c greatest u h = record {
   inner = greatest;
   fewest = omega arith;
   most = omega arith;
@@ -39,8 +39,8 @@ long_shaped c greatest week p u h = record {
   last = tt;
 }
 
-shaped_long : (c : Class) (greatest week p : ℕ) (u : List Symbol) → IsShaped (long_pattern c greatest week) p u → TooLong c greatest u
-shaped_long c greatest week p u h = record {
+shaped_long : (c : Class) (greatest : ℕ) (u : List Symbol) → IsShaped (long_pattern c greatest) u → TooLong c greatest u
+shaped_long c greatest u h = record {
   long = omega (arith, h.fewest, h.most, h.long);
   within = λ k d lt. subst (InClass c) (other_default u k off_symbol d lt) (at k lt);
 }
@@ -49,17 +49,17 @@ shaped_long c greatest week p u h = record {
     at zero lt = h.first
     at (suc i) lt = h.within i (omega (arith, h.long, lt))
 
-pub pattern_of_long : (c : Class) (greatest week : ℕ) → greatest ≤ GREATEST_BOUND → 0 < week → IsPatternOf (λ p. TooLong c greatest) (long_pattern c greatest week)
-pattern_of_long c greatest week few some = record {
-  judged = record { one_length = inl refl; few = few; week = some };
-  shaped = long_shaped c greatest week;
-  kind = shaped_long c greatest week;
+pub pattern_of_long : (c : Class) (greatest : ℕ) → greatest ≤ GREATEST_BOUND → IsPatternOf (TooLong c greatest) (long_pattern c greatest)
+pattern_of_long c greatest few = record {
+  judged = record { one_length = inl refl; few = few };
+  shaped = long_shaped c greatest;
+  kind = shaped_long c greatest;
 }
 
 -- a block between two days outside
 
-abbrev pub short_pattern : Class → ℕ → ℕ → Pattern
-short_pattern c most week = record { first = Outside c; inner = c; fewest = 1; most = most; last = Some (Outside c); day = None; week = week }
+abbrev pub short_pattern : Class → ℕ → Pattern
+short_pattern c most = record { first = Outside c; inner = c; fewest = 1; most = most; last = Some (Outside c) }
 
 -- a word with its last symbol apart
 record Parted (u : List Symbol) : Type 0 where
@@ -79,8 +79,8 @@ parted y (z ∷ v) =
       long = let e : suc (length rest.block + 1) ≡ suc (length rest.block) + 1 = omega arith in ap suc rest.long ∙ e;
     }
 
-short_of_parts : (c : Class) (least week p : ℕ) (x : Symbol) (v : List Symbol) → Parted v → IsShaped (short_pattern c (least - 1) week) p (x ∷ v) → TooShort c least (x ∷ v)
-short_of_parts c least week p x v parts h =
+short_of_parts : (c : Class) (least : ℕ) (x : Symbol) (v : List Symbol) → Parted v → IsShaped (short_pattern c (least - 1)) (x ∷ v) → TooShort c least (x ∷ v)
+short_of_parts c least x v parts h =
     let size : h.inner ≡ length parts.block = omega (arith, h.long, parts.long) in
     record {
       before = x;
@@ -100,18 +100,17 @@ short_of_parts c least week p x v parts h =
       few = omega (arith, h.fewest, h.most, size);
     }
 
-shaped_short : (c : Class) (least week p : ℕ) (u : List Symbol) → IsShaped (short_pattern c (least - 1) week) p u → TooShort c least u
-shaped_short c least week p [] h = absurd (omega (arith, h.long))
-shaped_short c least week p (x ∷ []) h = absurd (omega (arith, h.long))
-shaped_short c least week p (x ∷ y ∷ v) h = short_of_parts c least week p x (y ∷ v) (parted y v) h
+shaped_short : (c : Class) (least : ℕ) (u : List Symbol) → IsShaped (short_pattern c (least - 1)) u → TooShort c least u
+shaped_short c least [] h = absurd (omega (arith, h.long))
+shaped_short c least (x ∷ []) h = absurd (omega (arith, h.long))
+shaped_short c least (x ∷ y ∷ v) h = short_of_parts c least x (y ∷ v) (parted y v) h
 
-short_shaped : (c : Class) (least week p : ℕ) (u : List Symbol) → TooShort c least u → IsShaped (short_pattern c (least - 1) week) p u
-short_shaped c least week p u h =
+short_shaped : (c : Class) (least : ℕ) (u : List Symbol) → TooShort c least u → IsShaped (short_pattern c (least - 1)) u
+short_shaped c least u h =
     let t = length h.block in
     let long : length u ≡ suc (t + 1) = ap length h.whole ∙ ap suc (length-append h.block (h.after ∷ [])) in
     let at : (i : ℕ) → get_or u i off_symbol ≡ get_or (h.before ∷ h.block ++ h.after ∷ []) i off_symbol = λ i. ap (λ w. get_or w i off_symbol) h.whole in
     record {
-      on_day = tt;
       inner = t;
       fewest = omega (arith, h.some);
       most = omega (arith, h.few);
@@ -125,83 +124,23 @@ short_shaped c least week p u h =
           h.ends (subst (InClass c) same in_it);
     }
 
-pub pattern_of_short : (c : Class) (least most week : ℕ) → most ≡ least - 1 → least ≤ GREATEST_BOUND → 0 < week → IsPatternOf (λ p. TooShort c least) (short_pattern c most week)
-pattern_of_short c least most week is few some =
-    subst (λ (n : ℕ). IsPatternOf (λ p. TooShort c least) (short_pattern c n week)) (sym is) (record {
-      judged = record { one_length = inr (refl, refl); few = omega (arith, few); week = some };
-      shaped = short_shaped c least week;
-      kind = shaped_short c least week;
-    })
-
--- the symbols of a sequence
-
-abbrev pub sequence_pattern : ℕ → Sequence → Pattern
-sequence_pattern week q = record { first = In (Shift q.first); inner = Shift q.second; fewest = 1; most = 1; last = last_side q.third; day = q.day; week = week }
-
-two_or_three : (third : Option Symbol) (u : List Symbol) (x y : Symbol) → length u ≡ 2 + days_of (last_side third) → get_or u 0 off_symbol ≡ x → get_or u 1 off_symbol ≡ y → IsLast (last_side third) (get_or u 2 off_symbol) → u ≡ x ∷ y ∷ third_of third
-two_or_three None (r ∷ s ∷ []) x y long a b d = ap (λ (q : Symbol). q ∷ s ∷ []) a ∙ ap (λ (q : Symbol). x ∷ q ∷ []) b
-two_or_three None [] x y long a b d = absurd (omega (arith, long))
-two_or_three None (r ∷ []) x y long a b d = absurd (omega (arith, long))
-two_or_three None (r ∷ s ∷ t ∷ u) x y long a b d = absurd (omega (arith, long))
-two_or_three (Some z) (r ∷ s ∷ t ∷ []) x y long a b d = ap (λ (q : Symbol). q ∷ s ∷ t ∷ []) a ∙ ap (λ (q : Symbol). x ∷ q ∷ t ∷ []) b ∙ ap (λ (q : Symbol). x ∷ y ∷ q ∷ []) d
-two_or_three (Some z) [] x y long a b d = absurd (omega (arith, long))
-two_or_three (Some z) (r ∷ []) x y long a b d = absurd (omega (arith, long))
-two_or_three (Some z) (r ∷ s ∷ []) x y long a b d = absurd (omega (arith, long))
-two_or_three (Some z) (r ∷ s ∷ t ∷ w ∷ u) x y long a b d = absurd (omega (arith, long))
-
-long_third : (third : Option Symbol) → length (third_of third) ≡ days_of (last_side third)
-long_third None = refl
-long_third (Some z) = refl
-
-last_third : (third : Option Symbol) (x y : Symbol) → IsLast (last_side third) (get_or (x ∷ y ∷ third_of third) 2 off_symbol)
-last_third None x y = tt
-last_third (Some z) x y = refl
-
-shaped_sequence : (week : ℕ) (q : Sequence) (p : ℕ) (u : List Symbol) → IsShaped (sequence_pattern week q) p u → IsSequence week q p u
-shaped_sequence week q p u h =
-    let one : h.inner ≡ 1 = omega (arith, h.fewest, h.most) in (
-      two_or_three q.third u q.first q.second (omega (arith, h.long, one)) h.first (h.within 0 (omega (arith, one)))
-          (subst (λ i. IsLast (last_side q.third) (get_or u (suc i) off_symbol)) one h.last),
-      h.on_day,
-    )
-
-sequence_shaped : (week : ℕ) (q : Sequence) (p : ℕ) (u : List Symbol) → IsSequence week q p u → IsShaped (sequence_pattern week q) p u
-sequence_shaped week q p u (e, on_day) =
-    let at : (i : ℕ) → get_or u i off_symbol ≡ get_or (symbols_of q) i off_symbol = λ i. ap (λ w. get_or w i off_symbol) e in
-    record {
-      on_day = on_day;
-      inner = 1;
-      fewest = omega arith;
-      most = omega arith;
-      long = (let long : length u ≡ suc (suc (length (third_of q.third))) = ap length e in omega (arith, long, long_third q.third));
-      first = at 0;
-      within = λ i lt. let none : i ≡ 0 = omega (arith, lt) in subst (λ k. get_or u (suc k) off_symbol ≡ q.second) (sym none) (at 1);
-      last = subst (IsLast (last_side q.third)) (sym (at 2)) (last_third q.third q.first q.second);
-    }
-
-pub pattern_of_sequence : (week : ℕ) (q : Sequence) (last : Option Side) → last ≡ last_side q.third → 0 < week → IsPatternOf (IsSequence week q) (record { first = In (Shift q.first); inner = Shift q.second; fewest = 1; most = 1; last = last; day = q.day; week = week })
-pattern_of_sequence week q last is some =
-    subst (λ (l : Option Side). IsPatternOf (IsSequence week q) (record { first = In (Shift q.first); inner = Shift q.second; fewest = 1; most = 1; last = l; day = q.day; week = week })) (sym is) (record {
-      judged = record { one_length = inl refl; few = omega arith; week = some };
-      shaped = sequence_shaped week q;
-      kind = shaped_sequence week q;
+pub pattern_of_short : (c : Class) (least most : ℕ) → most ≡ least - 1 → least ≤ GREATEST_BOUND → IsPatternOf (TooShort c least) (short_pattern c most)
+pattern_of_short c least most is few =
+    subst (λ (n : ℕ). IsPatternOf (TooShort c least) (short_pattern c n)) (sym is) (record {
+      judged = record { one_length = inr (refl, refl); few = omega (arith, few) };
+      shaped = short_shaped c least;
+      kind = shaped_short c least;
     })
 
 -- a rule's own words
 
-pub pattern_of_most : (P : Instance) (r : Rule) (c : Class) (m : Pattern) → r ≡ Most c → IsPatternOf (λ p. TooLong c (bounds P c).greatest) m → IsPatternOf (Bad P r) m
-pattern_of_most P r c m is h = subst (λ (q : Rule). IsPatternOf (Bad P q) m) (sym is) (record { judged = h.judged; shaped = λ p u bad. h.shaped p u bad; kind = λ p u shaped. h.kind p u shaped })
+pub shape_of_most : (P : Instance) (r : Rule) (c : Class) (m : Pattern) → r ≡ Most c → IsPatternOf (TooLong c (bounds P c).greatest) m → IsShapeOf P r (Blocks m)
+shape_of_most P r c m is h = subst (λ (q : Rule). IsShapeOf P q (Blocks m)) (sym is) (record { searched = h.judged; words = λ p u. (h.shaped u, h.kind u) })
 
-pub pattern_of_least : (P : Instance) (r : Rule) (c : Class) (m : Pattern) → r ≡ Least c → IsPatternOf (λ p. TooShort c (bounds P c).least) m → IsPatternOf (Bad P r) m
-pattern_of_least P r c m is h = subst (λ (q : Rule). IsPatternOf (Bad P q) m) (sym is) (record { judged = h.judged; shaped = λ p u bad. h.shaped p u bad; kind = λ p u shaped. h.kind p u shaped })
+pub shape_of_least : (P : Instance) (r : Rule) (c : Class) (m : Pattern) → r ≡ Least c → IsPatternOf (TooShort c (bounds P c).least) m → IsShapeOf P r (Blocks m)
+shape_of_least P r c m is h = subst (λ (q : Rule). IsShapeOf P q (Blocks m)) (sym is) (record { searched = h.judged; words = λ p u. (h.shaped u, h.kind u) })
 
-pub pattern_of_rule : (P : Instance) (k week : ℕ) (q : Sequence) (m : Pattern) → slice_get P.sequences k ≡ Some q → week ≡ P.days → IsPatternOf (IsSequence week q) m → IsPatternOf (Bad P (Never k)) m
-pattern_of_rule P k week q m is days h =
-    let own : IsPatternOf (IsSequence P.days q) m = subst (λ (n : ℕ). IsPatternOf (IsSequence n q) m) days h in
-    record {
-      judged = own.judged;
-      shaped = λ p u bad.
-          let same : bad.0 ≡ q = same_Some bad.0 q (sym bad.1 ∙ is) in
-          own.shaped p u (subst (λ (s : Sequence). IsSequence P.days s p u) same bad.2);
-      kind = λ p u shaped. (q, is, own.kind p u shaped);
-    }
+pub shape_of_never : (P : Instance) (r : Rule) (k : ℕ) (q : Sequence) → r ≡ Never k → slice_get P.sequences k ≡ Some q → IsSequenceOf P q → IsShapeOf P r (Words q)
+shape_of_never P r k q same is known =
+    subst (λ (s : Rule). IsShapeOf P s (Words q)) (sym same)
+    (record { searched = known; words = λ p u. (bad_forbidden P k q p u is, forbidden_bad P k q p u is) })

@@ -4,15 +4,12 @@ use Rattle.std.specs.Prelude.{Option}
 use Rattle.std.proofs.lemmas.Bool.{cases_lt, cases_order}
 use Rattle.rwsp_terms.specs.declared.data.Symbol.{Symbol}
 use Rattle.rwsp_terms.specs.declared.data.Class.{Class}
-use Rattle.rwsp_terms.specs.declared.data.Rule.{Rule}
-use Rattle.rwsp_terms.specs.Instance.{Instance}
-use Rattle.rwsp_terms.specs.Window.{Bad}
 use Rattle.domain_store.specs.declared.pattern.Pattern.{Pattern}
 use Rattle.domain_store.specs.declared.pattern.Side.{Side}
 use Rattle.domain_store.specs.declared.pattern.Side.TheVariants.{Outside}
-use Rattle.domain_store.specs.Views.{LiesIn, LiesOutside, AreAllBad}
-use Rattle.domain_store.specs.Patterns.{HasOneLength, IsPatternOf, IsPlaced, IsPlacedFor, Keeps, KeepsLast, NonePlaced, days_of}
-use Rattle.domain_store.proofs.Words.{HasSome, bad_placed}
+use Rattle.domain_store.specs.Views.{LiesIn, LiesOutside, AreAll}
+use Rattle.domain_store.specs.Patterns.{HasOneLength, IsShaped, IsPlaced, IsPlacedFor, Keeps, KeepsLast, NonePlaced, days_of}
+use Rattle.domain_store.proofs.Words.{HasSome, all_placed}
 
 -- no position lies in a class and outside
 never_both : (A : ℕ → Symbol → Type 0) (c : Class) (p : ℕ) → HasSome A → LiesIn A c p → LiesOutside A c p → ⊥
@@ -44,10 +41,10 @@ placed_once A m p i j some one a b = elim one [
   ]
 ]
 
-pub one_bad_length : (P : Instance) (r : Rule) (A : ℕ → Symbol → Type 0) (m : Pattern) (p n len : ℕ) → HasSome A → IsPatternOf (Bad P r) m → IsPlacedFor A m p n → AreAllBad P r A p len → len ≡ n
-one_bad_length P r A m p n len some is here each =
-    let there = bad_placed P r A m p len some is each in
-    let same : there.0 ≡ here.0 = placed_once A m p there.0 here.0 some is.judged.one_length there.1 here.1 in
+pub one_length : (A : ℕ → Symbol → Type 0) (m : Pattern) (p n len : ℕ) → HasSome A → HasOneLength m → IsPlacedFor A m p n → AreAll (λ p. IsShaped m) A p len → len ≡ n
+one_length A m p n len some one here each =
+    let there = all_placed A m p len some each in
+    let same : there.0 ≡ here.0 = placed_once A m p there.0 here.0 some one there.1 here.1 in
     omega (arith, same, there.2, here.2)
 
 -- the run of the class behind a position, counted up to the most inner days of a window
@@ -95,13 +92,6 @@ clean_from_run A m p run n some one r refused part all q inner from before h =
         | inr more ↦ absurd (omega (arith, before, after, all more))
       ]
     ]
-
--- none up to a position, and none from there on
-pub none_further : (A : ℕ → Symbol → Type 0) (m : Pattern) (from p end : ℕ) → NonePlaced A m from p → NonePlaced A m p end → NonePlaced A m from end
-none_further A m from p end before behind q inner low high h = elim (cases_lt q p) [
-  | inl less ↦ before q inner low less h
-  | inr more ↦ behind q inner more high h
-]
 
 -- back to where a window can begin
 

@@ -2,26 +2,25 @@
 use Rattle.std.proofs.Common.{◌≡◌, ℕ, zero, suc, ◌+◌, ◌<◌, List, [], ◌∷◌, length, get_or, refl, ap, sym, ◌∙◌, arith, subst, Some, None}
 use Rattle.std.specs.Prelude.{Option}
 use Rattle.rwsp_terms.specs.declared.data.Symbol.{Symbol}
-use Rattle.rwsp_terms.specs.declared.data.Rule.{Rule}
-use Rattle.rwsp_terms.specs.Instance.{Instance, off_symbol}
-use Rattle.rwsp_terms.specs.Window.{Bad, InClass}
+use Rattle.rwsp_terms.specs.Instance.{off_symbol}
+use Rattle.rwsp_terms.specs.Window.{InClass}
 use Rattle.domain_store.specs.declared.pattern.Pattern.{Pattern}
 use Rattle.domain_store.specs.declared.pattern.Side.{Side}
 use Rattle.domain_store.specs.declared.pattern.Side.TheVariants.{In, Outside}
-use Rattle.domain_store.specs.Views.{MayStand, AreAllBad}
-use Rattle.domain_store.specs.Patterns.{IsOn, IsLast, days_of, IsShaped, Keeps, KeepsLast, IsPlaced, IsPlacedFor, IsPatternOf}
+use Rattle.domain_store.specs.Views.{MayStand, AreAll}
+use Rattle.domain_store.specs.Patterns.{IsOn, IsLast, days_of, IsShaped, Keeps, KeepsLast, IsPlaced, IsPlacedFor}
 
 -- some symbol is possible at each position
 abbrev pub HasSome : (ℕ → Symbol → Type 0) → Type 0
 HasSome A = (p : ℕ) → (x : Symbol) × A p x
 
 -- a possible word of len days from p on
-record WordFrom (A : ℕ → Symbol → Type 0) (p len : ℕ) : Type 0 where
-  word : List Symbol
-  long : length word ≡ len
-  stands : MayStand A p word
+pub record WordFrom (A : ℕ → Symbol → Type 0) (p len : ℕ) : Type 0 where
+  pub word : List Symbol
+  pub long : length word ≡ len
+  pub stands : MayStand A p word
 
-some_word : (A : ℕ → Symbol → Type 0) (p len : ℕ) → HasSome A → WordFrom A p len
+pub some_word : (A : ℕ → Symbol → Type 0) (p len : ℕ) → HasSome A → WordFrom A p len
 some_word A p zero some = record { word = []; long = refl; stands = tt }
 some_word A p (suc len) some =
     let rest = some_word A (p + 1) len some in
@@ -72,14 +71,13 @@ keeps_last A (Some side) p on = keeps_side A side p (λ x may. on x (omega arith
 
 -- words
 
-word_of_place : (A : ℕ → Symbol → Type 0) (m : Pattern) (p inner : ℕ) (u : List Symbol) → IsPlaced A m p inner → length u ≡ 1 + inner + days_of m.last → MayStand A p u → IsShaped m p u
+word_of_place : (A : ℕ → Symbol → Type 0) (m : Pattern) (p inner : ℕ) (u : List Symbol) → IsPlaced A m p inner → length u ≡ 1 + inner + days_of m.last → MayStand A p u → IsShaped m u
 word_of_place A m p inner u h long stands =
     let zeroth : p + 0 ≡ p = omega arith in
     record {
       inner = inner;
       fewest = h.fewest;
       most = h.most;
-      on_day = h.on_day;
       long = long;
       first = on_side A m.first p (get_or u 0 off_symbol) h.first (subst (λ q. A q (get_or u 0 off_symbol)) zeroth (at_place A p u 0 stands (omega (arith, long))));
       within = λ i lt.
@@ -90,8 +88,13 @@ word_of_place A m p inner u h long stands =
           subst (λ q. A q (get_or u (suc inner) off_symbol)) e (at_place A p u (suc inner) stands (omega (arith, more, long))));
     }
 
-place_of_words : (A : ℕ → Symbol → Type 0) (m : Pattern) (p len : ℕ) → HasSome A → ((u : List Symbol) → length u ≡ len → MayStand A p u → IsShaped m p u) → IsPlacedFor A m p len
-place_of_words A m p len some each =
+-- every word of a place has the pattern, and where every word has it there is a place
+
+pub placed_all : (A : ℕ → Symbol → Type 0) (m : Pattern) (p len : ℕ) → IsPlacedFor A m p len → AreAll (λ p. IsShaped m) A p len
+placed_all A m p len h u long stands = word_of_place A m p h.0 u h.1 (long ∙ h.2) stands
+
+pub all_placed : (A : ℕ → Symbol → Type 0) (m : Pattern) (p len : ℕ) → HasSome A → AreAll (λ p. IsShaped m) A p len → IsPlacedFor A m p len
+all_placed A m p len some each =
     let w = some_word A p len some in
     let one = each w.word w.long w.stands in
     let inner = one.inner in
@@ -101,7 +104,6 @@ place_of_words A m p len some each =
       record {
         fewest = one.fewest;
         most = one.most;
-        on_day = one.on_day;
         first = keeps_side A m.first p (λ x may.
             let v = word_with A p len 0 x some (omega (arith, whole)) (subst (λ q. A q x) zeroth may) in
             subst (IsOn m.first) v.here (each v.word v.long v.stands).first);
@@ -120,16 +122,8 @@ place_of_words A m p len some each =
       whole,
     )
 
--- what is bad for a rule with a pattern
-
-pub placed_bad : (P : Instance) (r : Rule) (A : ℕ → Symbol → Type 0) (m : Pattern) (p len : ℕ) → IsPatternOf (Bad P r) m → IsPlacedFor A m p len → AreAllBad P r A p len
-placed_bad P r A m p len is h u long stands = is.kind p u (word_of_place A m p h.0 u h.1 (long ∙ h.2) stands)
-
-pub bad_placed : (P : Instance) (r : Rule) (A : ℕ → Symbol → Type 0) (m : Pattern) (p len : ℕ) → HasSome A → IsPatternOf (Bad P r) m → AreAllBad P r A p len → IsPlacedFor A m p len
-bad_placed P r A m p len some is each = place_of_words A m p len some (λ u long stands. is.shaped p u (each u long stands))
-
--- a rule for which no word is bad
-pub none_bad : (P : Instance) (r : Rule) (A : ℕ → Symbol → Type 0) (p len : ℕ) → HasSome A → ((p : ℕ) (u : List Symbol) → Bad P r p u → ⊥) → AreAllBad P r A p len → ⊥
-none_bad P r A p len some none each =
+-- a kind of which no word is
+pub none_all : (IsKind : ℕ → List Symbol → Type 0) (A : ℕ → Symbol → Type 0) (p len : ℕ) → HasSome A → ((p : ℕ) (u : List Symbol) → IsKind p u → ⊥) → AreAll IsKind A p len → ⊥
+none_all IsKind A p len some none each =
     let w = some_word A p len some in
     none p w.word (each w.word w.long w.stands)

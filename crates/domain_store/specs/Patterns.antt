@@ -1,16 +1,14 @@
 -- Patterns of windows: which words have one, and where every possible word has it.
 use Rattle.std.specs.Prelude.{◌≡◌, ◌⊎◌, ℕ, suc, ◌+◌, ◌<◌, ◌≤◌, List, length, slice_index_or, Option, Some, None}
 use Rattle.rwsp_terms.specs.declared.data.Symbol.{Symbol}
-use Rattle.rwsp_terms.specs.declared.data.Class.TheVariants.{Shift}
 use Rattle.rwsp_terms.specs.declared.limits.TheConstants.{GREATEST_BOUND}
 use Rattle.rwsp_terms.specs.Instance.{off_symbol}
-use Rattle.rwsp_terms.specs.Window.{InClass, IsOnDay}
+use Rattle.rwsp_terms.specs.Window.{InClass}
 use Rattle.domain_store.specs.declared.pattern.Side.{Side}
 use Rattle.domain_store.specs.declared.pattern.Side.TheVariants.{In, Outside}
 use Rattle.domain_store.specs.declared.pattern.Pattern.{Pattern}
-use Rattle.domain_store.specs.declared.bad_windows.BadWindow.{BadWindow}
-use Rattle.domain_store.specs.declared.bad_windows.Start.{Start}
-use Rattle.domain_store.specs.declared.bad_windows.Start.TheVariants.{Bad, Clean}
+use Rattle.domain_store.specs.declared.start.Start.{Start}
+use Rattle.domain_store.specs.declared.start.Start.TheVariants.{Bad, Clean}
 use Rattle.domain_store.specs.Views.{LiesIn, LiesOutside}
 
 -- the symbol is on the side
@@ -27,14 +25,8 @@ abbrev pub days_of : Option Side → ℕ
 days_of None = 0
 days_of (Some side) = 1
 
--- the last day of a sequence, where it has three
-abbrev pub last_side : Option Symbol → Option Side
-last_side None = None
-last_side (Some x) = Some (In (Shift x))
-
--- a word from position p on with the pattern, by its places
-pub record IsShaped (m : Pattern) (p : ℕ) (u : List Symbol) : Type 0 where
-  pub on_day : IsOnDay m.week m.day p
+-- a word with the pattern, by its places
+pub record IsShaped (m : Pattern) (u : List Symbol) : Type 0 where
   pub inner : ℕ
   pub fewest : m.fewest ≤ inner
   pub most : inner ≤ m.most
@@ -56,7 +48,6 @@ KeepsLast A (Some side) p = Keeps A side p
 pub record IsPlaced (A : ℕ → Symbol → Type 0) (m : Pattern) (p inner : ℕ) : Type 0 where
   pub fewest : m.fewest ≤ inner
   pub most : inner ≤ m.most
-  pub on_day : IsOnDay m.week m.day p
   pub first : Keeps A m.first p
   pub within : (i : ℕ) → i < inner → LiesIn A m.inner (p + 1 + i)
   pub last : KeepsLast A m.last (p + 1 + inner)
@@ -74,13 +65,12 @@ HasOneLength m = (m.fewest ≡ m.most) ⊎ ((m.first ≡ Outside m.inner) × (m.
 pub record IsJudged (m : Pattern) : Type 0 where
   pub one_length : HasOneLength m
   pub few : m.most ≤ GREATEST_BOUND
-  pub week : 0 < m.week
 
 -- the words of a kind are those with the pattern
-pub record IsPatternOf (IsKind : ℕ → List Symbol → Type 0) (m : Pattern) : Type 0 where
+pub record IsPatternOf (IsKind : List Symbol → Type 0) (m : Pattern) : Type 0 where
   pub judged : IsJudged m
-  pub shaped : (p : ℕ) (u : List Symbol) → IsKind p u → IsShaped m p u
-  pub kind : (p : ℕ) (u : List Symbol) → IsShaped m p u → IsKind p u
+  pub shaped : (u : List Symbol) → IsKind u → IsShaped m u
+  pub kind : (u : List Symbol) → IsShaped m u → IsKind u
 
 -- no window of the pattern begins from the one position on and before the other
 abbrev pub NonePlaced : (ℕ → Symbol → Type 0) → Pattern → ℕ → ℕ → Type 0
@@ -90,8 +80,3 @@ NonePlaced A m from end = (q inner : ℕ) → from ≤ q → q < end → IsPlace
 abbrev pub IsStart : (ℕ → Symbol → Type 0) → Pattern → ℕ → Start → Type 0
 IsStart A m p (Bad len) = IsPlacedFor A m p len
 IsStart A m p (Clean n) = (0 < n) × (n ≤ m.most + 1) × NonePlaced A m p (p + n)
-
-pub record IsFirstPlaced (A : ℕ → Symbol → Type 0) (m : Pattern) (from end : ℕ) (w : BadWindow) : Type 0 where
-  pub within : (from ≤ w.start) × (w.start < end)
-  pub placed : IsPlacedFor A m w.start w.length
-  pub earliest : NonePlaced A m from w.start

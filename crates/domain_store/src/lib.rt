@@ -7,6 +7,7 @@
 #![tactic(auto)]
 
 mod bad_windows;
+mod block_windows;
 mod blocks;
 mod change;
 mod day;
@@ -14,6 +15,7 @@ mod domain_view;
 mod domains;
 mod ending;
 mod few;
+mod forbidden;
 mod kept_sets;
 mod look;
 mod mark;
@@ -23,12 +25,14 @@ mod pair;
 mod pattern;
 mod propagator;
 mod roster_view;
+mod shape;
+mod start;
 mod symbol_set;
 mod view;
 mod walk;
 mod window;
 
-pub use bad_windows::{BadWindow, bad_length, bad_window_over, first_bad_window};
+pub use bad_windows::{BadWindow, all_bad, bad_window_over, first_bad_window};
 pub use blocks::{blocks_holds, first_blocks};
 pub use day::{day_holds, position_of};
 pub use domains::Domains;

@@ -6,7 +6,7 @@ ghost use Rattle.rwsp_terms.specs.declared.limits.TheConstants.{LONGEST_WORD};
 ghost use Rattle.refutation_terms.specs.WindowLeaf.{IsBlocked};
 ghost use Rattle.domain_store.specs.Store.{BelongsTo, has_domain};
 
-use crate::{Domains, bad_length};
+use crate::{Domains, all_bad};
 use rwsp_model::{Problem, rule_at};
 
 /// Whether the number is that of a rule for which every word of `len` days over the domains from position `p` on is
@@ -21,8 +21,5 @@ pub fn window_holds(problem: &Problem, doms: &Domains, rule: u32, p: u32, len: u
 {
     problem.prove_limits();
     doms.prove_facts();
-    match bad_length(doms, problem, rule_at(problem, rule), p) {
-        Some(bad) => bad == len,
-        None => false,
-    }
+    all_bad(doms, problem, rule_at(problem, rule), p, len)
 }

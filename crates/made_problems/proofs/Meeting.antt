@@ -4,11 +4,14 @@ use Rattle.std.specs.Prelude.{slice_get}
 use Rattle.std.specs.List.{AllByRecursion}
 use Rattle.std.proofs.lemmas.Bool.{and_parts, both_ways}
 use Rattle.std.proofs.lemmas.Option.{same_Some}
-use Rattle.rwsp_terms.specs.Instance.{bounds, bounds_of, IsClass}
-use Rattle.rwsp_terms.specs.Window.{window, third_of, TooLong, TooShort}
+use Rattle.rwsp_terms.specs.Instance.{Instance, bounds, bounds_of, IsClass}
+use Rattle.rwsp_terms.specs.Forbidden.{HasForm}
+use Rattle.rwsp_terms.specs.Forbidden.Rows.{third_of}
+use Rattle.rwsp_terms.specs.Window.{window, TooLong, TooShort}
 use Rattle.rwsp_terms.specs.Roster.{IsRule, MeetsRule, MeetsAll}
 use Rattle.rwsp_terms.specs.declared.data.Symbol.{Symbol}
 use Rattle.rwsp_terms.specs.declared.data.Sequence.{Sequence}
+use Rattle.rwsp_terms.specs.declared.data.Sequence.TheVariants.{Row}
 use Rattle.rwsp_terms.specs.declared.data.Class.{Class}
 use Rattle.rwsp_terms.specs.declared.data.Class.TheVariants.{Shift, Off, Work}
 use Rattle.rwsp_terms.specs.declared.data.Rule.{Rule}
@@ -38,7 +41,7 @@ class_bounds weeks s Work h = (refl, refl)
 
 -- a forbidden sequence has an earlier shift behind a later one, and no more
 abbrev GoesBack : Sequence → Type 0
-GoesBack q = ((works q.second.number && ltb q.second.number q.first.number) ≡ true) × (third_of q.third ≡ [])
+GoesBack (Row q) = ((works q.second.number && ltb q.second.number q.first.number) ≡ true) × (third_of q.third ≡ [])
 
 never_back : (k : ℕ) (q : Sequence) → k < 3 → slice_get sequences k ≡ Some q → GoesBack q
 never_back zero q less h = subst GoesBack (same_Some _ q h) (refl, refl)
@@ -56,6 +59,12 @@ known_symbols e (y ∷ u) w =
 abbrev Walks : List Symbol → Type 0
 Walks s = (p len : ℕ) → (f : Stand) × (walks f (window s p len) ≡ true)
 
+no_way_back : (P : Instance) (q : Sequence) (u : List Symbol) → ((f : Stand) × (walks f u ≡ true)) → GoesBack q → HasForm P q u → ⊥
+no_way_back P (Row q) u f back is =
+    let whole : u ≡ q.first ∷ q.second ∷ [] = is ∙ ap (λ (u : List Symbol). q.first ∷ q.second ∷ u) back.1 in
+    let behind = second_follows f.0 q.first q.second (subst (λ u. walks f.0 u ≡ true) whole f.1) in
+    both_ways (works q.second.number && ltb q.second.number q.first.number) behind.forward back.0
+
 rule_kept : (weeks : ℕ) (s : List Symbol) → Walks s → AllByRecursion (λ y. y.number ≤ 3) s → (r : Rule) → IsRule (problem_of weeks s) r → MeetsRule (problem_of weeks s) r s
 rule_kept weeks s w h (Most c) is = λ p len less bad.
     let f = w p len in
@@ -63,13 +72,7 @@ rule_kept weeks s w h (Most c) is = λ p len less bad.
 rule_kept weeks s w h (Least c) is = λ p len less bad.
     let f = w p len in
     never_too_short c f.0 (window s p len) f.1 (subst (λ n. TooShort c n (window s p len)) (class_bounds weeks s c is).1 bad)
-rule_kept weeks s w h (Never k) is = λ p len less bad.
-    let f = w p len in
-    let q = bad.0 in
-    let back = never_back k q is bad.1 in
-    let whole : window s p len ≡ q.first ∷ q.second ∷ [] = bad.2.0 ∙ ap (λ (u : List Symbol). q.first ∷ q.second ∷ u) back.1 in
-    let behind = second_follows f.0 q.first q.second (subst (λ u. walks f.0 u ≡ true) whole f.1) in
-    both_ways (works q.second.number && ltb q.second.number q.first.number) behind.forward back.0
+rule_kept weeks s w h (Never k) is = λ p len less bad. no_way_back (problem_of weeks s) bad.0 (window s p len) (w p len) (never_back k bad.0 is bad.1) bad.2.0
 rule_kept weeks s w h (Day j) is = meets_days weeks s j is.0 is.1 h
 
 pub hidden_meets : (number weeks : ℕ) (ts : List Stint) → 1 ≤ weeks → AreStints number (weeks * 7) ts → MeetsAll (problem_of weeks (roster_of ts)) (roster_of ts)

@@ -8,14 +8,15 @@ use Rattle.rwsp_terms.specs.declared.data.Sequence.{Sequence}
 use Rattle.rwsp_terms.specs.declared.data.Rule.TheVariants.{Never}
 use Rattle.rwsp_terms.specs.Instance.{Instance}
 use Rattle.rwsp_terms.specs.Roster.{MeetsAll}
-use Rattle.rwsp_terms.specs.Window.{cell, window, IsSequence}
+use Rattle.rwsp_terms.specs.Forbidden.{Forbids}
+use Rattle.rwsp_terms.specs.Window.{cell, window}
 use Rattle.made_problems.specs.Times.{start_later, end_of, is_too_short, Rests}
 use Rattle.made_problems.specs.Rested.{days_apart, rested}
 use Rattle.made_problems.specs.RestLaws.{IsTooClose, RostersRest}
 use Rattle.made_problems.proofs.Sequences.{sequences_are_those}
 
 -- what is forbidden stands nowhere
-no_sequence : (Q : Instance) (s : List Symbol) (p len : ℕ) (q : Sequence) → MeetsAll Q s → p < length s → Contains Q.sequences q → IsSequence Q.days q p (window s p len) → ⊥
+no_sequence : (Q : Instance) (s : List Symbol) (p len : ℕ) (q : Sequence) → MeetsAll Q s → p < length s → Contains Q.sequences q → Forbids Q q p (window s p len) → ⊥
 no_sequence Q s p len q meets less h is = meets.rules (Never h.0) h.1 p len less (q, slice_get-get_or Q.sequences h.0 q h.1 ∙ ap Some h.2, is)
 
 -- shifts that aren't too close rest

@@ -6,8 +6,10 @@ use Rattle.std.proofs.lemmas.List.{take-append-drop}
 use Rattle.std.proofs.lemmas.List.Elements.{Contains-append_left, Contains-append_right, Contains-append_cases}
 use Rattle.rwsp_terms.specs.declared.data.Symbol.{Symbol}
 use Rattle.rwsp_terms.specs.declared.data.Sequence.{Sequence}
+use Rattle.rwsp_terms.specs.declared.data.Sequence.TheVariants.{Row}
 use Rattle.rwsp_model.specs.Sequences.{pair_count}
-use Rattle.rwsp_terms.specs.Instance.{Instance, shift_count, off_symbol, symbol_numbered, on_every_day, IsShift}
+use Rattle.rwsp_terms.specs.Instance.{Instance, shift_count, off_symbol, symbol_numbered, IsShift}
+use Rattle.rwsp_terms.specs.Forbidden.Rows.{on_every_day}
 use Rattle.made_problems.specs.Times.{is_too_short}
 use Rattle.made_problems.specs.Rested.{shift_at, is_same, is_same_third, has_sequence, days_apart, too_close, of_first, of_each_two, rested}
 use Rattle.made_problems.specs.RestLaws.{IsTooClose, SequencesAreThose}
@@ -44,9 +46,9 @@ no_day (Some day) h = absurd (cc)
 
 found : (qs : List Sequence) (x y : Symbol) (z : Option Symbol) → has_sequence qs (on_every_day x y z) ≡ true → Contains qs (on_every_day x y z)
 found [] x y z h = absurd (cc)
-found (r ∷ qs) x y z h =
+found (Row r ∷ qs) x y z h =
     let same : Bool = is_same r.first x && is_same r.second y && is_same_third r.third z && not (is_some r.day) in
-    elim same as (λ (b : Bool). same ≡ b → (b || has_sequence qs (on_every_day x y z)) ≡ true → Contains (r ∷ qs) (on_every_day x y z)) [
+    elim same as (λ (b : Bool). same ≡ b → (b || has_sequence qs (on_every_day x y z)) ≡ true → Contains (Row r ∷ qs) (on_every_day x y z)) [
       | true ↦ λ here any.
           let parts = and_parts (is_same r.first x && is_same r.second y && is_same_third r.third z) (not (is_some r.day)) here in
           let front = and_parts (is_same r.first x && is_same r.second y) (is_same_third r.third z) parts.0 in
@@ -55,9 +57,9 @@ found (r ∷ qs) x y z h =
           let second = same_symbol r.second y (eqb-true r.second.number y.number two.1) in (
             0,
             omega arith,
-            ap (λ (a : Symbol). record r { first = a }) first ∙ ap (λ (a : Symbol). record r { first = x; second = a }) second
-                ∙ ap (λ (a : Option Symbol). record r { first = x; second = y; third = a }) (same_third r.third z front.1)
-                ∙ ap (λ (a : Option ℕ). record { first = x; second = y; third = z; day = a }) (no_day r.day parts.1),
+            ap (λ (a : Symbol). Row (record r { first = a })) first ∙ ap (λ (a : Symbol). Row (record r { first = x; second = a })) second
+                ∙ ap (λ (a : Option Symbol). Row (record r { first = x; second = y; third = a })) (same_third r.third z front.1)
+                ∙ ap (λ (a : Option ℕ). Row (record { first = x; second = y; third = z; day = a })) (no_day r.day parts.1),
           )
       | false ↦ λ here any.
           let later = found qs x y z any in

@@ -6,7 +6,8 @@ use Rattle.std.proofs.lemmas.List.Elements.{All-append, All-contains, Contains-g
 use Rattle.rwsp_terms.specs.declared.limits.TheConstants.{MOST_SEQUENCES, MOST_SHIFTS}
 use Rattle.rwsp_terms.specs.declared.data.Symbol.{Symbol}
 use Rattle.rwsp_terms.specs.declared.data.Sequence.{Sequence}
-use Rattle.rwsp_terms.specs.Instance.{Instance, shift_count, off_symbol, on_every_day, IsSymbol, IsShift}
+use Rattle.rwsp_terms.specs.Instance.{Instance, shift_count, off_symbol, IsSymbol, IsShift}
+use Rattle.rwsp_terms.specs.Forbidden.Rows.{on_every_day}
 use Rattle.rwsp_terms.proofs.Elements.{all_from}
 use Rattle.rwsp_model.specs.Validity.{KeepsLimits}
 use Rattle.rwsp_model.specs.Sequences.{IsSequenceOf, AreListed, part_of, pair_count}

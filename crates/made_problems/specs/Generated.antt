@@ -1,7 +1,8 @@
 -- The problem that a number and a count of weeks give.
 use Rattle.std.specs.Prelude.{◌≡◌, ℕ, ◌*◌, List, [], ◌∷◌, None, map, codes}
 use Rattle.std.specs.List.{range_with_len}
-use Rattle.rwsp_terms.specs.Instance.{Instance, symbol_numbered, on_every_day}
+use Rattle.rwsp_terms.specs.Instance.{Instance, symbol_numbered}
+use Rattle.rwsp_terms.specs.Forbidden.Rows.{on_every_day}
 use Rattle.rwsp_terms.specs.Roster.{weeks_with}
 use Rattle.rwsp_terms.specs.declared.data.Bounds.{Bounds}
 use Rattle.rwsp_terms.specs.declared.data.ShiftRow.{ShiftRow}

@@ -3,7 +3,9 @@ use Rattle.std.specs.Prelude.{◌≡◌, ℕ, ◌+◌, ◌<◌, List, [], ◌∷
 use Rattle.std.specs.List.{flat_map, range_with_len, list_any}
 use Rattle.rwsp_terms.specs.declared.data.Symbol.{Symbol}
 use Rattle.rwsp_terms.specs.declared.data.Sequence.{Sequence}
-use Rattle.rwsp_terms.specs.Instance.{Instance, shift_count, off_symbol, symbol_numbered, on_every_day, IsShift}
+use Rattle.rwsp_terms.specs.declared.data.Sequence.TheVariants.{Row}
+use Rattle.rwsp_terms.specs.Instance.{Instance, shift_count, off_symbol, symbol_numbered, IsShift}
+use Rattle.rwsp_terms.specs.Forbidden.Rows.{on_every_day}
 use Rattle.rwsp_terms.specs.Window.{cell}
 use Rattle.rwsp_model.specs.Sequences.{pair_count}
 use Rattle.made_problems.specs.Times.{is_too_short, Rests}
@@ -21,12 +23,14 @@ is_same_third None None = true
 is_same_third (Some x) (Some y) = is_same x y
 is_same_third x y = false
 
--- the sequence, which is of every day, is among these
+-- the two sequences are symbols in a row, of every day, and the same
+abbrev pub is_same_row : Sequence → Sequence → Bool
+is_same_row (Row r) (Row q) =
+    is_same r.first q.first && is_same r.second q.second && is_same_third r.third q.third && not (is_some r.day)
+
+-- the sequence, which is symbols in a row of every day, is among these
 abbrev pub has_sequence : List Sequence → Sequence → Bool
-has_sequence qs q =
-    list_any (λ r.
-    is_same r.first q.first && is_same r.second q.second && is_same_third r.third q.third
-    && not (is_some r.day)) qs
+has_sequence qs q = list_any (λ r. is_same_row r q) qs
 
 -- a shift, and another on the next day, or two days later with a day off between them
 abbrev pub days_apart : ℕ → Symbol → Symbol → Sequence

@@ -1,7 +1,7 @@
 // The problem with a least rest.
 ghost use Rattle.std.specs.Prelude.{◌≡◌, ◌<◌, ◌≤◌, ◌++◌, ◌&&◌, not, is_some, IfOk, OnOk};
 ghost use Rattle.rwsp_terms.specs.Instance.{shift_count, IsShift};
-ghost use Rattle.made_problems.specs.Rested.{shift_at, is_same, is_same_third, has_sequence, days_apart, too_close, of_first, of_each_two};
+ghost use Rattle.made_problems.specs.Rested.{shift_at, is_same_third, is_same_row, has_sequence, days_apart, too_close, of_first, of_each_two};
 ghost use Rattle.made_problems.specs.RestAnswers.{IsRestOf};
 
 use crate::times::is_too_short;
@@ -39,19 +39,23 @@ fn is_same_third(x: Option<Symbol>, y: Option<Symbol>) -> bool
     }
 }
 
-fn is_same(r: &Sequence, q: Sequence) -> bool
-    ensures { result ≡ (is_same r.now.first q.first && is_same r.now.second q.second
-        && is_same_third r.now.third q.third && not (is_some r.now.day)) }
+// Whether the two sequences are symbols in a row, of every day, and the same.
+fn is_same_row(r: &Sequence, q: Sequence) -> bool
+    ensures { result ≡ is_same_row r.now q }
 {
-    let front = r.first.number == q.first.number && r.second.number == q.second.number;
-    front && is_same_third(r.third, q.third) && r.day.is_none()
+    match (*r, q) {
+        (Sequence::Row(r), Sequence::Row(q)) => {
+            let front = r.first.number == q.first.number && r.second.number == q.second.number;
+            front && is_same_third(r.third, q.third) && r.day.is_none()
+        }
+    }
 }
 
 // Whether the sequence, which is of every day, is among these.
 fn has_sequence(sequences: &[Sequence], sequence: Sequence) -> bool
     ensures { result ≡ has_sequence sequences.now sequence }
 {
-    sequences.iter().any(|other| is_same(other, sequence))
+    sequences.iter().any(|other| is_same_row(other, sequence))
 }
 
 // A shift, and another on the next day, or two days later with a day off between them.

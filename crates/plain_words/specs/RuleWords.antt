@@ -5,6 +5,8 @@ use Rattle.std.specs.List.{find, flat_map, range_with_len}
 use Rattle.rwsp_terms.specs.declared.data.Bounds.{Bounds}
 use Rattle.rwsp_terms.specs.declared.data.Symbol.{Symbol}
 use Rattle.rwsp_terms.specs.declared.data.Sequence.{Sequence}
+use Rattle.rwsp_terms.specs.declared.data.Sequence.TheVariants.{Row}
+use Rattle.rwsp_terms.specs.declared.data.SymbolRow.{SymbolRow}
 use Rattle.rwsp_terms.specs.declared.data.Class.{Class}
 use Rattle.rwsp_terms.specs.declared.data.Class.TheVariants.{Shift, Off, Work}
 use Rattle.rwsp_terms.specs.declared.data.Rule.{Rule}
@@ -42,10 +44,14 @@ third_words P None = []
 third_words P (Some x) = then_words P x
 
 -- `never N, then D`; `never N, then a day off, then D`
-unfoldable pub sequence_words : Instance → Sequence → List ℕ
-sequence_words P q =
-    fixed NEVER.now ++ symbol_words P q.first DAY_OFF.now ++ on_day_words q.day ++ then_words P q.second
-    ++ third_words P q.third
+unfoldable pub row_words : Instance → SymbolRow → List ℕ
+row_words P row =
+    fixed NEVER.now ++ symbol_words P row.first DAY_OFF.now ++ on_day_words row.day ++ then_words P row.second
+    ++ third_words P row.third
+
+-- the words of a forbidden sequence, by its form
+abbrev pub sequence_words : Instance → Sequence → List ℕ
+sequence_words P (Row row) = row_words P row
 
 abbrev pub sequence_in_words : Instance → Option Sequence → List ℕ
 sequence_in_words P None = []

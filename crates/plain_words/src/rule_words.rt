@@ -1,5 +1,5 @@
 // A rule in words.
-#![tactic(auto, unfolding(crate::specs::RuleWords::class_words, crate::specs::RuleWords::most_words, crate::specs::RuleWords::least_words, crate::specs::RuleWords::on_day_words, crate::specs::RuleWords::then_words, crate::specs::RuleWords::third_words, crate::specs::RuleWords::sequence_words, crate::specs::RuleWords::wanted_words, crate::specs::RuleWords::off_words, crate::specs::RuleWords::crossed_words, crate::specs::RuleWords::demand_words, crate::specs::RuleWords::day_words, crate::specs::RuleWords::rule_words, crate::specs::RuleWords::rule_in_words), using(crate::proofs::Joined::piece_more, crate::proofs::Joined::none_found))]
+#![tactic(auto, unfolding(crate::specs::RuleWords::class_words, crate::specs::RuleWords::most_words, crate::specs::RuleWords::least_words, crate::specs::RuleWords::on_day_words, crate::specs::RuleWords::then_words, crate::specs::RuleWords::third_words, crate::specs::RuleWords::row_words, crate::specs::RuleWords::wanted_words, crate::specs::RuleWords::off_words, crate::specs::RuleWords::crossed_words, crate::specs::RuleWords::demand_words, crate::specs::RuleWords::day_words, crate::specs::RuleWords::rule_words, crate::specs::RuleWords::rule_in_words), using(crate::proofs::Joined::piece_more, crate::proofs::Joined::none_found))]
 
 ghost use Rattle.std.specs.Prelude.{◌≡◌, ◌++◌, ◌+◌, ◌-◌, ◌*◌, ◌<◌, ◌≤◌, IfSome, OnOk, Some};
 ghost use Rattle.std.specs.List.{flat_map, range_with_len};
@@ -8,7 +8,7 @@ ghost use Rattle.rwsp_terms.specs.Instance.{bounds, shift_count, column_least, I
 ghost use Rattle.rwsp_terms.specs.Roster.{IsRule};
 ghost use Rattle.rwsp_terms.specs.Rules.{rule_of};
 ghost use Rattle.rwsp_model.specs.RuleNumbers.{place_of};
-ghost use Rattle.plain_words.specs.RuleWords.{class_words, most_words, least_words, on_day_words, then_words, third_words, sequence_words, wanted_words, off_range, off_words, is_crossed, crossed_words, first_crossed, demand_words, day_words, rule_words, rule_in_words};
+ghost use Rattle.plain_words.specs.RuleWords.{class_words, most_words, least_words, on_day_words, then_words, third_words, row_words, sequence_words, wanted_words, off_range, off_words, is_crossed, crossed_words, first_crossed, demand_words, day_words, rule_words, rule_in_words};
 
 use crate::pieces::{
     AT_LEAST, AT_MOST, BLANK, COLON, COMMA, DAY_FRONT, DAY_OFF, DAYS_OFF, DOTS, Done, FOR_OFF,
@@ -16,7 +16,7 @@ use crate::pieces::{
 };
 use crate::words::{put_days, put_range, put_shift, put_symbol, put_weeks};
 use rwsp_model::{Problem, number_of, rule_at, rule_count};
-use rwsp_terms::{Bounds, Class, Rule, Sequence, Symbol};
+use rwsp_terms::{Bounds, Class, Rule, Sequence, Symbol, SymbolRow};
 use rwsp_text::put_number;
 
 /// Appends the days that the blocks of a class are made of.
@@ -84,15 +84,24 @@ fn put_third(out: &mut Vec<u8>, problem: &Problem, third: Option<Symbol>) -> Don
     }
 }
 
-// Appends a forbidden sequence.
+// Appends symbols that may not stand in a row.
+fn put_row(out: &mut Vec<u8>, problem: &Problem, row: SymbolRow) -> Done
+    ensures { OnOk result (out.new.items ≡ out.old.items ++ row_words problem.now row) }
+{
+    put(out, NEVER)?;
+    put_symbol(out, problem, row.first, DAY_OFF)?;
+    put_on_day(out, row.day)?;
+    put_then(out, problem, row.second)?;
+    put_third(out, problem, row.third)
+}
+
+// Appends a forbidden sequence, by its form.
 fn put_sequence(out: &mut Vec<u8>, problem: &Problem, sequence: Sequence) -> Done
     ensures { OnOk result (out.new.items ≡ out.old.items ++ sequence_words problem.now sequence) }
 {
-    put(out, NEVER)?;
-    put_symbol(out, problem, sequence.first, DAY_OFF)?;
-    put_on_day(out, sequence.day)?;
-    put_then(out, problem, sequence.second)?;
-    put_third(out, problem, sequence.third)
+    match sequence {
+        Sequence::Row(row) => put_row(out, problem, row),
+    }
 }
 
 // Appends what is demanded of a shift on a day.

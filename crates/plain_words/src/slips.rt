@@ -71,7 +71,11 @@ fn put_all_shift_slips(out: &mut Vec<u8>, by: &Teller) -> Done
 fn is_same(x: Sequence, y: Sequence) -> bool
     ensures { result ≡ is_same x y }
 {
-    x.first == y.first && x.second == y.second && x.third == y.third && x.day == y.day
+    match (x, y) {
+        (Sequence::Row(x), Sequence::Row(y)) => {
+            x.first == y.first && x.second == y.second && x.third == y.third && x.day == y.day
+        }
+    }
 }
 
 // Whether the sequences at two places are one.

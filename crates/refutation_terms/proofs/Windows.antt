@@ -1,5 +1,5 @@
 -- Windows of a roster: round the cycle, over domains, and clean.
-use Rattle.std.proofs.Common.{◌≡◌, ℕ, zero, suc, ◌+◌, ◌*◌, ◌/◌, ◌%◌, ◌<◌, List, [], ◌∷◌, ◌++◌, length, get_or, Option, Some, None, refl, ap, sym, ◌∙◌, arith, subst, append_assoc, length-append, IsTrue}
+use Rattle.std.proofs.Common.{◌≡◌, ℕ, zero, suc, ◌+◌, ◌*◌, ◌/◌, ◌%◌, ◌<◌, List, [], ◌∷◌, ◌++◌, length, get_or, refl, ap, sym, ◌∙◌, arith, subst, append_assoc, length-append, IsTrue}
 use Rattle.std.specs.Prelude.{Contains}
 use Rattle.std.proofs.Math.Nat.{mod-add-mod, add-mul-mod_self_right}
 use Rattle.std.proofs.lemmas.Nat.{mod_below, div-add-mod'}
@@ -7,10 +7,11 @@ use Rattle.rwsp_terms.specs.declared.data.Symbol.{Symbol}
 use Rattle.rwsp_terms.specs.declared.data.Rule.{Rule}
 use Rattle.rwsp_terms.specs.declared.data.Rule.TheVariants.{Most, Least, Never, Day}
 use Rattle.rwsp_terms.specs.Instance.{Instance, cells, off_symbol}
-use Rattle.rwsp_terms.specs.Window.{Bad, HasNoBadPart, IsOnDay, cell, window}
+use Rattle.rwsp_terms.specs.Window.{Bad, HasNoBadPart, cell, window}
 use Rattle.rwsp_terms.specs.Roster.{MeetsRule, HasNoWindow}
 use Rattle.rwsp_terms.specs.Rules.{Meets}
 use Rattle.rwsp_terms.proofs.Windows.{length-window, window-add}
+use Rattle.rwsp_terms.proofs.Forbidden.{forbidden-same_day}
 use Rattle.refutation_terms.specs.Word.{Domains, Within, Over, Clean}
 
 -- positions that are equal round the cycle are equal k days later, too
@@ -37,14 +38,10 @@ over-window P D s p (suc len) some w =
     (subst (λ m. IsTrue (D (p % cells P) (get_or s (p % m) off_symbol).number)) (sym long) here, over-window P D s (p + 1) len some w)
 
 -- of a position a rule asks for the day of the week alone
-on_same_day : (days : ℕ) (day : Option ℕ) (p q : ℕ) → p % days ≡ q % days → IsOnDay days day p → IsOnDay days day q
-on_same_day days None p q e on = tt
-on_same_day days (Some day) p q e on = ap (λ n. n + 1) (sym e) ∙ on
-
 pub bad-same_day : (P : Instance) (r : Rule) (p q : ℕ) (u : List Symbol) → p % P.days ≡ q % P.days → Bad P r p u → Bad P r q u
 bad-same_day P (Most c) p q u e bad = bad
 bad-same_day P (Least c) p q u e bad = bad
-bad-same_day P (Never k) p q u e bad = (bad.0, bad.1, (bad.2.0, on_same_day P.days bad.0.day p q e bad.2.1))
+bad-same_day P (Never k) p q u e bad = (bad.0, bad.1, forbidden-same_day P bad.0 p q u e bad.2)
 bad-same_day P (Day j) p q u e bad = bad
 
 -- round the cycle a position keeps its day of the week

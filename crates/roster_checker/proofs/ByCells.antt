@@ -1,5 +1,5 @@
 -- What is possible by the cells is the window of the roster.
-use Rattle.std.proofs.Common.{◌≡◌, ℕ, zero, suc, ◌+◌, ◌<◌, List, [], ◌∷◌, length, refl, ap, sym, ◌∙◌, subst, arith, Some, None}
+use Rattle.std.proofs.Common.{◌≡◌, ℕ, zero, suc, ◌+◌, ◌<◌, ◌≤◌, List, [], ◌∷◌, length, refl, ap, sym, ◌∙◌, subst, arith, Some, None}
 use Rattle.std.specs.Prelude.{Option, MatchOption}
 use Rattle.rwsp_terms.specs.declared.data.Symbol.{Symbol}
 use Rattle.rwsp_terms.specs.declared.data.Rule.{Rule}
@@ -37,11 +37,11 @@ first_window P r s n w is h = record {
   within = subst (λ m. w.start < m) is h.within;
   here = bad_window P r s w.start w.length h.length.0;
   earliest = λ q len less bad. h.earliest q len less (all_bad P r s q len bad);
-  shortest = λ len less bad. not_less len w.length less (h.length.1 len (all_bad P r s w.start len bad));
+  shortest = λ len less bad. not_both len w.length less (h.length.1 len (all_bad P r s w.start len bad));
 }
   where
-    not_less : (a b : ℕ) → a < b → a ≡ b → ⊥
-    not_less a b less same = omega (arith, less, same)
+    not_both : (a b : ℕ) → a < b → b ≤ a → ⊥
+    not_both a b less more = omega (arith, less, more)
 
 -- a rule that isn't a day's is met where it has no bad window, and broken at its first one
 

@@ -4,6 +4,8 @@ use Rattle.std.specs.List.{flat_map, range_with_len}
 use Rattle.std.specs.Fmt.{decimal}
 use Rattle.rwsp_terms.specs.declared.data.Symbol.{Symbol}
 use Rattle.rwsp_terms.specs.declared.data.Sequence.{Sequence}
+use Rattle.rwsp_terms.specs.declared.data.Sequence.TheVariants.{Row}
+use Rattle.rwsp_terms.specs.declared.data.SymbolRow.{SymbolRow}
 use Rattle.rwsp_terms.specs.declared.data.Class.TheVariants as Classes
 use Rattle.rwsp_terms.specs.declared.limits.TheConstants.{DAYS_OF_WEEK, SATURDAY, SUNDAY}
 use Rattle.rwsp_terms.specs.Instance.{Instance, shift_count, shift_demand, bounds, name_of}
@@ -171,15 +173,19 @@ work_rule P = fixed WORK_TOP.now ++ range_words P.work ++ fixed RULE_END.now
 unfoldable pub symbol_words : Instance → Symbol → List ℕ
 symbol_words P x = if x.number == 0 then fixed DAY_OFF.now else name_text P x
 
--- the symbols of a sequence behind its first
+-- the symbols of a row behind its first
 abbrev pub later_words : Instance → Symbol → Option Symbol → List ℕ
 later_words P second None = fixed AND_THEN.now ++ symbol_words P second
 later_words P second (Some third) =
     fixed THEN.now ++ symbol_words P second ++ fixed AND_THEN.now ++ symbol_words P third
 
-unfoldable pub sequence_rule : Instance → Sequence → List ℕ
-sequence_rule P q =
-    fixed NEVER.now ++ symbol_words P q.first ++ later_words P q.second q.third ++ fixed RULE_END.now
+unfoldable pub row_rule : Instance → SymbolRow → List ℕ
+row_rule P row =
+    fixed NEVER.now ++ symbol_words P row.first ++ later_words P row.second row.third ++ fixed RULE_END.now
+
+-- the rule of a forbidden sequence, by its form
+abbrev pub sequence_rule : Instance → Sequence → List ℕ
+sequence_rule P (Row row) = row_rule P row
 
 unfoldable pub sequence_rules : Instance → List ℕ
 sequence_rules P = flat_map (sequence_rule P) P.sequences

@@ -1,8 +1,9 @@
 // The rules, in words.
-ghost use Rattle.std.specs.Prelude.{◌≡◌, ◌++◌, ◌<◌, OnOk};
+ghost use Rattle.std.specs.Prelude.{◌≡◌, ◌++◌, ◌<◌, All, OnOk};
 ghost use Rattle.rwsp_terms.specs.Instance.{shift_count, IsSymbol};
 ghost use Rattle.rwsp_model.specs.Sequences.{IsSequenceOf};
-ghost use Rattle.roster_page.specs.PageText.{block_rule, block_rules, off_rule, work_rule, symbol_words, sequence_rule, sequence_rules, rules_list};
+ghost use Rattle.rwsp_terms.specs.Forbidden.Rows.{symbols_of};
+ghost use Rattle.roster_page.specs.PageText.{block_rule, block_rules, off_rule, work_rule, symbol_words, row_rule, sequence_rule, sequence_rules, rules_list};
 
 use crate::pieces::{
     AND_THEN, BLOCKS_TOP, COLON, NEVER, OFF_TOP, RULE_END, RULES_END, RULES_TOP, WORK_TOP, put,
@@ -11,7 +12,7 @@ use crate::words::{put_name, shift_at};
 use plain_words::pieces::{DAY_OFF, THEN};
 use plain_words::put_range;
 use rwsp_model::Problem;
-use rwsp_terms::{Class, Sequence, Symbol};
+use rwsp_terms::{Class, Sequence, Symbol, SymbolRow};
 use std::alloc::AllocError;
 
 // Appends the rule of the blocks of a shift, counted from 0.
@@ -71,7 +72,26 @@ fn put_symbol(out: &mut Vec<u8>, problem: &Problem, symbol: Symbol) -> Result<()
     }
 }
 
-#[tactic(auto, unfolding(crate::specs::PageText::sequence_rule))]
+#[tactic(auto, unfolding(crate::specs::PageText::row_rule))]
+fn put_row_rule(out: &mut Vec<u8>, problem: &Problem, row: SymbolRow) -> Result<(), AllocError>
+    requires { All (IsSymbol problem.now) (symbols_of row) }
+    ensures { OnOk result (out.new.items ≡ out.old.items ++ row_rule problem.now row) }
+{
+    put(out, NEVER)?;
+    put_symbol(out, problem, row.first)?;
+    if let Some(third) = row.third {
+        put(out, THEN)?;
+        put_symbol(out, problem, row.second)?;
+        put(out, AND_THEN)?;
+        put_symbol(out, problem, third)?;
+    } else {
+        put(out, AND_THEN)?;
+        put_symbol(out, problem, row.second)?;
+    }
+    put(out, RULE_END)
+}
+
+// Appends the rule of a forbidden sequence, by its form.
 fn put_sequence_rule(
     out: &mut Vec<u8>,
     problem: &Problem,
@@ -80,18 +100,9 @@ fn put_sequence_rule(
     requires { IsSequenceOf problem.now sequence }
     ensures { OnOk result (out.new.items ≡ out.old.items ++ sequence_rule problem.now sequence) }
 {
-    put(out, NEVER)?;
-    put_symbol(out, problem, sequence.first)?;
-    if let Some(third) = sequence.third {
-        put(out, THEN)?;
-        put_symbol(out, problem, sequence.second)?;
-        put(out, AND_THEN)?;
-        put_symbol(out, problem, third)?;
-    } else {
-        put(out, AND_THEN)?;
-        put_symbol(out, problem, sequence.second)?;
+    match sequence {
+        Sequence::Row(row) => put_row_rule(out, problem, row),
     }
-    put(out, RULE_END)
 }
 
 // Appends the rule of each forbidden sequence.

@@ -1,15 +1,16 @@
 // The printed text of a rule.
-ghost use Rattle.std.specs.Prelude.{◌≡◌, ◌<◌, ◌∷◌, ◌++◌, All, length, slice_get, IfOk, OnOk, OnErr};
+ghost use Rattle.std.specs.Prelude.{◌≡◌, ◌∷◌, ◌++◌, All, IfOk, OnOk, OnErr};
 ghost use Rattle.std.specs.Fmt.{decimal};
 ghost use Rattle.std.specs.List.{flat_map};
 ghost use Rattle.rwsp_terms.specs.Instance.{name_of, IsClass, IsSymbol};
 ghost use Rattle.rwsp_terms.specs.Roster.{IsRule};
-ghost use Rattle.rwsp_terms.specs.Window.{symbols_of};
-ghost use Rattle.roster_print.specs.RuleText.{rule_text, class_text, on_day_text, sequence_text};
+ghost use Rattle.rwsp_terms.specs.Forbidden.Rows.{symbols_of};
+ghost use Rattle.rwsp_model.specs.Sequences.{IsSequenceOf};
+ghost use Rattle.roster_print.specs.RuleText.{rule_text, class_text, on_day_text, row_text, sequence_text};
 
 use crate::names::put_after_blanks;
 use rwsp_model::Problem;
-use rwsp_terms::{Class, Rule, Sequence};
+use rwsp_terms::{Class, Rule, Sequence, SymbolRow};
 use rwsp_text::put_number;
 use std::alloc::{AllocError, Global};
 
@@ -43,7 +44,7 @@ fn with_class(
     Ok(text)
 }
 
-// Appends the day of the week of a forbidden sequence, where it has one.
+// Appends the day of the week of symbols in a row, where they have one.
 fn put_day(text: &mut Vec<u8>, day: Option<u32>) -> Result<(), AllocError>
     ensures { OnOk result (text.new.items ≡ text.old.items ++ on_day_text day) }
 {
@@ -54,31 +55,41 @@ fn put_day(text: &mut Vec<u8>, day: Option<u32>) -> Result<(), AllocError>
     Ok(())
 }
 
-// Appends the symbols of a forbidden sequence, each after a blank.
-fn put_symbols(text: &mut Vec<u8>, problem: &Problem, sequence: Sequence) -> Result<(), AllocError>
-    requires { All (IsSymbol problem.now) (symbols_of sequence) }
+// Appends the symbols of a row, each after a blank.
+fn put_symbols(text: &mut Vec<u8>, problem: &Problem, row: SymbolRow) -> Result<(), AllocError>
+    requires { All (IsSymbol problem.now) (symbols_of row) }
     ensures { OnOk result (text.new.items
-        ≡ text.old.items ++ flat_map (λ x. 32 ∷ name_of problem.now x) (symbols_of sequence)) }
+        ≡ text.old.items ++ flat_map (λ x. 32 ∷ name_of problem.now x) (symbols_of row)) }
 {
-    match sequence.third {
-        Some(third) => {
-            put_after_blanks(text, problem, &[sequence.first, sequence.second, third])
-        }
-        None => put_after_blanks(text, problem, &[sequence.first, sequence.second]),
+    match row.third {
+        Some(third) => put_after_blanks(text, problem, &[row.first, row.second, third]),
+        None => put_after_blanks(text, problem, &[row.first, row.second]),
     }
 }
 
-// The text of the forbidden sequence of a place.
-fn sequence_text(alloc: Global, problem: &Problem, place: u32) -> Result<Vec<u8>, AllocError>
-    requires { place < length problem.now.sequences }
-    ensures { IfOk result (λ text. text.items
-        ≡ sequence_text problem.now (slice_get problem.now.sequences place)) }
+// The text of symbols in a row.
+fn row_text(alloc: Global, problem: &Problem, row: SymbolRow) -> Result<Vec<u8>, AllocError>
+    requires { All (IsSymbol problem.now) (symbols_of row) }
+    ensures { IfOk result (λ text. text.items ≡ row_text problem.now row) }
 {
-    let sequence = problem.sequence(place);
     let mut text = Vec::from_slice(alloc, b"not")?;
-    put_symbols(&mut text, problem, sequence)?;
-    put_day(&mut text, sequence.day)?;
+    put_symbols(&mut text, problem, row)?;
+    put_day(&mut text, row.day)?;
     Ok(text)
+}
+
+// The text of a forbidden sequence, by its form.
+fn sequence_text(
+    alloc: Global,
+    problem: &Problem,
+    sequence: Sequence,
+) -> Result<Vec<u8>, AllocError>
+    requires { IsSequenceOf problem.now sequence }
+    ensures { IfOk result (λ text. text.items ≡ sequence_text problem.now sequence) }
+{
+    match sequence {
+        Sequence::Row(row) => row_text(alloc, problem, row),
+    }
 }
 
 fn text_of(alloc: Global, problem: &Problem, rule: Rule) -> Result<Vec<u8>, AllocError>
@@ -88,7 +99,7 @@ fn text_of(alloc: Global, problem: &Problem, rule: Rule) -> Result<Vec<u8>, Allo
     match rule {
         Rule::Most(class) => with_class(alloc, problem, "max ", class),
         Rule::Least(class) => with_class(alloc, problem, "min ", class),
-        Rule::Never(place) => sequence_text(alloc, problem, place),
+        Rule::Never(place) => sequence_text(alloc, problem, problem.sequence(place)),
         Rule::Day(day) => with_number(alloc, "day ", day),
     }
 }

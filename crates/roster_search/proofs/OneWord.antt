@@ -14,7 +14,9 @@ use Rattle.rwsp_terms.specs.declared.data.Symbol.{Symbol}
 use Rattle.rwsp_terms.specs.declared.data.Rule.{Rule}
 use Rattle.rwsp_terms.specs.declared.data.Rule.TheVariants.{Most, Least, Never, Day}
 use Rattle.rwsp_terms.specs.Instance.{Instance, cells, shift_count, least, greatest, bounds, bounds_of, symbol_numbered, IsDay, off_symbol}
-use Rattle.rwsp_terms.specs.Window.{cell, window, third_of, TooLong, TooShort, Bad}
+use Rattle.rwsp_terms.specs.Window.{cell, window, TooLong, TooShort, Bad}
+use Rattle.rwsp_terms.proofs.Forbidden.{forbidden_long}
+use Rattle.rwsp_model.proofs.Sequences.{few_symbols, sequence_known}
 use Rattle.rwsp_terms.specs.Roster.{weeks_with, MeetsDay, HasNoWindow, MeetsRule, IsRule, IsRoster, MeetsAll}
 use Rattle.rwsp_terms.specs.Rules.{rules, rule_of}
 use Rattle.rwsp_terms.proofs.Windows.{length-window}
@@ -88,14 +90,15 @@ small_bounds P (Shift x) k = small_row P.shifts (x.number - 1) k.blocks
 small_bounds P Off k = k.off
 small_bounds P Work k = k.work
 
-third_few : (third : Option Symbol) → length (third_of third) ≤ 1
-third_few None = omega arith
-third_few (Some x) = omega arith
-
 bad_length : (P : Instance) (r : Rule) (p : ℕ) (u : List Symbol) → KeepsLimits P → Bad P r p u → IsShortLength (length u)
 bad_length P (Most c) p u k h = long_length c (bounds P c).greatest u (small_bounds P c k).1 h
 bad_length P (Least c) p u k h = short_length c (bounds P c).least u (small_bounds P c k).0 h
-bad_length P (Never i) p u k h = let e = ap length h.2.0 in let few = third_few h.0.third in (omega (arith, e), omega (arith, e, few))
+bad_length P (Never i) p u k h =
+    let long = forbidden_long P h.0 p u h.2 in
+    let low = long.0 in
+    let high = long.2 in
+    let few = few_symbols P h.0 (sequence_known P i h.0 k h.1) in
+    (low, omega (arith, high, few))
 bad_length P (Day j) p u k h = absurd h
 
 abbrev pub NoWindowHolds : Instance → Store → Type 0

@@ -5,12 +5,14 @@ use Rattle.std.specs.List.{flat_map, AllByRecursion}
 use Rattle.std.proofs.lemmas.List.{length-take-le}
 use Rattle.std.proofs.lemmas.List.Concat.{flat_map_single}
 use Rattle.std.proofs.lemmas.List.Folds.{flat_map-map}
-use Rattle.rwsp_terms.specs.Instance.{Instance, name_of, on_every_day}
+use Rattle.rwsp_terms.specs.Instance.{Instance, name_of}
+use Rattle.rwsp_terms.specs.Forbidden.{day_of}
 use Rattle.rwsp_terms.specs.declared.data.Bounds.{Bounds}
 use Rattle.rwsp_terms.specs.declared.data.ShiftRow.{ShiftRow}
 use Rattle.rwsp_terms.specs.declared.data.Symbol.{Symbol}
 use Rattle.rwsp_terms.specs.declared.data.Sequence.{Sequence}
-use Rattle.rwsp_terms.specs.Window.{third_of, symbols_of}
+use Rattle.rwsp_terms.specs.declared.data.Sequence.TheVariants.{Row as InARow}
+use Rattle.rwsp_terms.specs.Forbidden.Rows.{third_of, symbols_of, on_every_day}
 use Rattle.rwsp_model.specs.Validity.{IsSmallRange, AreSmall}
 use Rattle.rwsp_model.specs.Sequences.{part_of, count_in, pair_count, triple_count}
 use Rattle.rwsp_file.specs.Spelling.{FileField, number_fields, name_fields, bounds_fields, shift_fields, sequence_fields, frame_lines, file_fields}
@@ -209,7 +211,30 @@ third_is P Triple number = record {
 
 -- a sequence of the kind, of symbols of the instance
 abbrev pub IsKnown : Instance → Kind → Sequence → Type 0
-IsKnown P kind q = AllByRecursion (IsNamed P) (symbols_of q) × (part_of q ≡ symbols_in kind) × (q.day ≡ None)
+IsKnown P kind (InARow row) = AllByRecursion (IsNamed P) (symbols_of row) × (length (symbols_of row) ≡ symbols_in kind) × (row.day ≡ None)
+
+first_of : Sequence → Symbol
+first_of (InARow row) = row.first
+
+second_of : Sequence → Symbol
+second_of (InARow row) = row.second
+
+third_in : Sequence → Option Symbol
+third_in (InARow row) = row.third
+
+-- what is read of it part by part
+abbrev IsMade : Instance → Kind → Sequence → Type 0
+IsMade P kind q =
+    IsNamed P (first_of q) × (IsNamed P (second_of q) × (IsThird P kind (third_in q) × (q ≡ on_every_day (first_of q) (second_of q) (third_in q))))
+
+made_known : (P : Instance) (kind : Kind) (q : Sequence) → IsMade P kind q → IsKnown P kind q
+made_known P kind (InARow row) h = ((h.0, (h.1.0, h.1.1.0.0)), h.1.1.0.1, ap day_of h.1.1.1)
+
+known_made : (P : Instance) (kind : Kind) (q : Sequence) → IsKnown P kind q → IsMade P kind q
+known_made P kind (InARow row) h = (h.0.0, (h.0.1.0, ((h.0.1.1, h.1), ap (λ (day : Option ℕ). InARow (record row { day = day })) h.2)))
+
+made_fields : (P : Instance) (q : Sequence) → NameField (name_of P (first_of q)) ∷ NameField (name_of P (second_of q)) ∷ third_fields P (third_in q) ++ [] ≡ sequence_fields P q
+made_fields P (InARow row) = ap (λ (fs : List FileField). NameField (name_of P row.first) ∷ NameField (name_of P row.second) ∷ fs) (append-nil (third_fields P row.third))
 
 abbrev pub sequence_part : Instance → Kind → ℕ → (Sequence → Awaited) → Awaited
 sequence_part P kind number next =
@@ -218,14 +243,11 @@ sequence_part P kind number next =
 pub sequence_is : (P : Instance) (kind : Kind) (number : ℕ) → IsPart (IsKnown P kind) (sequence_fields P) (sequence_at P.shifts kind number) (sequence_part P kind number)
 unfolding sequence_at
 sequence_is P kind number =
-    part_like
-    (λ q h. ((h.0, (h.1.0, h.1.1.0.0)), h.1.1.0.1, ap (λ (o : Sequence). o.day) h.1.1.1))
-    (λ q h. (h.0.0, (h.0.1.0, ((h.0.1.1, h.1), ap (λ (day : Option ℕ). record q { day = day }) h.2))))
-    (λ q. ap (λ (fs : List FileField). NameField (name_of P q.first) ∷ NameField (name_of P q.second) ∷ fs) (append-nil (third_fields P q.third)))
-    (then_part (λ (q : Sequence). q.first) (symbol_is (InSequence kind number 1) (λ _. tt) P) (λ x.
-    then_part (λ (q : Sequence). q.second) (symbol_is (InSequence kind number 2) (λ _. tt) P) (λ y.
-    then_part (λ (q : Sequence). q.third) (third_is P kind number) (λ z. no_part (on_every_day x y z))
-    (λ z q c. ap (λ (o : Sequence). o.third) c)) (λ y q c. ap (λ (o : Sequence). o.second) c.1)) (λ x q c. ap (λ (o : Sequence). o.first) c.1.1))
+    part_like (made_known P kind) (known_made P kind) (made_fields P)
+    (then_part first_of (symbol_is (InSequence kind number 1) (λ _. tt) P) (λ x.
+    then_part second_of (symbol_is (InSequence kind number 2) (λ _. tt) P) (λ y.
+    then_part third_in (third_is P kind number) (λ z. no_part (on_every_day x y z))
+    (λ z q c. ap third_in c)) (λ y q c. ap second_of c.1)) (λ x q c. ap first_of c.1.1))
 
 -- forbidden sequences, the pairs first
 
@@ -244,10 +266,13 @@ sequences_part P frame next = many_part (each_part (numbered_part P frame.pairs)
 pub sequences_is : (P : Instance) (frame : Frame) → IsPart (AreKnown P frame) (flat_map (sequence_fields P)) (sequences_at P.shifts frame) (sequences_part P frame)
 sequences_is P frame = many_is {V = λ earlier. IsKnown P (kind_at frame.pairs (length earlier + 1))} {F = sequence_fields P} (λ earlier. numbered_is P frame.pairs (length earlier + 1)) (frame.pairs + frame.triples)
 
+known_part : (P : Instance) (kind : Kind) (q : Sequence) → IsKnown P kind q → part_of q ≡ symbols_in kind
+known_part P kind (InARow row) h = h.1
+
 -- the pairs stand first, and there are as many of each kind as the frame has
 pub known_listed : (P : Instance) (frame : Frame) (qs : List Sequence) → AreKnown P frame qs → AllPairs (λ a b. part_of a ≤ part_of b) qs × (count_in 2 qs ≡ frame.pairs) × (count_in 3 qs ≡ frame.triples)
 known_listed P frame qs h = listed frame.pairs frame.triples qs h.0 (λ i d less.
-    subst (λ n. part_of (get_or qs i d) ≡ symbols_in (kind_at frame.pairs (n + 1))) (length-take-le i qs (omega (arith, less))) (after_at (λ earlier. IsKnown P (kind_at frame.pairs (length earlier + 1))) [] qs h.1 i d less).1)
+    subst (λ n. part_of (get_or qs i d) ≡ symbols_in (kind_at frame.pairs (n + 1))) (length-take-le i qs (omega (arith, less))) (known_part P _ _ (after_at (λ earlier. IsKnown P (kind_at frame.pairs (length earlier + 1))) [] qs h.1 i d less)))
 
 -- a whole text
 

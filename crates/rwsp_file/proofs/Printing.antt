@@ -14,17 +14,18 @@ use Rattle.rwsp_text.proofs.Steps.{IsWordByte}
 use Rattle.rwsp_text.proofs.Printed.{digits_printed, printed_is_read}
 use Rattle.rwsp_text.proofs.JoinedWords.{IsPrinted, printed_word, words_printed, line_printed, length_of_line, length_of_lines}
 use Rattle.rwsp_terms.specs.Instance.{Instance, shift_count, name_numbered, name_of}
-use Rattle.rwsp_terms.specs.Window.{symbols_of}
+use Rattle.rwsp_terms.specs.Forbidden.Rows.{symbols_of}
 use Rattle.rwsp_terms.specs.declared.data.Bounds.{Bounds}
 use Rattle.rwsp_terms.specs.declared.data.ShiftRow.{ShiftRow}
 use Rattle.rwsp_terms.specs.declared.data.Sequence.{Sequence}
+use Rattle.rwsp_terms.specs.declared.data.Sequence.TheVariants.{Row}
 use Rattle.rwsp_terms.proofs.Elements.{all_to, all_joined}
 use Rattle.rwsp_model.specs.Validity.{IsValid, KeepsLimits, IsShiftName, IsSmallRange, AreSmall}
 use Rattle.rwsp_model.specs.Sequences.{IsSequenceOf, part_of, pair_count, triple_count}
 use Rattle.rwsp_model.proofs.Sequences.{two_or_three, counts_are_all}
 use Rattle.rwsp_model.proofs.Limits.{valid_keeps}
 use Rattle.rwsp_model.proofs.Names.{symbol_word}
-use Rattle.rwsp_file.specs.Spelling.{FileField, Spell, number_fields, shift_fields, sequence_fields, frame_lines, file_lines, file_fields, IsDemand, IsRow, on_line, past_line, SpellsProblem}
+use Rattle.rwsp_file.specs.Spelling.{FileField, Spell, number_fields, shift_fields, row_fields, sequence_fields, frame_lines, file_lines, file_fields, IsDemand, IsRow, on_line, past_line, SpellsProblem}
 use Rattle.rwsp_file.specs.Spelling.FileField.{NumberField, DemandField, ShiftField, NameField}
 use Rattle.rwsp_file.specs.Text.{demand_text, line_words, file_line, problem_text}
 use Rattle.rwsp_file.specs.Laws.{CanonicalTextsSpell, CanonicalTextsAreShort}
@@ -184,13 +185,13 @@ fine_demands row few small =
     fine (map DemandField row) (all_to IsPlain (map DemandField row) (All-map IsPlain DemandField row small)) (omega (arith, long, few))
 
 fine_sequence : (P : Instance) → KeepsLimits P → (q : Sequence) → IsSequenceOf P q → IsFine (sequence_fields P q)
-fine_sequence P k q known =
-    let names = map (name_of P) (symbols_of q) in
-    let words : All (λ x. IsGoodWord (name_of P x)) (symbols_of q) = λ i d less. good_symbol P k _ (known.0 i d less) in
+fine_sequence P k (Row row) known =
+    let names = map (name_of P) (symbols_of row) in
+    let words : All (λ x. IsGoodWord (name_of P x)) (symbols_of row) = λ i d less. good_symbol P k _ (known.0 i d less) in
     let long = length-map names NameField in
-    let many = length-map (symbols_of q) (name_of P) in
-    let few : part_of q ≤ 3 = elim (two_or_three q) [ inl two ↦ omega (arith, two) | inr three ↦ omega (arith, three) ] in
-    fine (sequence_fields P q) (all_to IsPlain (sequence_fields P q) (All-map IsPlain NameField names (All-map IsGoodWord (name_of P) (symbols_of q) words))) (omega (arith, long, many, few))
+    let many = length-map (symbols_of row) (name_of P) in
+    let few : part_of (Row row) ≤ 3 = elim (two_or_three (Row row)) [ inl two ↦ omega (arith, two) | inr three ↦ omega (arith, three) ] in
+    fine (row_fields P row) (all_to IsPlain (row_fields P row) (All-map IsPlain NameField names (All-map IsGoodWord (name_of P) (symbols_of row) words))) (omega (arith, long, many, few))
 
 mapped_fine : {X : Type 0} (f : X → List FileField) (xs : List X) → All (λ x. IsFine (f x)) xs → AllByRecursion IsFine (map f xs)
 mapped_fine f xs h = all_to IsFine (map f xs) (All-map IsFine f xs h)

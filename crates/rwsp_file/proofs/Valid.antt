@@ -9,14 +9,17 @@ use Rattle.std.proofs.lemmas.List.Folds.{list_any_at, list_any_none}
 use Rattle.std.proofs.lemmas.Slice.Eq.{bytes_eq-Decides}
 use Rattle.rwsp_text.specs.Lexemes.{Lexeme}
 use Rattle.rwsp_terms.specs.Instance.{Instance, off_name, shift_count, IsSymbol}
-use Rattle.rwsp_terms.specs.Window.{symbols_of}
+use Rattle.rwsp_terms.specs.Forbidden.Rows.{symbols_of}
 use Rattle.rwsp_terms.specs.declared.limits.TheConstants.{LONGEST_NAME}
 use Rattle.rwsp_terms.specs.declared.data.ShiftRow.{ShiftRow}
 use Rattle.rwsp_terms.specs.declared.data.Symbol.{Symbol}
+use Rattle.rwsp_terms.specs.declared.data.Sequence.{Sequence}
+use Rattle.rwsp_terms.specs.declared.data.Sequence.TheVariants.{Row}
+use Rattle.rwsp_file.specs.declared.misfit.Kind.{Kind}
 use Rattle.rwsp_terms.proofs.Elements.{all_from, all_to}
 use Rattle.rwsp_terms.proofs.SymbolNames.{other_bytes, symbol_only}
 use Rattle.rwsp_model.specs.Validity.{IsValid, KeepsLimits, IsShiftName, IsSmallRange}
-use Rattle.rwsp_model.specs.Sequences.{part_of, pair_count}
+use Rattle.rwsp_model.specs.Sequences.{IsSequenceOf, part_of, pair_count}
 use Rattle.rwsp_model.proofs.Sequences.{counts_are_all, in_part}
 use Rattle.rwsp_model.proofs.Limits.{keeps_valid}
 use Rattle.rwsp_model.proofs.Names.{IsWord}
@@ -63,6 +66,16 @@ good_names rows good = (
   differ : true ≡ false → ⊥
   differ e = absurd (cc)
 
+named : (P : Instance) → KeepsLimits P → (x : Symbol) → x.number ≤ shift_count P → IsNamed P x
+named P k x known = (known, symbol_only P (record { no_dash = λ i d less. (k.names i d less).no_dash; distinct = k.distinct }) x.number known)
+
+-- a sequence that is read is one of the instance, and one of it is read
+known_sequence : (P : Instance) (kind : Kind) (q : Sequence) → IsKnown P kind q → IsSequenceOf P q
+known_sequence P kind (Row row) known = (all_from (IsSymbol P) (symbols_of row) (all_weaker (IsNamed P) (IsSymbol P) (λ x named. named.0) (symbols_of row) known.0), known.2)
+
+sequence_read : (P : Instance) (kind : Kind) (q : Sequence) → KeepsLimits P → IsSequenceOf P q → part_of q ≡ symbols_in kind → IsKnown P kind q
+sequence_read P kind (Row row) k known part = (all_to (IsNamed P) (symbols_of row) (λ j e within. named P k _ (known.0 j e within)), part, known.1)
+
 -- an instance that is read from words keeps the limits
 pub read_valid : (P : Instance) → IsRead P → All (λ (row : ShiftRow). IsWord row.name) P.shifts → IsValid P
 read_valid P r words = keeps_valid P (record {
@@ -71,7 +84,7 @@ read_valid P r words = keeps_valid P (record {
   sequences = λ i d less.
       let q = get_or P.sequences i d in
       let known = after_at (λ earlier. IsKnown P (kind_at (pair_count P) (length earlier + 1))) [] P.sequences r.sequences.1 i d less in
-      (all_from (IsSymbol P) (symbols_of q) (all_weaker (IsNamed P) (IsSymbol P) (λ x named. named.0) (symbols_of q) known.0), known.2);
+      known_sequence P _ q known;
   some_days = r.size.days.0;
   few_days = r.size.days.1;
   some_weeks = r.size.weeks.0.0;
@@ -111,9 +124,6 @@ new_name rows i d less name distinct =
     (sym (same ∙ ap (λ (row : ShiftRow). row.name) here) ∙ ap (λ (row : ShiftRow). row.name) (get_or_default rows i d e less))))))
 
 -- the name of a symbol names it
-named : (P : Instance) → KeepsLimits P → (x : Symbol) → x.number ≤ shift_count P → IsNamed P x
-named P k x known = (known, symbol_only P (record { no_dash = λ i d less. (k.names i d less).no_dash; distinct = k.distinct }) x.number known)
-
 -- an instance that keeps the limits may be read
 pub keeps_read : (P : Instance) → KeepsLimits P → IsRead P
 keeps_read P k = record {
@@ -132,7 +142,7 @@ keeps_read P k = record {
           | inl first ↦ first.1 ∙ sym (in_pairs (pair_count P) i first.0)
           | inr later ↦ later.1 ∙ sym (in_triples (pair_count P) i later.0)
         ] in
-        (all_to (IsNamed P) (symbols_of q) (λ j e within. named P k _ (known.0 j e within)), subst (λ n. part_of q ≡ symbols_in (kind_at (pair_count P) (n + 1))) (sym long) kind, known.1)),
+        sequence_read P _ q k known (subst (λ n. part_of q ≡ symbols_in (kind_at (pair_count P) (n + 1))) (sym long) kind)),
   );
 }
 

@@ -6,7 +6,8 @@ use Rattle.std.specs.Str.{bytes_eq}
 use Rattle.rwsp_text.specs.Lexemes.{Lexeme, lexemes, last_line}
 use Rattle.rwsp_text.specs.Numbers.{number_of}
 use Rattle.rwsp_terms.specs.declared.limits.TheConstants.{MOST_DAYS, MOST_WEEKS, MOST_CELLS, MOST_SHIFTS, LONGEST_NAME, GREATEST_BOUND, MOST_SEQUENCES}
-use Rattle.rwsp_terms.specs.Instance.{Instance, symbol_among, off_name, on_every_day}
+use Rattle.rwsp_terms.specs.Instance.{Instance, symbol_among, off_name}
+use Rattle.rwsp_terms.specs.Forbidden.Rows.{on_every_day}
 use Rattle.rwsp_terms.specs.declared.data.Bounds.{Bounds}
 use Rattle.rwsp_terms.specs.declared.data.ShiftRow.{ShiftRow}
 use Rattle.rwsp_terms.specs.declared.data.Symbol.{Symbol}

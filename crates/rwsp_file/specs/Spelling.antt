@@ -4,12 +4,14 @@ use Rattle.std.specs.List.{flat_map, prefix_len}
 use Rattle.rwsp_text.specs.Lexemes.{Lexeme, lexemes}
 use Rattle.rwsp_text.specs.Numbers.{number_of}
 use Rattle.rwsp_terms.specs.Instance.{Instance, name_of}
-use Rattle.rwsp_terms.specs.Window.{symbols_of}
+use Rattle.rwsp_terms.specs.Forbidden.Rows.{symbols_of}
 use Rattle.rwsp_model.specs.Validity.{IsValid}
 use Rattle.rwsp_model.specs.Sequences.{pair_count, triple_count}
 use Rattle.rwsp_terms.specs.declared.data.Bounds.{Bounds}
 use Rattle.rwsp_terms.specs.declared.data.ShiftRow.{ShiftRow}
 use Rattle.rwsp_terms.specs.declared.data.Sequence.{Sequence}
+use Rattle.rwsp_terms.specs.declared.data.Sequence.TheVariants.{Row}
+use Rattle.rwsp_terms.specs.declared.data.SymbolRow.{SymbolRow}
 
 -- a line of the text of an instance is a row of these: a number, the demand of a shift on a day, a shift, a name in a
 -- sequence
@@ -32,8 +34,13 @@ bounds_fields b = number_fields (b.least ∷ b.greatest ∷ [])
 abbrev pub shift_fields : ShiftRow → List FileField
 shift_fields row = ShiftField row ∷ []
 
+-- the names of symbols in a row
+abbrev pub row_fields : Instance → SymbolRow → List FileField
+row_fields P row = name_fields (map (name_of P) (symbols_of row))
+
+-- the line of a forbidden sequence, by its form
 abbrev pub sequence_fields : Instance → Sequence → List FileField
-sequence_fields P q = name_fields (map (name_of P) (symbols_of q))
+sequence_fields P (Row row) = row_fields P row
 
 -- a line each for the days, the weeks and the number of shifts
 abbrev pub size_lines : Instance → List (List FileField)

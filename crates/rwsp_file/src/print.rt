@@ -1,15 +1,16 @@
 // Printing problem files.
-ghost use Rattle.std.specs.Prelude.{◌≡◌, ◌+◌, ◌<◌, [], ◌∷◌, ◌++◌, length, IfOk, OnOk, map};
+ghost use Rattle.std.specs.Prelude.{◌≡◌, ◌+◌, ◌<◌, [], ◌∷◌, ◌++◌, length, All, IfOk, OnOk, map};
 ghost use Rattle.std.specs.List.{flat_map};
 ghost use Rattle.std.specs.Fmt.{decimal};
 ghost use Rattle.rwsp_terms.specs.Instance.{name_of, IsSymbol};
+ghost use Rattle.rwsp_terms.specs.Forbidden.Rows.{symbols_of};
 ghost use Rattle.rwsp_model.specs.Sequences.{IsSequenceOf, pair_count, triple_count};
-ghost use Rattle.rwsp_file.specs.Spelling.{number_fields, bounds_fields, shift_fields, sequence_fields, size_lines, frame_lines};
+ghost use Rattle.rwsp_file.specs.Spelling.{number_fields, bounds_fields, shift_fields, row_fields, sequence_fields, size_lines, frame_lines};
 ghost use Rattle.rwsp_file.specs.Spelling.FileField.{DemandField};
 ghost use Rattle.rwsp_file.specs.Text.{demand_text, file_line, problem_text, row_of_demand, row_of_shift};
 
 use rwsp_model::{Problem, count_in};
-use rwsp_terms::{Bounds, Class, Sequence, Symbol};
+use rwsp_terms::{Bounds, Class, Sequence, Symbol, SymbolRow};
 use rwsp_text::put_number;
 use std::alloc::{AllocError, Global};
 
@@ -68,17 +69,28 @@ fn put_two(out: &mut Vec<u8>, first: u32, second: u32) -> Result<(), AllocError>
     put_number_and(out, second, b'\n')
 }
 
+// A line of symbols in a row.
+fn put_row(out: &mut Vec<u8>, problem: &Problem, row: SymbolRow) -> Result<(), AllocError>
+    requires { All (IsSymbol problem.now) (symbols_of row) }
+    ensures { OnOk result (out.new.items ≡ out.old.items ++ file_line (row_fields problem.now row)) }
+{
+    put_name_and(out, problem, row.first, b' ')?;
+    match row.third {
+        None => put_name_and(out, problem, row.second, b'\n'),
+        Some(third) => {
+            put_name_and(out, problem, row.second, b' ')?;
+            put_name_and(out, problem, third, b'\n')
+        }
+    }
+}
+
+// The line of a forbidden sequence, by its form.
 fn put_sequence(out: &mut Vec<u8>, problem: &Problem, sequence: Sequence) -> Result<(), AllocError>
     requires { IsSequenceOf problem.now sequence }
     ensures { OnOk result (out.new.items ≡ out.old.items ++ file_line (sequence_fields problem.now sequence)) }
 {
-    put_name_and(out, problem, sequence.first, b' ')?;
-    match sequence.third {
-        None => put_name_and(out, problem, sequence.second, b'\n'),
-        Some(third) => {
-            put_name_and(out, problem, sequence.second, b' ')?;
-            put_name_and(out, problem, third, b'\n')
-        }
+    match sequence {
+        Sequence::Row(row) => put_row(out, problem, row),
     }
 }
 

@@ -17,7 +17,8 @@ use Rattle.rwsp_terms.specs.declared.data.Bounds.{Bounds}
 use Rattle.rwsp_terms.specs.declared.data.ShiftRow.{ShiftRow}
 use Rattle.rwsp_terms.specs.declared.data.Symbol.{Symbol}
 use Rattle.rwsp_terms.specs.declared.data.Sequence.{Sequence}
-use Rattle.rwsp_terms.specs.Window.{symbols_of}
+use Rattle.rwsp_terms.specs.declared.data.Sequence.TheVariants.{Row}
+use Rattle.rwsp_terms.specs.Forbidden.Rows.{symbols_of}
 use Rattle.rwsp_model.specs.Sequences.{part_of, pair_count, triple_count, IsSequenceOf}
 use Rattle.rwsp_model.specs.Validity.{IsValid, KeepsLimits, refusal_of, limit_refusal, name_refusal, limits_kept, has_shape, is_sequence_of, are_ordered, are_small, AreSmall, is_small_range, IsSmallRange, is_between, is_shift_name, breaks_name, IsShiftName, is_named_well, bad_name_from}
 use Rattle.rwsp_model.specs.declared.refusal.PartsRefusal.{PartsRefusal}
@@ -198,10 +199,10 @@ no_day None = (λ h. refl, λ h. refl)
 no_day (Some day) = (λ h. absurd (cc), λ h. absurd (cc))
 
 Decides-sequence : (P : Instance) (q : Sequence) → Decides (is_sequence_of P q) (IsSequenceOf P q)
-Decides-sequence P q =
-    Decides-and (list_all (λ x. nat_le x.number (shift_count P)) (symbols_of q)) (not (is_some q.day))
-    (Decides-all (λ (x : Symbol). nat_le x.number (shift_count P)) (IsSymbol P) (λ x. Decides-leb x.number (shift_count P)) (symbols_of q))
-    (no_day q.day)
+Decides-sequence P (Row row) =
+    Decides-and (list_all (λ x. nat_le x.number (shift_count P)) (symbols_of row)) (not (is_some row.day))
+    (Decides-all (λ (x : Symbol). nat_le x.number (shift_count P)) (IsSymbol P) (λ x. Decides-leb x.number (shift_count P)) (symbols_of row))
+    (no_day row.day)
 
 Decides-rows : (days : ℕ) (rows : List (List Bounds)) → Decides (list_all (λ (row : List Bounds). length row == days) rows) (All (λ (row : List Bounds). length row ≡ days) rows)
 Decides-rows days rows = Decides-all (λ (row : List Bounds). length row == days) (λ (row : List Bounds). length row ≡ days) (λ row. Decides-eqb (length row) days) rows

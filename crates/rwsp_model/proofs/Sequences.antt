@@ -1,6 +1,6 @@
 -- Lists of sequences, by the number of their symbols.
 use Rattle.std.proofs.Common.{◌≡◌, ℕ, zero, suc, ◌+◌, ◌-◌, ◌*◌, ◌<◌, ◌≤◌, List, [], ◌∷◌, ◌++◌, length, get_or, Bool, true, false, cond, ◌==◌, nat_le, refl, ap, sym, subst, ◌∙◌, arith, Option, None, Some, ◌⊎◌, inl, inr, ⊎_elim}
-use Rattle.std.specs.Prelude.{All, AllPairs, remove}
+use Rattle.std.specs.Prelude.{All, AllPairs, remove, slice_get}
 use Rattle.std.specs.Bool.{Decides}
 use Rattle.std.specs.List.{IsAllAdjacentAnswer}
 use Rattle.std.proofs.lemmas.Bool.{cases_lt, leb-true, and_parts, and_from, and_left, and_right}
@@ -9,13 +9,16 @@ use Rattle.std.proofs.lemmas.List.{get_or_append_left, get_or-append_right, leng
 use Rattle.std.proofs.lemmas.List.Sums.{sum_by-cons, sum_by-append, sum_by-remove}
 use Rattle.std.proofs.lemmas.List.Elements.{All-head, All-tail}
 use Rattle.std.proofs.lemmas.List.Quantifiers.{all_pairs_remove}
-use Rattle.rwsp_terms.specs.declared.limits.TheConstants.{MOST_SEQUENCES}
+use Rattle.std.proofs.lemmas.Option.{slice_get_within, get_or_from_slice_get}
+use Rattle.rwsp_terms.specs.declared.limits.TheConstants.{MOST_SEQUENCES, LONGEST_SEQUENCE}
 use Rattle.rwsp_terms.specs.declared.data.Sequence.{Sequence}
+use Rattle.rwsp_terms.specs.declared.data.Sequence.TheVariants.{Row}
 use Rattle.rwsp_terms.specs.declared.data.Symbol.{Symbol}
-use Rattle.rwsp_terms.specs.Instance.{off_symbol, on_every_day}
-use Rattle.rwsp_terms.specs.Window.{third_of}
-use Rattle.rwsp_model.specs.Sequences.{part_of, count_in, AreListed}
-use Rattle.rwsp_model.specs.Validity.{are_ordered}
+use Rattle.rwsp_terms.specs.Instance.{Instance, off_symbol}
+use Rattle.rwsp_terms.specs.Forbidden.Rows.{third_of, on_every_day}
+use Rattle.rwsp_terms.specs.Forbidden.{lengths_of}
+use Rattle.rwsp_model.specs.Sequences.{IsSequenceOf, part_of, count_in, AreListed}
+use Rattle.rwsp_model.specs.Validity.{are_ordered, KeepsLimits}
 
 abbrev Ordered : List Sequence → Type 0
 Ordered qs = AllPairs (λ a b. part_of a ≤ part_of b) qs
@@ -26,7 +29,20 @@ long (Some x) = inr refl
 
 -- there are two parts
 pub two_or_three : (q : Sequence) → (part_of q ≡ 2) ⊎ (part_of q ≡ 3)
-two_or_three q = long q.third
+two_or_three (Row row) = long row.third
+
+third_few : (third : Option Symbol) → length (third_of third) ≤ 1
+third_few None = omega arith
+third_few (Some x) = omega arith
+
+-- a sequence of a valid instance is one of it
+pub sequence_known : (P : Instance) (k : ℕ) (q : Sequence) → KeepsLimits P → slice_get P.sequences k ≡ Some q → IsSequenceOf P q
+sequence_known P k q limits is =
+    subst (IsSequenceOf P) (get_or_from_slice_get P.sequences k q q is) (limits.sequences k q (slice_get_within P.sequences k q is))
+
+-- a problem's sequences forbid no words that are longer than the longest
+pub few_symbols : (P : Instance) (q : Sequence) → IsSequenceOf P q → (lengths_of q).greatest ≤ LONGEST_SEQUENCE
+few_symbols P (Row row) known = omega (arith, third_few row.third)
 
 -- a count with a sequence more in front
 counted : (n m : ℕ) (q : Sequence) (qs : List Sequence) → part_of q ≡ m → count_in n (q ∷ qs) ≡ cond (m == n) 1 0 + count_in n qs

@@ -2,16 +2,21 @@
 use Rattle.std.specs.Prelude.{◌≡◌, ℕ, ◌≤◌, List, length, None, All, AllPairs, count_by, ◌==◌}
 use Rattle.rwsp_terms.specs.declared.limits.TheConstants.{MOST_SEQUENCES}
 use Rattle.rwsp_terms.specs.declared.data.Sequence.{Sequence}
-use Rattle.rwsp_terms.specs.Instance.{Instance, IsSymbol}
-use Rattle.rwsp_terms.specs.Window.{symbols_of}
+use Rattle.rwsp_terms.specs.declared.data.Sequence.TheVariants.{Row}
+use Rattle.rwsp_terms.specs.Instance.{Instance, shift_count}
+use Rattle.rwsp_terms.specs.Forbidden.Rows.{symbols_of}
 
--- a sequence of symbols of the instance, forbidden on every day
+-- a sequence for so many shifts, by its form: symbols in a row that are forbidden on every day
+abbrev pub IsSequenceFor : (shifts : ℕ) → Sequence → Type 0
+IsSequenceFor shifts (Row row) = All (λ x. x.number ≤ shifts) (symbols_of row) × (row.day ≡ None)
+
+-- a sequence of the instance
 abbrev pub IsSequenceOf : Instance → Sequence → Type 0
-IsSequenceOf P q = All (IsSymbol P) (symbols_of q) × (q.day ≡ None)
+IsSequenceOf P q = IsSequenceFor (shift_count P) q
 
 -- the part of the list in which a sequence stands: that of its number of symbols
 abbrev pub part_of : Sequence → ℕ
-part_of q = length (symbols_of q)
+part_of (Row row) = length (symbols_of row)
 
 -- how many of the sequences stand in a part
 abbrev pub count_in : ℕ → List Sequence → ℕ

@@ -7,7 +7,8 @@ use Rattle.rwsp_terms.specs.Instance.{Instance, cells, shift_count, off_name}
 use Rattle.rwsp_terms.specs.declared.data.Bounds.{Bounds}
 use Rattle.rwsp_terms.specs.declared.data.ShiftRow.{ShiftRow}
 use Rattle.rwsp_terms.specs.declared.data.Sequence.{Sequence}
-use Rattle.rwsp_terms.specs.Window.{symbols_of}
+use Rattle.rwsp_terms.specs.declared.data.Sequence.TheVariants.{Row}
+use Rattle.rwsp_terms.specs.Forbidden.Rows.{symbols_of}
 use Rattle.rwsp_model.specs.Sequences.{part_of, pair_count, triple_count, IsSequenceOf, AreListed}
 use Rattle.rwsp_model.specs.declared.refusal.PartsRefusal.{PartsRefusal}
 use Rattle.rwsp_model.specs.declared.refusal.PartsRefusal.TheVariants.{Shape, Range, Name}
@@ -17,7 +18,7 @@ is_between low high n = nat_le low n && nat_le n high
 
 -- a sequence of symbols of the instance, forbidden on every day
 abbrev pub is_sequence_of : Instance → Sequence → Bool
-is_sequence_of P q = list_all (λ x. nat_le x.number (shift_count P)) (symbols_of q) && not (is_some q.day)
+is_sequence_of P (Row row) = list_all (λ x. nat_le x.number (shift_count P)) (symbols_of row) && not (is_some row.day)
 
 -- the parts stand one behind the other
 abbrev pub are_ordered : List Sequence → Bool

@@ -1,7 +1,8 @@
 ghost use Rattle.std.specs.Prelude.{◌≡◌, ◌+◌, ◌-◌, ◌*◌, ◌<◌, ◌≤◌, ◌≤ℤ◌, pos, neg_ℤ, length, All, Option, Some, None, MatchResult, IfOk, IfSome, slice_get, position};
 ghost use Rattle.std.specs.Option.{option_map};
 ghost use Rattle.std.specs.Str.{bytes_eq};
-ghost use Rattle.rwsp_terms.specs.declared.limits.TheConstants.{MOST_WEEKS, MOST_CELLS, MOST_SEQUENCES};
+ghost use Rattle.rwsp_terms.specs.declared.limits.TheConstants.{LONGEST_SEQUENCE, MOST_WEEKS, MOST_CELLS, MOST_SEQUENCES};
+ghost use Rattle.rwsp_terms.specs.Forbidden.{lengths_of};
 ghost use Rattle.rwsp_terms.specs.Instance.{bounds, shift_count, cells, symbol_of, name_of, name_among, least, greatest, shift_demand, IsClass, IsSymbol, IsShift, IsDay};
 ghost use Rattle.rwsp_model.specs.Parts.{instance_of};
 ghost use Rattle.rwsp_model.specs.Validity.{refusal_of, IsValid, KeepsLimits};
@@ -193,10 +194,12 @@ impl Problem {
     }
 
     /// The forbidden sequence of a place, counted from 0.
+    #[tactic(auto, using(crate::proofs::Sequences::few_symbols))]
     pub fn sequence(&self, place: u32) -> Sequence
         requires { place < length self.now.sequences }
         ensures value { slice_get self.now.sequences place ≡ Some result }
         ensures known { IsSequenceOf self.now result }
+        ensures few { (lengths_of result).greatest ≤ LONGEST_SEQUENCE }
     {
         self.prove_limits();
         self.parts.sequences[place as usize]

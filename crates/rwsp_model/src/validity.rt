@@ -2,6 +2,7 @@
 ghost use Rattle.std.specs.Prelude.{◌≡◌, ◌+◌, ◌-◌, ◌*◌, ◌≤◌, [], length, Option, Some, None, ◌==◌, ◌&&◌, nat_le, position, not};
 ghost use Rattle.std.specs.List.{list_all, list_any};
 ghost use Rattle.std.specs.Str.{bytes_eq};
+ghost use Rattle.rwsp_terms.specs.Forbidden.Rows.{symbols_of};
 ghost use Rattle.rwsp_model.specs.Parts.{instance_of};
 ghost use Rattle.rwsp_model.specs.Sequences.{part_of, count_in};
 ghost use Rattle.rwsp_model.specs.Validity.{is_sequence_of, are_ordered, refusal_of, has_shape, are_small, is_small_range, is_between, limits_kept, is_shift_name, is_named_well, bad_name_from, breaks_name};
@@ -10,7 +11,7 @@ use crate::{Parts, PartsRefusal};
 use rwsp_terms::limits::{
     GREATEST_BOUND, LONGEST_NAME, MOST_CELLS, MOST_DAYS, MOST_SEQUENCES, MOST_SHIFTS, MOST_WEEKS,
 };
-use rwsp_terms::{Bounds, DemandRow, Sequence, ShiftRow};
+use rwsp_terms::{Bounds, DemandRow, Sequence, ShiftRow, SymbolRow};
 
 fn is_long(row: &DemandRow, days: usize) -> bool
     ensures { result ≡ (length row.now == days) }
@@ -28,13 +29,21 @@ fn rows_are_long(rows: &[DemandRow], days: usize) -> bool
 fn is_known(parts: &Parts, sequence: &Sequence) -> bool
     ensures { result ≡ is_sequence_of (instance_of parts.now) sequence.now }
 {
-    let last = parts.shifts.len();
-    let front = sequence.first.number as usize <= last && sequence.second.number as usize <= last;
-    let third = match sequence.third {
+    match *sequence {
+        Sequence::Row(row) => row_is_known(row, parts.shifts.len()) && row.day.is_none(),
+    }
+}
+
+// Whether no symbol of the row is beyond the last.
+fn row_is_known(row: SymbolRow, last: usize) -> bool
+    ensures { result ≡ list_all (λ x. nat_le x.number last) (symbols_of row) }
+{
+    let front = row.first.number as usize <= last && row.second.number as usize <= last;
+    let third = match row.third {
         Some(third) => third.number as usize <= last,
         None => true,
     };
-    front && third && sequence.day.is_none()
+    front && third
 }
 
 fn sequences_are_known(parts: &Parts) -> bool
@@ -50,9 +59,8 @@ fn sequences_are_known(parts: &Parts) -> bool
 fn part_of(sequence: &Sequence) -> u32
     ensures { result ≡ part_of sequence.now }
 {
-    match sequence.third {
-        Some(_) => 3,
-        None => 2,
+    match *sequence {
+        Sequence::Row(row) => row.len(),
     }
 }
 

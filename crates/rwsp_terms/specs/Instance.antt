@@ -69,10 +69,6 @@ bounds P (Shift x) = bounds_of (slice_get P.shifts (x.number - 1))
 bounds P Off = P.off
 bounds P Work = P.work
 
--- two or three symbols, forbidden on every day
-abbrev pub on_every_day : Symbol → Symbol → Option Symbol → Sequence
-on_every_day first second third = record { first = first; second = second; third = third; day = None }
-
 -- a symbol of the instance
 abbrev pub IsSymbol : Instance → Symbol → Type 0
 IsSymbol P x = x.number ≤ shift_count P

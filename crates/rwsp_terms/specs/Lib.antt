@@ -1,4 +1,5 @@
 pub mod Instance
+pub mod Forbidden
 pub mod Window
 pub mod Roster
 pub mod Rules

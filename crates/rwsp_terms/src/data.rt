@@ -1,5 +1,5 @@
 // Plain data, with no invariant.
-ghost use Rattle.std.specs.Prelude.{◌≡◌, ◌↔◌, IsTrue};
+ghost use Rattle.std.specs.Prelude.{◌≡◌, ◌↔◌, length, IsTrue};
 ghost use Rattle.rwsp_terms.specs.Window.{InClass};
 
 use std::alloc::AllocError;
@@ -44,28 +44,72 @@ impl Class {
     }
 }
 
-/// Two or three symbols that may not stand in a row.
+/// Two or three symbols in a row.
 #[derive(Clone, Copy, PartialEq, Eq)]
-pub struct Sequence {
+pub struct SymbolRow {
     pub first: Symbol,
     pub second: Symbol,
     pub third: Option<Symbol>,
-    /// The day of the week of the first symbol, counted from 1; None where they may not stand there on any day.
+    /// The day of the week of the first symbol, counted from 1; None where it may be any.
     pub day: Option<u32>,
 }
 
+impl SymbolRow {
+    ghost use Rattle.rwsp_terms.specs.Forbidden.Rows.{symbols_of};
+
+    /// How many symbols it has: two or three.
+    pub fn len(self) -> u32
+        ensures { result ≡ length (symbols_of self) }
+    {
+        match self.third {
+            Some(_) => 3,
+            None => 2,
+        }
+    }
+}
+
+/// Words that are forbidden, by their form. Which words they are, on which day of the week they begin and how many
+/// symbols they have is all that anyone asks of a form: see specs/Forbidden.antt.
+#[derive(Clone, Copy, PartialEq, Eq)]
+pub enum Sequence {
+    /// These symbols in a row.
+    Row(SymbolRow),
+}
+
 impl Sequence {
-    ghost use Rattle.rwsp_terms.specs.Instance.{on_every_day};
+    ghost use Rattle.rwsp_terms.specs.Forbidden.Rows.{on_every_day};
+    ghost use Rattle.rwsp_terms.specs.Forbidden.{day_of, lengths_of};
 
     /// Two or three symbols, forbidden on every day.
     pub fn on_every_day(first: Symbol, second: Symbol, third: Option<Symbol>) -> Sequence
         ensures { result ≡ on_every_day first second third }
     {
-        Sequence {
+        Sequence::Row(SymbolRow {
             first,
             second,
             third,
             day: None,
+        })
+    }
+
+    /// The day of the week on which its words begin, counted from 1; None where that may be any.
+    pub fn day(self) -> Option<u32>
+        ensures { result ≡ day_of self }
+    {
+        match self {
+            Sequence::Row(row) => row.day,
+        }
+    }
+
+    /// How many symbols its words have, at least and at most.
+    pub fn lengths(self) -> Bounds
+        ensures { result ≡ lengths_of self }
+    {
+        match self {
+            Sequence::Row(row) => Bounds {
+                least: row.len(),
+                greatest: row.len(),
+            },
         }
     }
 }

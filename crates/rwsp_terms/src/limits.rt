@@ -31,6 +31,9 @@ pub const GREATEST_BOUND: u32 = 10_000;
 /// The most forbidden sequences of two symbols, and the most of three.
 pub const MOST_SEQUENCES: u32 = 64;
 
+/// The most symbols of a word that a sequence of a problem forbids.
+pub const LONGEST_SEQUENCE: u32 = 3;
+
 /// The most rules of a problem: two for the blocks of each shift, of days off and of work, the forbidden sequences, and
 /// one for each day.
 pub const MOST_RULES: u32 = 2 * (MOST_SHIFTS + 2) + 2 * MOST_SEQUENCES + MOST_DAYS;

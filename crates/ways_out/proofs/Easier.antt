@@ -10,9 +10,11 @@ use Rattle.rwsp_terms.specs.declared.data.Sequence.{Sequence}
 use Rattle.rwsp_terms.specs.declared.data.Rule.{Rule}
 use Rattle.rwsp_terms.specs.declared.data.Rule.TheVariants.{Most, Least, Never, Day}
 use Rattle.rwsp_terms.specs.Instance.{Instance, shift_count, bounds, least, greatest, IsClass, IsDay}
-use Rattle.rwsp_terms.specs.Window.{window, InClass, TooLong, TooShort, IsSequence}
+use Rattle.rwsp_terms.specs.Window.{window, InClass, TooLong, TooShort}
 use Rattle.rwsp_terms.specs.Roster.{MeetsRule, MeetsDay, MeetsAll, IsRoster, IsRule, HasNoWindow, weeks_with}
+use Rattle.rwsp_terms.specs.Times.{length_of}
 use Rattle.rwsp_terms.proofs.Windows.{length-window, get_or-window}
+use Rattle.rwsp_terms.proofs.Forbidden.{forbidden_elsewhere}
 
 -- a class of one instance is one of another with as many shifts
 pub class_kept : (A B : Instance) (c : Class) → shift_count A ≡ shift_count B → IsClass A c → IsClass B c
@@ -25,6 +27,7 @@ pub record IsEasierBut (A B : Instance) (Spared : Rule → Type 0) : Type 0 wher
   pub days : A.days ≡ B.days
   pub weeks : A.weeks ≡ B.weeks
   pub shifts : shift_count A ≡ shift_count B
+  pub lengths : (x : Symbol) → length_of A x ≡ length_of B x
   pub longer : (c : Class) → (Spared (Most c) → ⊥) → IsClass A c → (bounds A c).greatest ≤ (bounds B c).greatest
   pub shorter : (c : Class) → (Spared (Least c) → ⊥) → IsClass A c → (bounds B c).least ≤ (bounds A c).least
   pub forbidden : (k : ℕ) (q : Sequence) → (Spared (Never k) → ⊥) → slice_get B.sequences k ≡ Some q
@@ -84,7 +87,7 @@ module _ (A B : Instance) (Spared : Rule → Type 0) (h : IsEasierBut A B Spared
       none_shorter c (bounds B c).least (bounds A c).least s (h.shorter c kept of_a) (meets.rules (Least c) of_a)
   rule_kept (Never k) kept rule = λ p len less bad.
       let found = h.forbidden k bad.0 kept bad.1 in
-      let of_a = subst (λ (n : ℕ). IsSequence n bad.0 p (window s p len)) (sym h.days) bad.2 in
+      let of_a = forbidden_elsewhere B A bad.0 p (window s p len) (sym h.days) (λ x. sym (h.lengths x)) bad.2 in
       meets.rules (Never found.0) (slice_get_within A.sequences found.0 bad.0 found.1) p len less (bad.0, found.1, of_a)
   rule_kept (Day j) kept rule = day_kept j kept rule
 

@@ -12,6 +12,7 @@ use Rattle.rwsp_terms.specs.declared.data.Rule.{Rule}
 use Rattle.rwsp_terms.specs.declared.data.Rule.TheVariants.{Most, Least, Never, Day}
 use Rattle.rwsp_terms.specs.Instance.{Instance, shift_count, bounds, bounds_of, least, greatest, shift_demand, range_in, no_bounds, column_least, column_greatest, symbol_numbered, IsClass}
 use Rattle.rwsp_terms.specs.Roster.{MeetsAll, IsRoster}
+use Rattle.rwsp_terms.specs.Times.{length_in, length_of}
 use Rattle.ways_out.specs.declared.change.Change.{Change}
 use Rattle.ways_out.specs.declared.change.Change.TheVariants.{LongerBlocks, ShorterBlocks, LowerDemand, HigherDemand, Dropped}
 use Rattle.ways_out.specs.Loosened.{edited, raised, lowered, lowest, highest, exact, with_bounds, with_demand, without_sequence, loosened, changed_rule, IsChange}
@@ -38,6 +39,7 @@ easier_same P Spared = record {
   days = refl;
   weeks = refl;
   shifts = refl;
+  lengths = λ x. refl;
   longer = λ c kept class. le_same (bounds P c).greatest;
   shorter = λ c kept class. le_same (bounds P c).least;
   forbidden = λ k q kept there. (k, there);
@@ -76,6 +78,7 @@ record HasRest (P Q : Instance) : Type 0 where
   days : Q.days ≡ P.days
   weeks : Q.weeks ≡ P.weeks
   shifts : shift_count Q ≡ shift_count P
+  lengths : (x : Symbol) → length_of Q x ≡ length_of P x
   forbidden : Q.sequences ≡ P.sequences
   demand : Q.demand ≡ P.demand
 
@@ -85,9 +88,18 @@ numbers_alike P Q j zero weeks demand = (cc, cc)
 numbers_alike P Q j (suc x) weeks demand = (cc, cc)
 
 rest_by : (P : Instance) (c : Class) (f : Bounds → Bounds) → HasRest P (with_bounds P c f)
-rest_by P (Shift x) f = record { days = refl; weeks = refl; shifts = length-edited (x.number - 1) (rebound f) P.shifts; forbidden = refl; demand = refl }
-rest_by P Off f = record { days = refl; weeks = refl; shifts = refl; forbidden = refl; demand = refl }
-rest_by P Work f = record { days = refl; weeks = refl; shifts = refl; forbidden = refl; demand = refl }
+rest_by P (Shift x) f = record {
+  days = refl;
+  weeks = refl;
+  shifts = length-edited (x.number - 1) (rebound f) P.shifts;
+  lengths = λ y.
+      related_get (λ (a b : Option ShiftRow). length_in a ≡ length_in b) (λ a. refl) (x.number - 1) (y.number - 1) (rebound f) (λ row. row) P.shifts (λ e row. refl)
+      ∙ ap (λ (rows : List ShiftRow). length_in (slice_get rows (y.number - 1))) (edited_same (x.number - 1) (λ row. row) P.shifts (λ row. refl));
+  forbidden = refl;
+  demand = refl;
+}
+rest_by P Off f = record { days = refl; weeks = refl; shifts = refl; lengths = λ y. refl; forbidden = refl; demand = refl }
+rest_by P Work f = record { days = refl; weeks = refl; shifts = refl; lengths = λ y. refl; forbidden = refl; demand = refl }
 
 easier_bounds : (P : Instance) (c : Class) (f g : Bounds → Bounds) (Spared : Rule → Type 0) → IsClass P c → EasesBut f g (Spared (Most c)) (Spared (Least c)) → IsEasierBut (with_bounds P c f) (with_bounds P c g) Spared
 easier_bounds P c f g Spared class eases =
@@ -100,6 +112,7 @@ easier_bounds P c f g Spared class eases =
       days = a.days ∙ sym b.days;
       weeks = sym weeks;
       shifts = a.shifts ∙ sym b.shifts;
+      lengths = λ x. a.lengths x ∙ sym (b.lengths x);
       longer = λ d kept of_d. bounds_related (λ v w. v.greatest ≤ w.greatest) (λ v. le_same v.greatest) P c d f g class (of_p d of_d) (λ e. eases.longer (λ spared. kept (subst (λ (z : Class). Spared (Most z)) (sym e) spared)));
       shorter = λ d kept of_d. bounds_related (λ v w. v.least ≤ w.least) (λ v. le_same v.least) P c d g f class (of_p d of_d) (λ e. eases.shorter (λ spared. kept (subst (λ (z : Class). Spared (Least z)) (sym e) spared)));
       forbidden = λ k q kept there. (k, subst (λ (qs : List Sequence). slice_get qs k ≡ Some q) (b.forbidden ∙ sym a.forbidden) there);
@@ -155,6 +168,7 @@ easier_demand P x j f g Spared low eases = record {
   days = refl;
   weeks = refl;
   shifts = refl;
+  lengths = λ x. refl;
   longer = λ c kept class. le_by (ap (λ (v : Bounds). v.greatest) (bounds_alike (with_demand P x j f) (with_demand P x j g) c refl refl refl));
   shorter = λ c kept class. le_by (ap (λ (v : Bounds). v.least) (bounds_alike (with_demand P x j g) (with_demand P x j f) c refl refl refl));
   forbidden = λ k q kept there. (k, there);
@@ -198,6 +212,7 @@ easier_sequences P a b Spared forbidden = record {
   days = refl;
   weeks = refl;
   shifts = refl;
+  lengths = λ x. refl;
   longer = λ c kept class. le_by (ap (λ (v : Bounds). v.greatest) (bounds_alike (with_sequences P a) (with_sequences P b) c refl refl refl));
   shorter = λ c kept class. le_by (ap (λ (v : Bounds). v.least) (bounds_alike (with_sequences P b) (with_sequences P a) c refl refl refl));
   forbidden = forbidden;

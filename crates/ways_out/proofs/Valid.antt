@@ -10,7 +10,7 @@ use Rattle.rwsp_terms.specs.declared.data.ShiftRow.{ShiftRow}
 use Rattle.rwsp_terms.specs.declared.data.Class.{Class}
 use Rattle.rwsp_terms.specs.declared.data.Class.TheVariants.{Shift, Off, Work}
 use Rattle.rwsp_terms.specs.Instance.{Instance, shift_count, bounds, bounds_of, shift_demand, no_bounds, IsClass, IsDay}
-use Rattle.rwsp_terms.specs.Window.{symbols_of}
+use Rattle.rwsp_model.specs.Sequences.{IsSequenceFor}
 use Rattle.rwsp_terms.proofs.SymbolNames.{no_row}
 use Rattle.rwsp_model.specs.Validity.{KeepsLimits, AreSmall, IsSmallRange, IsShiftName}
 use Rattle.ways_out.specs.Loosened.{edited, with_bounds, with_demand}
@@ -33,7 +33,7 @@ distinct_kept k f rows h = λ i j d less within same.
     (sym (name_kept k i f rows d) ∙ same ∙ name_kept k j f rows d)
 
 abbrev AreSequences : ℕ → List Sequence → Type 0
-AreSequences n = All (λ q. All (λ (x : Symbol). x.number ≤ n) (symbols_of q) × (q.day ≡ None))
+AreSequences n = All (IsSequenceFor n)
 
 pub valid_bounds : (P : Instance) (c : Class) (b : Bounds) → KeepsLimits P → AreSmall b → KeepsLimits (with_bounds P c (λ _. b))
 valid_bounds P (Shift x) b h small =

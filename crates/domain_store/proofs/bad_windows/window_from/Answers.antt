@@ -1,27 +1,35 @@
--- The run behind the position decides.
-use Rattle.std.proofs.Common.{◌+◌, ◌≤◌, arith}
-use Rattle.domain_store.specs.Patterns.{KeepsLast}
-use Rattle.domain_store.proofs.Starts.{IsRunFrom, clean_from_run}
+-- By the kind of the shape.
+use Rattle.std.proofs.Common.{ℕ, ◌+◌, ◌≡◌, subst, sym, arith}
+use Rattle.rwsp_terms.specs.Forbidden.{Forbids}
+use Rattle.domain_store.specs.declared.shape.Shape.{Shape}
+use Rattle.domain_store.specs.BadWindows.{HasShape, IsSearched, IsStartOf}
+use Rattle.domain_store.specs.Views.{AreAll}
+use Rattle.domain_store.proofs.Found.{start_of_blocks}
 use Rattle.domain_store.proofs.bad_windows.window_from.Goals as goal
 
-pub returns-then-run-pattern : goal.returns-then-run-pattern
-returns-then-run-pattern g c =
-    let A = g.V.View.allows c.args.view.now in
-    let m = c.args.pattern in
-    let d = c.days_from-run.ensures in
-    let run = c.days_from-run.result in
-    let found : IsRunFrom A m c.args.p run = record { few = d.few; within = d.within; ends = d.ends } in
-    let refused : m.fewest ≤ run → KeepsLast A m.last (c.args.p + 1 + run) → ⊥ = λ enough last. omega (arith, enough) in
-    let n = c.clean_from.ensures in
-    (n.some, n.few, clean_from_run A m c.args.p run c.clean_from.result c.prove_some.ensures c.requires.pattern.one_length found refused n.part n.all)
+pub block_from-requires-clause-pattern : goal.block_from-requires-clause-pattern
+block_from-requires-clause-pattern g c = subst (λ (s : Shape). IsSearched c.args.problem.now s) c.in-Blocks.is c.requires.shape
 
-pub returns-then-not-keeps_last : goal.returns-then-not-keeps_last
-returns-then-not-keeps_last g c =
+pub returns-in-Blocks : goal.returns-in-Blocks
+returns-in-Blocks g c =
+    let P = c.args.problem.now in
     let A = g.V.View.allows c.args.view.now in
-    let m = c.args.pattern in
-    let d = c.days_from-run.ensures in
-    let run = c.days_from-run.result in
-    let found : IsRunFrom A m c.args.p run = record { few = d.few; within = d.within; ends = d.ends } in
-    let refused : m.fewest ≤ run → KeepsLast A m.last (c.args.p + 1 + run) → ⊥ = λ enough last. let yes = c.keeps_last.ensures.1 last in cc in
-    let n = c.clean_from-then-not-keeps_last.ensures in
-    (n.some, n.few, clean_from_run A m c.args.p run c.clean_from-then-not-keeps_last.result c.prove_some.ensures c.requires.pattern.one_length found refused n.part n.all)
+    let judged = subst (λ (s : Shape). IsSearched P s) c.in-Blocks.is c.requires.shape in
+    subst (λ (s : Shape). IsStartOf (HasShape P s) A c.args.p c.block_from.result) (sym c.in-Blocks.is)
+    (start_of_blocks P A c.in-Blocks.pattern c.args.p c.block_from.result c.prove_some.ensures judged c.block_from.ensures)
+
+pub sequence_from-requires-clause-sequence : goal.sequence_from-requires-clause-sequence
+sequence_from-requires-clause-sequence g c = subst (λ (s : Shape). IsSearched c.args.problem.now s) c.in-Words.is c.requires.shape
+
+pub returns-in-Some : goal.returns-in-Some
+returns-in-Some g c = rw c.in-Words.is c.in-Some.ensures
+
+pub returns-in-None : goal.returns-in-None
+returns-in-None g c =
+    let none = c.in-None.ensures in (
+      omega arith,
+      omega arith,
+      λ q len low high each.
+          let at : q ≡ c.args.p = omega (arith, low, high) in
+          none len (subst (λ (k : ℕ). AreAll (Forbids c.args.problem.now c.in-Words.sequence) (g.V.View.allows c.args.view.now) k len) at (rw c.in-Words.is at each)),
+    )

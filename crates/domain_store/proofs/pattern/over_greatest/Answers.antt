@@ -5,4 +5,4 @@ use Rattle.domain_store.specs.Patterns.{IsPatternOf}
 use Rattle.domain_store.proofs.pattern.over_greatest.Goals as goal
 
 pub returns : goal.returns
-returns c = subst (λ n. IsPatternOf (λ p. TooLong c.args.class n) c.longer_than.result) (ap (λ (b : Bounds). b.greatest) c.bounds.ensures.value) c.longer_than.ensures
+returns c = subst (λ n. IsPatternOf (TooLong c.args.class n) c.longer_than.result) (ap (λ (b : Bounds). b.greatest) c.bounds.ensures.value) c.longer_than.ensures

@@ -5,4 +5,4 @@ use Rattle.domain_store.specs.Patterns.{IsPatternOf}
 use Rattle.domain_store.proofs.pattern.under_least.Goals as goal
 
 pub returns : goal.returns
-returns c = subst (λ n. IsPatternOf (λ p. TooShort c.args.class n) c.shorter_than.result) (ap (λ (b : Bounds). b.least) c.bounds.ensures.value) c.shorter_than.ensures
+returns c = subst (λ n. IsPatternOf (TooShort c.args.class n) c.shorter_than.result) (ap (λ (b : Bounds). b.least) c.bounds.ensures.value) c.shorter_than.ensures
