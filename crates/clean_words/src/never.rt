@@ -5,9 +5,11 @@ ghost use Rattle.rwsp_terms.specs.declared.limits.TheConstants.{GREATEST_BOUND};
 ghost use Rattle.clean_words.specs.Sequences.{is_on_day, never_size, never_stops, never_to};
 
 mod rows;
+mod weekends;
 
 use rows::{STATES, row_stops, row_to};
 use rwsp_terms::{Sequence, Symbol};
+use weekends::{WEEKEND_STATES, split_stops, split_to};
 
 // Whether a forbidden word may begin on the day, counted from 0.
 fn is_on_day(day: Option<u32>, days: u32, at: u32) -> bool
@@ -28,6 +30,7 @@ pub fn never_size(sequence: Sequence) -> u32
 {
     match sequence {
         Sequence::Row(_) => STATES,
+        Sequence::Whole => WEEKEND_STATES,
     }
 }
 
@@ -37,6 +40,7 @@ pub fn never_stops(sequence: Sequence, state: u32, x: Symbol) -> bool
 {
     match sequence {
         Sequence::Row(row) => row_stops(row, state, x),
+        Sequence::Whole => split_stops(state, x),
     }
 }
 
@@ -48,5 +52,6 @@ pub fn never_to(sequence: Sequence, days: u32, day: u32, state: u32, x: Symbol) 
 {
     match sequence {
         Sequence::Row(row) => row_to(row, is_on_day(row.day, days, day), state, x),
+        Sequence::Whole => split_to(is_on_day(sequence.day(), days, day), x),
     }
 }

@@ -8,11 +8,13 @@ ghost use Rattle.domain_store.specs.Views.{AreAll, IsLeastLength};
 ghost use Rattle.domain_store.specs.BadWindows.{IsEarliest};
 
 mod rows;
+mod weekends;
 
 use crate::View;
 use rows::all_are_row;
 use rwsp_model::Problem;
 use rwsp_terms::Sequence;
+use weekends::all_are_split;
 
 /// The least number of days for which every possible word from the position on is forbidden; None where there is none.
 pub fn sequence_from<V: View>(
@@ -84,5 +86,6 @@ fn all_have_form<V: View>(view: &V, problem: &Problem, sequence: Sequence, p: u3
 {
     match sequence {
         Sequence::Row(row) => all_are_row(view, row, p, len),
+        Sequence::Whole => all_are_split(view, p, len),
     }
 }

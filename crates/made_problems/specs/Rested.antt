@@ -27,6 +27,7 @@ is_same_third x y = false
 abbrev pub is_same_row : Sequence → Sequence → Bool
 is_same_row (Row r) (Row q) =
     is_same r.first q.first && is_same r.second q.second && is_same_third r.third q.third && not (is_some r.day)
+is_same_row r q = false
 
 -- the sequence, which is symbols in a row of every day, is among these
 abbrev pub has_sequence : List Sequence → Sequence → Bool

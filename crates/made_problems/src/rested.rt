@@ -48,6 +48,7 @@ fn is_same_row(r: &Sequence, q: Sequence) -> bool
             let front = r.first.number == q.first.number && r.second.number == q.second.number;
             front && is_same_third(r.third, q.third) && r.day.is_none()
         }
+        _ => false,
     }
 }
 

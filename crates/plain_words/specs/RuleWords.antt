@@ -5,7 +5,7 @@ use Rattle.std.specs.List.{find, flat_map, range_with_len}
 use Rattle.rwsp_terms.specs.declared.data.Bounds.{Bounds}
 use Rattle.rwsp_terms.specs.declared.data.Symbol.{Symbol}
 use Rattle.rwsp_terms.specs.declared.data.Sequence.{Sequence}
-use Rattle.rwsp_terms.specs.declared.data.Sequence.TheVariants.{Row}
+use Rattle.rwsp_terms.specs.declared.data.Sequence.TheVariants.{Row, Whole}
 use Rattle.rwsp_terms.specs.declared.data.SymbolRow.{SymbolRow}
 use Rattle.rwsp_terms.specs.declared.data.Class.{Class}
 use Rattle.rwsp_terms.specs.declared.data.Class.TheVariants.{Shift, Off, Work}
@@ -14,7 +14,7 @@ use Rattle.rwsp_terms.specs.declared.data.Rule.TheVariants.{Most, Least, Never, 
 use Rattle.rwsp_terms.specs.Instance.{Instance, bounds, shift_count, shift_demand, column_least, column_greatest}
 use Rattle.plain_words.specs.Words.{days_words, weeks_words, range_words, shift_words, symbol_words}
 use Rattle.plain_words.specs.Fixed.{fixed}
-use Rattle.plain_words.specs.declared.pieces.TheConstants.{AT_LEAST, AT_MOST, BLANK, COLON, COMMA, DAYS_OFF, DAY_FRONT, DAY_OFF, DOTS, FOR_OFF, IN_A_ROW, IS_CROSSED, NEEDS, NEVER, OF, OF_WORK, ON_DAY, THEN}
+use Rattle.plain_words.specs.declared.pieces.TheConstants.{WHOLE_WEEKENDS, AT_LEAST, AT_MOST, BLANK, COLON, COMMA, DAYS_OFF, DAY_FRONT, DAY_OFF, DOTS, FOR_OFF, IN_A_ROW, IS_CROSSED, NEEDS, NEVER, OF, OF_WORK, ON_DAY, THEN}
 
 -- the days that the blocks of a class are made of
 unfoldable pub class_words : Instance → Class → List ℕ
@@ -52,6 +52,7 @@ row_words P row =
 -- the words of a forbidden sequence, by its form
 abbrev pub sequence_words : Instance → Sequence → List ℕ
 sequence_words P (Row row) = row_words P row
+sequence_words P Whole = fixed WHOLE_WEEKENDS.now
 
 abbrev pub sequence_in_words : Instance → Option Sequence → List ℕ
 sequence_in_words P None = []

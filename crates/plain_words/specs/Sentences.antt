@@ -4,7 +4,7 @@ use Rattle.std.specs.List.{find, flat_map, range_with_len, sum_by}
 use Rattle.std.specs.Option.{option_eq}
 use Rattle.rwsp_terms.specs.declared.data.Bounds.{Bounds}
 use Rattle.rwsp_terms.specs.declared.data.Sequence.{Sequence}
-use Rattle.rwsp_terms.specs.declared.data.Sequence.TheVariants.{Row}
+use Rattle.rwsp_terms.specs.declared.data.Sequence.TheVariants.{Row, Whole}
 use Rattle.rwsp_terms.specs.declared.data.ShiftRow.{ShiftRow}
 use Rattle.rwsp_terms.specs.declared.data.Class.{Class}
 use Rattle.rwsp_terms.specs.declared.data.Class.TheVariants as Classes
@@ -98,6 +98,9 @@ twice_at P k (Some i) = twice_by (number_of P (Never i)) (number_of P (Never k))
 
 -- the two sequences are one, by their form
 abbrev pub is_same : (x y : Sequence) → Bool
+is_same Whole Whole = true
+is_same (Row x) Whole = false
+is_same Whole (Row y) = false
 is_same (Row x) (Row y) =
     (x.first.number == y.first.number) && (x.second.number == y.second.number)
     && option_eq (λ a b. a.number == b.number) x.third y.third && option_eq ◌==◌ x.day y.day

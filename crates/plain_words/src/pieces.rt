@@ -102,6 +102,8 @@ pub const IN_A_ROW: &[u8] = b" in a row";
 
 pub const NEVER: &[u8] = b"never ";
 
+pub const WHOLE_WEEKENDS: &[u8] = b"a weekend is worked whole or not at all";
+
 pub const ON_DAY: &[u8] = b" on day ";
 
 pub const THEN: &[u8] = b", then ";

@@ -12,7 +12,7 @@ ghost use Rattle.plain_words.specs.RuleWords.{class_words, most_words, least_wor
 
 use crate::pieces::{
     AT_LEAST, AT_MOST, BLANK, COLON, COMMA, DAY_FRONT, DAY_OFF, DAYS_OFF, DOTS, Done, FOR_OFF,
-    IN_A_ROW, IS_CROSSED, NEEDS, NEVER, OF, OF_WORK, ON_DAY, THEN, put,
+    IN_A_ROW, IS_CROSSED, NEEDS, NEVER, OF, OF_WORK, ON_DAY, THEN, WHOLE_WEEKENDS, put,
 };
 use crate::words::{put_days, put_range, put_shift, put_symbol, put_weeks};
 use rwsp_model::{Problem, number_of, rule_at, rule_count};
@@ -101,6 +101,7 @@ fn put_sequence(out: &mut Vec<u8>, problem: &Problem, sequence: Sequence) -> Don
 {
     match sequence {
         Sequence::Row(row) => put_row(out, problem, row),
+        Sequence::Whole => put(out, WHOLE_WEEKENDS),
     }
 }
 

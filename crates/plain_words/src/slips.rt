@@ -72,9 +72,11 @@ fn is_same(x: Sequence, y: Sequence) -> bool
     ensures { result ≡ is_same x y }
 {
     match (x, y) {
+        (Sequence::Whole, Sequence::Whole) => true,
         (Sequence::Row(x), Sequence::Row(y)) => {
             x.first == y.first && x.second == y.second && x.third == y.third && x.day == y.day
         }
+        _ => false,
     }
 }
 

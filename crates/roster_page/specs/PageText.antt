@@ -4,7 +4,7 @@ use Rattle.std.specs.List.{flat_map, range_with_len}
 use Rattle.std.specs.Fmt.{decimal}
 use Rattle.rwsp_terms.specs.declared.data.Symbol.{Symbol}
 use Rattle.rwsp_terms.specs.declared.data.Sequence.{Sequence}
-use Rattle.rwsp_terms.specs.declared.data.Sequence.TheVariants.{Row}
+use Rattle.rwsp_terms.specs.declared.data.Sequence.TheVariants.{Row, Whole}
 use Rattle.rwsp_terms.specs.declared.data.SymbolRow.{SymbolRow}
 use Rattle.rwsp_terms.specs.declared.data.Class.TheVariants as Classes
 use Rattle.rwsp_terms.specs.declared.limits.TheConstants.{DAYS_OF_WEEK, SATURDAY, SUNDAY}
@@ -19,7 +19,7 @@ use Rattle.roster_page.specs.Escaped.{escaped}
 use Rattle.roster_page.specs.Clock.{hours_text, moment_text}
 use Rattle.roster_page.specs.Hours.{minutes_of, minutes_in}
 use Rattle.roster_page.specs.LeastRest.{IsLeastRest}
-use Rattle.roster_page.specs.declared.pieces.TheConstants.{AFTER_STYLE, AFTER_TITLE, AND_THEN, BLOCKS_TOP, BODY_TOP, CELL_END, CELL_TOP, CLASS_END, COLON, DAY_HEAD, DEMAND_END, DEMAND_TOP, END, FREE, HEAD, HEAD_END, HOURS_HEAD, LAST_CELL, LEAST_REST_ITEM, LEGEND_TOP, NEVER, NEXT_CELL, NO_SHIFT, OFF_TOP, OF_WORD, OPENED, PLAIN_CELL, ROSTER_TOP, ROW_END, RULES_END, RULES_TOP, RULE_END, SHIFT_TOP, SHORT_END, SHORT_TOP, STYLE_IN_THE_DARK, STYLE_OF_COLOURS, STYLE_OF_TABLES, STYLE_OF_TEXT, STYLE_ON_PAPER, TABLE_END, WEEKENDS_ITEM, WEEKEND_HEAD, WEEK_TOP, WORK_TOP}
+use Rattle.roster_page.specs.declared.pieces.TheConstants.{WHOLE_WEEKENDS, AFTER_STYLE, AFTER_TITLE, AND_THEN, BLOCKS_TOP, BODY_TOP, CELL_END, CELL_TOP, CLASS_END, COLON, DAY_HEAD, DEMAND_END, DEMAND_TOP, END, FREE, HEAD, HEAD_END, HOURS_HEAD, LAST_CELL, LEAST_REST_ITEM, LEGEND_TOP, NEVER, NEXT_CELL, NO_SHIFT, OFF_TOP, OF_WORD, OPENED, PLAIN_CELL, ROSTER_TOP, ROW_END, RULES_END, RULES_TOP, RULE_END, SHIFT_TOP, SHORT_END, SHORT_TOP, STYLE_IN_THE_DARK, STYLE_OF_COLOURS, STYLE_OF_TABLES, STYLE_OF_TEXT, STYLE_ON_PAPER, TABLE_END, WEEKENDS_ITEM, WEEKEND_HEAD, WEEK_TOP, WORK_TOP}
 use Rattle.plain_words.specs.declared.pieces.TheConstants.{DAY_OFF, THEN}
 use Rattle.plain_words.specs.Words.{weeks_words, range_words}
 
@@ -186,6 +186,7 @@ row_rule P row =
 -- the rule of a forbidden sequence, by its form
 abbrev pub sequence_rule : Instance → Sequence → List ℕ
 sequence_rule P (Row row) = row_rule P row
+sequence_rule P Whole = fixed WHOLE_WEEKENDS.now
 
 unfoldable pub sequence_rules : Instance → List ℕ
 sequence_rules P = flat_map (sequence_rule P) P.sequences

@@ -213,6 +213,8 @@ pub const RULE_END: &[u8] = b".</li>\n";
 /// In front of what is forbidden.
 pub const NEVER: &[u8] = b"<li>Never ";
 
+pub const WHOLE_WEEKENDS: &[u8] = b"<li>A weekend is worked whole or not at all.</li>\n";
+
 /// In front of the last.
 pub const AND_THEN: &[u8] = b" and then ";
 

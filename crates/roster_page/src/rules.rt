@@ -6,7 +6,8 @@ ghost use Rattle.rwsp_terms.specs.Forbidden.Rows.{symbols_of};
 ghost use Rattle.roster_page.specs.PageText.{block_rule, block_rules, off_rule, work_rule, symbol_words, row_rule, sequence_rule, sequence_rules, rules_list};
 
 use crate::pieces::{
-    AND_THEN, BLOCKS_TOP, COLON, NEVER, OFF_TOP, RULE_END, RULES_END, RULES_TOP, WORK_TOP, put,
+    AND_THEN, BLOCKS_TOP, COLON, NEVER, OFF_TOP, RULE_END, RULES_END, RULES_TOP, WHOLE_WEEKENDS,
+    WORK_TOP, put,
 };
 use crate::words::{put_name, shift_at};
 use plain_words::pieces::{DAY_OFF, THEN};
@@ -102,6 +103,7 @@ fn put_sequence_rule(
 {
     match sequence {
         Sequence::Row(row) => put_row_rule(out, problem, row),
+        Sequence::Whole => put(out, WHOLE_WEEKENDS),
     }
 }
 

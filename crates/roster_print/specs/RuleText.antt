@@ -7,7 +7,7 @@ use Rattle.rwsp_terms.specs.Forbidden.Rows.{symbols_of}
 use Rattle.rwsp_terms.specs.declared.data.Class.{Class}
 use Rattle.rwsp_terms.specs.declared.data.Class.TheVariants.{Shift, Off, Work}
 use Rattle.rwsp_terms.specs.declared.data.Sequence.{Sequence}
-use Rattle.rwsp_terms.specs.declared.data.Sequence.TheVariants.{Row}
+use Rattle.rwsp_terms.specs.declared.data.Sequence.TheVariants.{Row, Whole}
 use Rattle.rwsp_terms.specs.declared.data.SymbolRow.{SymbolRow}
 use Rattle.rwsp_terms.specs.declared.data.Rule.{Rule}
 use Rattle.rwsp_terms.specs.declared.data.Rule.TheVariants.{Most, Least, Never, Day}
@@ -30,6 +30,7 @@ row_text P row = codes "not" ++ flat_map (λ x. 32 ∷ name_of P x) (symbols_of 
 -- the text of a forbidden sequence, by its form
 abbrev pub sequence_text : Instance → Sequence → List ℕ
 sequence_text P (Row row) = row_text P row
+sequence_text P Whole = codes "whole weekends"
 
 abbrev pub text_at : Instance → Option Sequence → List ℕ
 text_at P None = []

@@ -89,6 +89,7 @@ fn sequence_text(
 {
     match sequence {
         Sequence::Row(row) => row_text(alloc, problem, row),
+        Sequence::Whole => Vec::from_slice(alloc, b"whole weekends"),
     }
 }
 

@@ -1,5 +1,5 @@
 -- Which texts spell a problem instance.
-use Rattle.std.specs.Prelude.{◌≡◌, ℕ, List, [], ◌∷◌, ◌++◌, ◌⊎◌, Bool, ◌==◌, length, Some, map, take_while, drop}
+use Rattle.std.specs.Prelude.{codes, ◌≡◌, ℕ, List, [], ◌∷◌, ◌++◌, ◌⊎◌, Bool, ◌==◌, length, Some, map, take_while, drop}
 use Rattle.std.specs.List.{flat_map, prefix_len}
 use Rattle.rwsp_text.specs.Lexemes.{Lexeme, lexemes}
 use Rattle.rwsp_text.specs.Numbers.{number_of}
@@ -10,7 +10,7 @@ use Rattle.rwsp_model.specs.Sequences.{pair_count, triple_count}
 use Rattle.rwsp_terms.specs.declared.data.Bounds.{Bounds}
 use Rattle.rwsp_terms.specs.declared.data.ShiftRow.{ShiftRow}
 use Rattle.rwsp_terms.specs.declared.data.Sequence.{Sequence}
-use Rattle.rwsp_terms.specs.declared.data.Sequence.TheVariants.{Row}
+use Rattle.rwsp_terms.specs.declared.data.Sequence.TheVariants.{Row, Whole}
 use Rattle.rwsp_terms.specs.declared.data.SymbolRow.{SymbolRow}
 
 -- a line of the text of an instance is a row of these: a number, the demand of a shift on a day, a shift, a name in a
@@ -41,6 +41,7 @@ row_fields P row = name_fields (map (name_of P) (symbols_of row))
 -- the line of a forbidden sequence, by its form
 abbrev pub sequence_fields : Instance → Sequence → List FileField
 sequence_fields P (Row row) = row_fields P row
+sequence_fields P Whole = NameField (codes "weekends") ∷ NameField (codes "whole") ∷ []
 
 -- a line each for the days, the weeks and the number of shifts
 abbrev pub size_lines : Instance → List (List FileField)

@@ -91,6 +91,7 @@ fn put_sequence(out: &mut Vec<u8>, problem: &Problem, sequence: Sequence) -> Res
 {
     match sequence {
         Sequence::Row(row) => put_row(out, problem, row),
+        Sequence::Whole => out.extend_from_slice(b"weekends whole\n"),
     }
 }
 

@@ -1,22 +1,24 @@
 -- The forbidden sequences of an instance.
 use Rattle.std.specs.Prelude.{◌≡◌, ℕ, ◌≤◌, List, length, None, All, AllPairs, count_by, ◌==◌}
-use Rattle.rwsp_terms.specs.declared.limits.TheConstants.{MOST_SEQUENCES}
+use Rattle.rwsp_terms.specs.declared.limits.TheConstants.{DAYS_OF_WEEK, MOST_SEQUENCES}
 use Rattle.rwsp_terms.specs.declared.data.Sequence.{Sequence}
-use Rattle.rwsp_terms.specs.declared.data.Sequence.TheVariants.{Row}
+use Rattle.rwsp_terms.specs.declared.data.Sequence.TheVariants.{Row, Whole}
 use Rattle.rwsp_terms.specs.Instance.{Instance, shift_count}
 use Rattle.rwsp_terms.specs.Forbidden.Rows.{symbols_of}
 
--- a sequence for so many shifts, by its form: symbols in a row that are forbidden on every day
-abbrev pub IsSequenceFor : (shifts : ℕ) → Sequence → Type 0
-IsSequenceFor shifts (Row row) = All (λ x. x.number ≤ shifts) (symbols_of row) × (row.day ≡ None)
+-- a sequence for so many shifts and days of a week, by its form: symbols in a row that are forbidden on every day
+abbrev pub IsSequenceFor : (shifts days : ℕ) → Sequence → Type 0
+IsSequenceFor shifts days (Row row) = All (λ x. x.number ≤ shifts) (symbols_of row) × (row.day ≡ None)
+IsSequenceFor shifts days Whole = days ≡ DAYS_OF_WEEK
 
 -- a sequence of the instance
 abbrev pub IsSequenceOf : Instance → Sequence → Type 0
-IsSequenceOf P q = IsSequenceFor (shift_count P) q
+IsSequenceOf P q = IsSequenceFor (shift_count P) P.days q
 
--- the part of the list in which a sequence stands: that of its number of symbols
+-- the part of the list in which a sequence stands: that of its number of symbols, or that of the rules of the week
 abbrev pub part_of : Sequence → ℕ
 part_of (Row row) = length (symbols_of row)
+part_of Whole = 4
 
 -- how many of the sequences stand in a part
 abbrev pub count_in : ℕ → List Sequence → ℕ

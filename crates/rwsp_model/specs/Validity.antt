@@ -2,12 +2,12 @@
 use Rattle.std.specs.Prelude.{◌≡◌, ◌≢◌, ℕ, ◌+◌, ◌*◌, ◌≤◌, List, [], ◌∷◌, ◌++◌, length, Option, Some, None, Bool, true, false, not, is_some, ◌&&◌, ◌||◌, ◌==◌, nat_le, slice_index, if◌then◌else◌, position, All, AllPairs}
 use Rattle.std.specs.List.{list_all, list_any}
 use Rattle.std.specs.Str.{bytes_eq}
-use Rattle.rwsp_terms.specs.declared.limits.TheConstants.{MOST_DAYS, MOST_WEEKS, MOST_CELLS, MOST_SHIFTS, GREATEST_BOUND, MOST_SEQUENCES, LONGEST_NAME}
+use Rattle.rwsp_terms.specs.declared.limits.TheConstants.{DAYS_OF_WEEK, MOST_DAYS, MOST_WEEKS, MOST_CELLS, MOST_SHIFTS, GREATEST_BOUND, MOST_SEQUENCES, LONGEST_NAME}
 use Rattle.rwsp_terms.specs.Instance.{Instance, cells, shift_count, off_name}
 use Rattle.rwsp_terms.specs.declared.data.Bounds.{Bounds}
 use Rattle.rwsp_terms.specs.declared.data.ShiftRow.{ShiftRow}
 use Rattle.rwsp_terms.specs.declared.data.Sequence.{Sequence}
-use Rattle.rwsp_terms.specs.declared.data.Sequence.TheVariants.{Row}
+use Rattle.rwsp_terms.specs.declared.data.Sequence.TheVariants.{Row, Whole}
 use Rattle.rwsp_terms.specs.Forbidden.Rows.{symbols_of}
 use Rattle.rwsp_model.specs.Sequences.{part_of, pair_count, triple_count, IsSequenceOf, AreListed}
 use Rattle.rwsp_model.specs.declared.refusal.PartsRefusal.{PartsRefusal}
@@ -19,6 +19,7 @@ is_between low high n = nat_le low n && nat_le n high
 -- a sequence of symbols of the instance, forbidden on every day
 abbrev pub is_sequence_of : Instance → Sequence → Bool
 is_sequence_of P (Row row) = list_all (λ x. nat_le x.number (shift_count P)) (symbols_of row) && not (is_some row.day)
+is_sequence_of P Whole = P.days == DAYS_OF_WEEK
 
 -- the parts stand one behind the other
 abbrev pub are_ordered : List Sequence → Bool

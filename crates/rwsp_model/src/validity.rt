@@ -9,7 +9,8 @@ ghost use Rattle.rwsp_model.specs.Validity.{is_sequence_of, are_ordered, refusal
 
 use crate::{Parts, PartsRefusal};
 use rwsp_terms::limits::{
-    GREATEST_BOUND, LONGEST_NAME, MOST_CELLS, MOST_DAYS, MOST_SEQUENCES, MOST_SHIFTS, MOST_WEEKS,
+    DAYS_OF_WEEK, GREATEST_BOUND, LONGEST_NAME, MOST_CELLS, MOST_DAYS, MOST_SEQUENCES, MOST_SHIFTS,
+    MOST_WEEKS,
 };
 use rwsp_terms::{Bounds, DemandRow, Sequence, ShiftRow, SymbolRow};
 
@@ -31,6 +32,7 @@ fn is_known(parts: &Parts, sequence: &Sequence) -> bool
 {
     match *sequence {
         Sequence::Row(row) => row_is_known(row, parts.shifts.len()) && row.day.is_none(),
+        Sequence::Whole => parts.days == DAYS_OF_WEEK,
     }
 }
 
@@ -61,6 +63,7 @@ fn part_of(sequence: &Sequence) -> u32
 {
     match *sequence {
         Sequence::Row(row) => row.len(),
+        Sequence::Whole => 4,
     }
 }
 

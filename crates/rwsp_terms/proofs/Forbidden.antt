@@ -6,7 +6,7 @@ use Rattle.std.proofs.lemmas.Option.{same_Some}
 use Rattle.rwsp_terms.specs.declared.data.Symbol.{Symbol}
 use Rattle.rwsp_terms.specs.declared.data.SymbolRow.{SymbolRow}
 use Rattle.rwsp_terms.specs.declared.data.Sequence.{Sequence}
-use Rattle.rwsp_terms.specs.declared.data.Sequence.TheVariants.{Row}
+use Rattle.rwsp_terms.specs.declared.data.Sequence.TheVariants.{Row, Whole}
 use Rattle.rwsp_terms.specs.declared.data.Rule.TheVariants.{Never}
 use Rattle.rwsp_terms.specs.Instance.{Instance}
 use Rattle.rwsp_terms.specs.Times.{length_of}
@@ -22,14 +22,17 @@ row_long row u e = ap length e
 -- no word is empty
 pub lengths_some : (q : Sequence) → 1 ≤ (lengths_of q).least
 lengths_some (Row row) = omega arith
+lengths_some Whole = omega arith
 
 -- its words have as many symbols as it says
 pub form_long : (P : Instance) (q : Sequence) (u : List Symbol) → HasForm P q u → ((lengths_of q).least ≤ length u) × (length u ≤ (lengths_of q).greatest)
 form_long P (Row row) u e = (omega (arith, row_long row u e), omega (arith, row_long row u e))
+form_long P Whole u h = (omega (arith, ap length h.whole), omega (arith, ap length h.whole))
 
 -- of the instance they ask for the days of a week and how long shifts are
 pub form_elsewhere : (P Q : Instance) (q : Sequence) (u : List Symbol) → P.days ≡ Q.days → ((x : Symbol) → length_of P x ≡ length_of Q x) → HasForm P q u → HasForm Q q u
 form_elsewhere P Q (Row row) u days long e = e
+form_elsewhere P Q Whole u days long e = e
 
 -- for all forms
 

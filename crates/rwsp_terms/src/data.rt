@@ -2,6 +2,7 @@
 ghost use Rattle.std.specs.Prelude.{◌≡◌, ◌↔◌, length, IsTrue};
 ghost use Rattle.rwsp_terms.specs.Window.{InClass};
 
+use crate::limits::SATURDAY;
 use std::alloc::AllocError;
 use std::marker::Model;
 
@@ -74,6 +75,8 @@ impl SymbolRow {
 pub enum Sequence {
     /// These symbols in a row.
     Row(SymbolRow),
+    /// A weekend of which one day is off and the other is worked.
+    Whole,
 }
 
 impl Sequence {
@@ -98,6 +101,7 @@ impl Sequence {
     {
         match self {
             Sequence::Row(row) => row.day,
+            Sequence::Whole => Some(SATURDAY + 1),
         }
     }
 
@@ -109,6 +113,10 @@ impl Sequence {
             Sequence::Row(row) => Bounds {
                 least: row.len(),
                 greatest: row.len(),
+            },
+            Sequence::Whole => Bounds {
+                least: 2,
+                greatest: 2,
             },
         }
     }
